@@ -1,0 +1,74 @@
+-- What rounding a quotient does, at each end: how near it is, what it is at most and at least, and that it keeps the order.
+-- Assumes nothing.
+use Prim.Native.Nat.{ℕ, _+_, _-_, _*_, _/_, _≤_, _<_}
+use mathlib.Core.Path.{_≡_, refl, sym, subst}
+use native.Mathlib.Nat.{div-mul-le-self, lt-div-mul-add, div-lt-iff-lt-mul, le-div-iff-mul-le, div-eq-of-lt-le, le-antisymm, le-refl}
+use native.Mathlib.Omega.{arith}
+use Rattle.arith.specs.Rounding.{End, low, high, other, divide}
+
+-- the other end's other end is the end itself
+pub other-other : (e : End) → other (other e) ≡ e
+other-other low = refl
+other-other high = refl
+
+-- down loses less than one
+pub divide-floor : (a b : ℕ) → 0 < b → (divide low a b * b ≤ a) × (a < divide low a b * b + b)
+unfolding divide
+divide-floor a b pos = (div-mul-le-self a b, lt-div-mul-add pos)
+
+-- up adds less than one
+pub divide-ceiling : (a b : ℕ) → 0 < b → (a ≤ divide high a b * b) × (divide high a b * b < a + b)
+unfolding divide
+divide-ceiling a b pos = omega (arith, div-mul-le-self (a + (b - 1)) b, lt-div-mul-add {a = a + (b - 1)} pos)
+
+-- at most any whole number that is at least a ÷ b
+pub divide-le : (e : End) (a b k : ℕ) → 0 < b → a ≤ k * b → divide e a b ≤ k
+unfolding divide
+divide-le low a b k pos h =
+    let l : a / b < k + 1 = div-lt-iff-lt-mul pos .1 (omega arith) in
+    omega arith
+divide-le high a b k pos h =
+    let l : (a + (b - 1)) / b < k + 1 = div-lt-iff-lt-mul pos .1 (omega arith) in
+    omega arith
+
+-- at least any whole number that is at most a ÷ b
+pub le-divide : (e : End) (a b k : ℕ) → 0 < b → k * b ≤ a → k ≤ divide e a b
+unfolding divide
+le-divide low a b k pos h = le-div-iff-mul-le pos .1 h
+le-divide high a b k pos h = le-div-iff-mul-le pos .1 (omega arith)
+
+-- a whole quotient is not rounded
+pub divide-exact : (e : End) (b k : ℕ) → 0 < b → divide e (k * b) b ≡ k
+divide-exact e b k pos = le-antisymm (divide-le e (k * b) b k pos (le-refl _)) (le-divide e (k * b) b k pos (le-refl _))
+
+-- a larger dividend has no smaller quotient
+pub divide-mono : (e : End) (a b c : ℕ) → 0 < c → a ≤ b → divide e a c ≤ divide e b c
+divide-mono low a b c pos h = le-divide low b c (divide low a c) pos (omega (arith, divide-floor a c pos))
+divide-mono high a b c pos h = divide-le high a c (divide high b c) pos (omega (arith, divide-ceiling b c pos))
+
+-- the two ends are in order, and at most one apart
+pub divide-ends : (a b : ℕ) → 0 < b → divide low a b ≤ divide high a b
+divide-ends a b pos = le-divide high a b (divide low a b) pos (divide-floor a b pos .0)
+
+pub divide-width : (a b : ℕ) → 0 < b → divide high a b ≤ divide low a b + 1
+divide-width a b pos = divide-le high a b (divide low a b + 1) pos (omega (arith, divide-floor a b pos))
+
+-- the only number that is as near as `divide-floor` and `divide-ceiling` say
+pub divide-low-is : (a b k : ℕ) → k * b ≤ a → a < k * b + b → k ≡ divide low a b
+unfolding divide
+divide-low-is a b k l h = sym (div-eq-of-lt-le {k = k} b {m = a} l (omega arith))
+
+pub divide-high-is : (a b k : ℕ) → a ≤ k * b → k * b < a + b → k ≡ divide high a b
+unfolding divide
+divide-high-is a b k l h = sym (div-eq-of-lt-le {k = k} b {m = a + (b - 1)} (omega arith) (omega arith))
+
+-- up is down where that is exact, and else one more
+module _ (a b k : ℕ) (pos : 0 < b) (e : k ≡ divide low a b) where
+  near : (k * b ≤ a) × (a < k * b + b)
+  near = subst (λ (m : ℕ). (m * b ≤ a) × (a < m * b + b)) (sym e) (divide-floor a b pos)
+
+  pub divide-high-exact : a ≤ k * b → k ≡ divide high a b
+  divide-high-exact h = divide-high-is a b k h (omega (arith, near))
+
+  pub divide-high-more : k * b < a → k + 1 ≡ divide high a b
+  divide-high-more h = divide-high-is a b (k + 1) (omega (arith, near)) (omega arith)

@@ -1,0 +1,244 @@
+"""Case files for the tests: three fixed ones, whose numbers this program prints as JSON, and random ones.
+
+Command line: python3 tests/examples.py
+"""
+
+import json
+from dataclasses import asdict, replace
+from unittest import mock
+
+import reference
+from reference import AMOUNTS, LOWER, MONEY, SHOCK_LIMITS, SHOCKS, UPPER, Case, Exact, Rounded, encode
+
+
+def flat(*rates):
+    """One day per rate, that rate at every term."""
+    return [[rate] * 60 for rate in rates]
+
+
+def c1(**changes):
+    """File C1's case, with the named fields changed."""
+    case = Case(ufr=4_200, days=flat(0), pension=[1_000_000], bonds=[],
+                amounts=dict.fromkeys(AMOUNTS, 0) | {"cash": 1_100_000}, shocks=dict.fromkeys(SHOCKS, 0),
+                heads=100, pension_age=780, mean_age=460)
+    return replace(case, **changes)
+
+
+# ---------------------------------------------------------------- three fixed files
+
+def bent():
+    """Three days that rise, fall, rise and fall with the term; the short rates are negative."""
+    def middle(t):
+        if t <= 15:
+            return -350 + 60 * t
+        if t <= 30:
+            return 550 - 25 * (t - 15)
+        if t <= 45:
+            return 175 + 40 * (t - 30)
+        return 775 - 15 * (t - 45)
+    terms = range(1, 61)
+    days = [[middle(t) for t in terms],
+            [middle(t) + 3 + 7 * t % 11 for t in terms],
+            [middle(t) - 37 + 5 * t % 13 for t in terms]]
+    return c1(ufr=4_321, days=days)
+
+
+def three_days(thirds):
+    """Three unlike days with s(t) = 60 x thirds(t) + 20.
+
+    The mean is never a whole step, yet P(t) ÷ N loses a factor 20, which keeps the fractions short.
+    """
+    terms = range(1, 61)
+    return [[20 * thirds(t) - 13 - t for t in terms],
+            [20 * thirds(t) + 31 + 2 * t for t in terms],
+            [20 * thirds(t) + 2 - t for t in terms]]
+
+
+def up():
+    """The bonds are longer than the pensions, so the up curve hurts. RESERVETEKORT."""
+    return Case(
+        ufr=4_321,
+        days=three_days(lambda t: 10 + t if t <= 30 else 40 - (t - 30) // 3),
+        pension=[31_415_927, 27_182_818, 16_180_339],
+        bonds=[9_876_543, 0, 45_678_912, 0, 34_567_891],
+        amounts=dict(zip(AMOUNTS, [1_234_567, 765_433, 543_211, 987_659, 321_987, 654_321, 111_213, 61_718_191])),
+        shocks=dict(zip(SHOCKS, [320, 180, 251, 353, 307, 149, 457, 349, 509, 401, 2_345, 73])),
+        heads=1_237, pension_age=804, mean_age=541)
+
+
+def down():
+    """The pensions outweigh the bonds, so the down curve hurts; S5 exceeds the credit. VRIJ VERMOGEN."""
+    return Case(
+        ufr=3_879,
+        days=three_days(lambda t: t - 8 if t <= 25 else 17 + (t - 25) // 2),
+        pension=[28_284_271, 37_416_573, 54_772_255],
+        bonds=[7_071_067, 5_550_123, 0, 3_210_987, 0],
+        amounts=dict(zip(AMOUNTS, [12_345_679, 8_765_431, 4_321_987, 6_543_217, 2_109_873, 1_357_913, 198_765_437,
+                                   10_293_847])),
+        shocks=dict(zip(SHOCKS, [140, 260, 239, 337, 419, 157, 211, 353, 890, 613, 8_765, 437])),
+        heads=4_321, pension_age=816, mean_age=577)
+
+
+# ---------------------------------------------------------------- wrong edits
+
+def figures(rounded, *names):
+    return {name: list(getattr(rounded, name)) for name in names}
+
+
+def swapped(values, one, other):
+    return values | {one: values[other], other: values[one]}
+
+
+RIGHT_POINTS = reference.points
+
+
+def plain_shift_points(case, shift=0):
+    """The points with the shift not multiplied by n."""
+    N, P = RIGHT_POINTS(case)
+    return N, [p + shift for p in P]
+
+
+def told_apart(case):
+    """{edit: [right, wrong]} for the wrong edits that show on this fund."""
+    right = Rounded(case)
+    amounts, shocks = case.amounts, case.shocks
+    edits = {}
+
+    def edit(name, good, bad):
+        assert good != bad, name
+        edits[name] = [good, bad]
+
+    def edit_case(name, wrong_case, *names):
+        edit(name, figures(right, *names), figures(Rounded(wrong_case), *names))
+
+    def moved(cents):
+        return {"A": [end + cents for end in right.A]}
+
+    with mock.patch.dict(reference.WEIGHTS, {60: 999}):
+        edit("weight of term 60 = 999", {"factor 60": list(right.factors[60])},
+             {"factor 60": list(reference.rounded_factors(case)[60])})
+    edit("A without credit", moved(0), moved(-100 * amounts["credit"]))
+    edit("A plus currency exposure", moved(0), moved(100 * amounts["currency"]))
+    edit_case("equity thousandths of mature and emerging swapped",
+              replace(case, shocks=swapped(shocks, "mature_fall", "emerging_fall")), "S2")
+    edit_case("property left out of S2", replace(case, shocks=shocks | {"property_fall": 0}), "S2")
+    with mock.patch.object(reference, "points", plain_shift_points):
+        edit_case("shift not multiplied by n", case, "S1")
+    # The curve that decides is the one whose absence shows.
+    decides = max(right.falls, key=lambda name: right.falls[name])
+    others = [fall for name, fall in right.falls.items() if name != decides]
+    edit(f"no {decides} curve", {"S1": list(right.S1)}, {"S1": list(reference.rounded_S1(others))})
+    Q = {"WL": right.WL - 2 * len(case.pension), "WB": right.WB - 2 * len(case.bonds)}
+    edit("W = 3m + Q", {"WL": right.WL, "WB": right.WB},
+         {"WL": 3 * len(case.pension) + Q["WL"], "WB": 3 * len(case.bonds) + Q["WB"]})
+    hundredfold = lambda flows: 2 * len(flows) + reference.divide(
+        sum(400 * t * t * flow for t, flow in enumerate(flows, 1)), 10 ** 10, UPPER)
+    edit("W with 400 t t", {"WL": right.WL, "WB": right.WB},
+         {"WL": hundredfold(case.pension), "WB": hundredfold(case.bonds)})
+    edit_case("currency and commodities shocks swapped",
+              replace(case, shocks=swapped(shocks, "currency_fall", "commodities_fall")), "S3", "S4")
+    edit_case("credit read from cash", replace(case, amounts=amounts | {"credit": amounts["cash"]}), "S5", "A")
+    if right.S5[UPPER] > 100 * amounts["credit"]:
+        edit("S5 capped at the credit", {"S5": list(right.S5)},
+             {"S5": [min(end, 100 * amounts["credit"]) for end in right.S5]})
+    return edits
+
+
+# ---------------------------------------------------------------- their numbers
+
+def file_numbers(data, case):
+    assert reference.read(data) == case
+    assert reference.demand3(case) == []
+    offset, length = reference.rates_part(data)
+    return {"bytes": data.hex(), "case": asdict(case), "rates_part": {"offset": offset, "length": length}}
+
+
+def bent_numbers():
+    case = bent()
+    rounded = Rounded(case)
+    N, P = reference.points(case)
+    s = reference.sums(case.days)
+    ends = lambda one_end: [one_end(LOWER), one_end(UPPER)]
+    factor_60 = {"factor 60": list(rounded.factors[60])}
+    with mock.patch.dict(reference.WEIGHTS, {60: 999}):
+        wrong_60 = {"factor 60": list(reference.rounded_factors(case)[60])}
+    assert factor_60 != wrong_60
+    return file_numbers(encode(case, True, False, True), case) | {
+        "s": {t: s[t] for t in (1, 20, 21, 60)},
+        "growth": {t: ends(lambda end: reference.growth(N, P, t, end)) for t in (21, 40, 60)},
+        "weighed_growth": {t: ends(lambda end: reference.weighed_growth(N, P, case.ufr, t, end))
+                           for t in (21, 40, 60, 61)},
+        "factors": {t: list(rounded.factors[t]) for t in (1, 20, 21, 40, 60, 61, 120)},
+        "zero_rates": {t: list(rounded.zero_rates[t]) for t in (1, 2, 3, 10)},
+        "told_apart": {"weight of term 60 = 999": [factor_60, wrong_60]},
+    }
+
+
+def fund_numbers(case):
+    rounded, exact = Rounded(case), Exact(case)
+    fraction = lambda x: {"numerator": str(x.numerator), "denominator": str(x.denominator)}
+    return file_numbers(encode(case, True, True, True), case) | {
+        "rounded": figures(rounded, *MONEY),
+        "exact": {name: fraction(getattr(exact, name)) for name in MONEY[:8] + ["S6_squared", "S_squared"]},
+        "WL": rounded.WL, "WB": rounded.WB,
+        "verdict": {"rounded": rounded.verdict, "exact": exact.verdict},
+        "told_apart": told_apart(case),
+    }
+
+
+# ---------------------------------------------------------------- random cases
+
+def random_days(rng, n):
+    """n days that pass refusals 5 and 6.
+
+    Each term draws a growth in steps; the rate is the floor of their mean, which moves the growth
+    that refusal 6 sees by less than the term, so by less than 60.
+    """
+    def day():
+        rates, total = [], 0
+        for t in range(1, 61):
+            if t % 15 == 1:
+                low, high = sorted(rng.randint(-1_940, 11_940) for _ in range(2))
+            drawn = rng.randint(low, high)
+            if not -1_000 <= (total + drawn) // t <= 10_000:
+                drawn = rng.randint(-1_000, 10_000)
+            total += drawn
+            rates.append(min(max(total // t, -1_000), 10_000))
+        return rates
+    return [day() for _ in range(n)]
+
+
+def random_case(rng, days=None):
+    """A case within all limits; often with an end of a limit in it, and often near a border."""
+    def one(low, high):
+        return rng.choice([low, high, rng.randint(low, high), rng.randint(low, high)])
+    flows = lambda count: [rng.randint(0, largest) for _ in range(count)]
+    while True:
+        largest, richest = 10 ** rng.randint(2, 8), 10 ** rng.randint(2, 11)
+        amounts = [rng.choice([0, richest, rng.randint(0, richest)]) for _ in AMOUNTS]
+        case = Case(ufr=one(0, 5_000), days=random_days(rng, days or rng.choice([1, 1, 2, 2, 3, 3, 3, 7])),
+                    pension=flows(one(1, 120)), bonds=flows(rng.choice([0, 0, rng.randint(1, 60)])),
+                    amounts=dict(zip(AMOUNTS, amounts)),
+                    shocks={name: one(0, SHOCK_LIMITS[name]) for name in SHOCKS},
+                    heads=one(1, 1_000_000), pension_age=one(0, 1_200), mean_age=one(0, 1_200))
+        # Clamped rates may break refusal 6; such a draw is thrown away.
+        if reference.growths_within_limits(case.days):
+            return near_border(rng, case) if rng.random() < 0.6 else case
+
+
+def near_border(rng, case):
+    """The case with its cash set so that A comes close to 21/20 L or to L + S, where that can be."""
+    rounded = Rounded(replace(case, amounts=case.amounts | {"cash": 0}))
+    border = rng.choice([rounded.L[LOWER] * 21 // 20, rounded.L[LOWER] + rounded.S[LOWER]])
+    cash = (border - rounded.A[LOWER]) // 100 + rng.randint(-2, 2)
+    return replace(case, amounts=case.amounts | {"cash": cash}) if 0 <= cash <= 10 ** 11 else case
+
+
+def presence(rng, case):
+    """Which optional fields to write: all that are not at their absent value, and some of the others."""
+    return (case.ufr != 4_200 or rng.random() < 0.5, bool(case.bonds),
+            any(case.amounts.values()) or rng.random() < 0.5)
+
+
+if __name__ == "__main__":
+    print(json.dumps({"bent": bent_numbers(), "up": fund_numbers(up()), "down": fund_numbers(down())}, indent=1))

@@ -1,0 +1,505 @@
+"""Tests of the reference: python3 -m unittest discover -s tests (or python3 tests/test_reference.py)."""
+
+import json
+import os
+import random
+import subprocess
+import sys
+import unittest
+from collections import Counter
+from dataclasses import asdict, replace
+from fractions import Fraction
+from unittest import mock
+
+sys.path.insert(0, os.path.dirname(os.path.abspath(__file__)))
+import examples
+import reference
+from examples import c1, flat
+from reference import (AMOUNTS, DEKKINGSTEKORT, LOWER, ONBESLIST, ONE, RESERVETEKORT, SHOCK_LIMITS, SHOCKS, UPPER,
+                       VRIJ_VERMOGEN, Exact, ExactCurve, Refusal, Rounded, demand3, encode, fill, listing, read)
+
+C1_LINES = b"""\
+L 100000000 100000000
+B 0 0
+A 110000000 110000000
+S1 0 0
+S2 0 0
+S3 0 0
+S4 0 0
+S5 0 0
+S6 10000000 10000000
+S 10000000 10000000
+V VRIJ VERMOGEN
+"""
+
+
+def file_of(case):
+    """A file in C1's layout: no UFR, no bonds, amounts."""
+    return encode(case, False, False, True)
+
+
+def number_of(data):
+    """The refusal number, 0 if accepted."""
+    answer = read(data)
+    return answer.number if isinstance(answer, Refusal) else 0
+
+
+class TwelveCases(unittest.TestCase):
+    def test_c1(self):
+        # The bytes are written here by hand, not by encode.
+        data = bytes.fromhex("0076" + "01" + "0000" * 60 + "01" + "000f4240" + "00" * 48
+                             + "000000000010c8e0" + "00" * 8 + "0000" * 12 + "00000064" + "030c" + "01cc")
+        self.assertEqual(len(data), 224)
+        self.assertEqual(data, file_of(c1()))
+        self.assertEqual(read(data), c1())
+        self.assertEqual(listing(data), C1_LINES)
+        self.assertEqual(len(C1_LINES.splitlines()), 11)
+        self.assertEqual(reference.rates_part(data), (3, 120))
+        self.assertEqual(Exact(c1()).verdict, VRIJ_VERMOGEN)
+
+    def test_c2(self):
+        case = c1(amounts=c1().amounts | {"cash": 1_099_999})
+        self.assertTrue(listing(file_of(case)).endswith(b"\nV RESERVETEKORT\n"))
+        self.assertEqual(Exact(case).verdict, RESERVETEKORT)
+
+    def test_c3(self):
+        data = file_of(c1()).replace(bytes(120), bytes.fromhex("fe0c") * 60, 1)
+        self.assertEqual(read(data).days, flat(-500))
+        self.assertEqual(ExactCurve(read(data)).factor(1), Fraction(200, 199))
+
+    def test_c4(self):
+        for pattern, number in (("fc18", 0), ("fc17", 5)):
+            self.assertEqual(number_of(file_of(c1()).replace(bytes(120), bytes.fromhex(pattern) * 60, 1)), number)
+
+    def test_c5(self):
+        self.assertEqual(ExactCurve(c1(days=flat(100, 101))).factor(1), Fraction(200_000, 200_201))
+
+    def test_c6(self):
+        self.assertEqual(ExactCurve(c1()).factor(21), Fraction(250_000, 250_903))
+
+    def test_c7(self):
+        self.assertEqual(ExactCurve(c1(days=flat(5_000))).adjusted_growth(21), Fraction(1_049_312, 1_000_000))
+
+    def test_c8(self):
+        self.assertEqual(number_of(file_of(c1(days=[[0] + [6_000] * 59]))), 0)
+        self.assertEqual(number_of(file_of(c1(days=[[0] + [6_001] * 59]))), 6)
+
+    def test_c9(self):
+        parts = [(30_000, 30_000), (40_000, 40_000)] + [(0, 0)] * 4
+        self.assertEqual(reference.rounded_S(parts, 500), (60_827, 60_828))
+
+    def test_c10(self):
+        self.assertEqual(reference.exact_tso(c1(pension_age=780, mean_age=540)), Fraction(13, 2))
+
+    def test_c11(self):
+        self.assertEqual(reference.exact_tso(c1(pension_age=780, mean_age=781)), 2)
+
+    def test_c12(self):
+        self.assertEqual(listing(b""), b"R 1\n")
+
+
+class Reading(unittest.TestCase):
+    """A file with every field, n = 3, m = 3, k = 5, is spoiled at known places."""
+
+    GOOD = encode(examples.up(), True, True, True)
+    # Offsets of the fields behind the map, and of the end.
+    UFR, DAYS, PENSION, BONDS, VALUES, SHOCKS_AT, PEOPLE, END = 2, 4, 365, 378, 399, 463, 487, 495
+
+    # (refusal, offset, wrong bytes, least length at which the fault is seen); in the order of checks
+    FAULTS = [
+        (3, 0, b"\x80", 2), (9, UFR, b"\x13\x89", DAYS), (4, DAYS, b"\x00", DAYS + 1),
+        (5, DAYS + 1, b"\xfc\x17", PENSION), (7, PENSION, b"\x79", PENSION + 1),
+        (8, PENSION + 1, b"\x05\xf5\xe1\x01", BONDS), (7, BONDS, b"\x3d", BONDS + 1),
+        (8, BONDS + 17, b"\xff\xff\xff\xff", VALUES), (10, VALUES + 56, b"\x80" + bytes(7), SHOCKS_AT),
+        (11, SHOCKS_AT + 22, b"\x01\xf5", PEOPLE), (12, PEOPLE, bytes(4), END), (2, END, b"\x00", END + 1),
+        # rates 10,000 at term 60 of all three days, the others being far lower
+        (6, DAYS + 1, None, END),
+    ]
+
+    def spoiled(self, *faults):
+        data = bytearray(self.GOOD)
+        for number, offset, wrong, _ in faults:
+            if number == 6:
+                for day in range(3):
+                    data[DAY_60 + 120 * day:DAY_60 + 2 + 120 * day] = (10_000).to_bytes(2, "big")
+            else:
+                data[offset:offset + len(wrong)] = wrong
+        return bytes(data)
+
+    def test_good(self):
+        self.assertEqual(len(self.GOOD), self.END)
+        self.assertEqual(read(self.GOOD), examples.up())
+        self.assertEqual(reference.rates_part(self.GOOD), (5, 360))
+
+    def test_each_fault(self):
+        for fault in self.FAULTS:
+            self.assertEqual(number_of(self.spoiled(fault)), fault[0], fault)
+            self.assertEqual(reference.rates_part(self.spoiled(fault)), (0, 0))
+            self.assertEqual(listing(self.spoiled(fault)), b"R %d\n" % fault[0])
+        self.assertEqual({fault[0] for fault in self.FAULTS} | {1}, set(range(1, 13)))
+
+    def test_earlier_fault_wins(self):
+        for i, first in enumerate(self.FAULTS):
+            for second in self.FAULTS[i + 1:]:
+                self.assertEqual(number_of(self.spoiled(first, second)), first[0], (first, second))
+
+    def test_every_cut(self):
+        for length in range(self.END):
+            self.assertEqual(number_of(self.GOOD[:length]), 1, length)
+
+    def test_every_cut_of_every_fault(self):
+        for fault in self.FAULTS:
+            data = self.spoiled(fault)
+            for length in range(len(data)):
+                # A file cut behind the spoiled field's end shows the fault, an earlier cut shows 1 ...
+                expected = fault[0] if length >= fault[3] else 1
+                if fault[0] == 2:  # ... and without its extra byte this one is good.
+                    expected = 1 if length < self.END else 0
+                self.assertEqual(number_of(data[:length]), expected, (fault, length))
+
+    def test_every_map(self):
+        for bits in range(0x10000):
+            data = bits.to_bytes(2, "big") + self.GOOD[2:]
+            if bits & 0xFFE6 == 0x0066:
+                self.assertNotEqual(number_of(data), 3)
+            else:
+                self.assertEqual(number_of(data), 3)
+
+    def test_limits(self):
+        good = examples.up()
+
+        def check(number, **changes):
+            data = encode(replace(good, **changes), True, True, True)
+            self.assertEqual(number_of(data), number, str(changes)[:80])
+        for name, low, high, number in (("ufr", 0, 5_000, 9), ("heads", 1, 1_000_000, 12),
+                                        ("pension_age", 0, 1_200, 12), ("mean_age", 0, 1_200, 12)):
+            check(0, **{name: low})
+            check(0, **{name: high})
+            check(number, **{name: high + 1})
+            if low:
+                check(number, **{name: low - 1})
+        for name in AMOUNTS:
+            check(0, amounts=good.amounts | {name: 0})
+            check(0, amounts=good.amounts | {name: 10 ** 11})
+            for bad in (10 ** 11 + 1, 2 ** 63, 2 ** 64 - 1):
+                check(10, amounts=good.amounts | {name: bad})
+        for name in SHOCKS:
+            check(0, shocks=good.shocks | {name: 0})
+            check(0, shocks=good.shocks | {name: SHOCK_LIMITS[name]})
+            for bad in (SHOCK_LIMITS[name] + 1, 0x8000, 0xFFFF):
+                check(11, shocks=good.shocks | {name: bad})
+        for name, most in (("pension", 120), ("bonds", 60)):
+            check(7, **{name: []})
+            check(7, **{name: [5] * (most + 1)})
+            check(0, **{name: [0] * most})
+            check(0, **{name: [10 ** 8] * most})
+            check(8, **{name: [10 ** 8] * (most - 1) + [10 ** 8 + 1]})
+        check(4, days=[])
+        check(4, days=flat(*[7] * 71))
+        check(0, days=flat(*[7] * 70))
+        check(0, days=flat(10_000))
+        check(0, days=flat(-1_000))
+        for place in (0, 30, 59):
+            for bad in (10_001, -1_001, 0x7FFF, -0x8000):
+                day = [0] * 60
+                day[place] = bad
+                check(5, days=flat(0) + [day])
+
+    def test_refusal_6_both_ends_by_the_sum_over_days(self):
+        # term 3 of two days: 3 s(3) - 2 s(2) against -4,000 and 24,000
+        for s2, s3, number in ((0, 8_000, 0), (0, 8_001, 6), (1_000, -667, 6), (1_001, -666, 0), (500, -1_000, 0)):
+            days = [[0, s2 // 2] + [s3 // 2] * 58, [0, s2 - s2 // 2] + [s3 - s3 // 2] * 58]
+            self.assertEqual(number_of(file_of(c1(days=days))), number, (s2, s3))
+
+    def test_round_trip(self):
+        rng = random.Random(11)
+        for _ in range(150):
+            case = examples.random_case(rng)
+            present = examples.presence(rng, case)
+            data = encode(case, *present)
+            self.assertEqual(read(data), case)
+            self.assertEqual(reference.rates_part(data), (5 if present[0] else 3, 120 * len(case.days)))
+
+    def test_spoiled_bytes(self):
+        # Whatever the bytes: a number 1 to 12, or a case that says exactly these bytes.
+        rng = random.Random(13)
+        seen = Counter()
+        for _ in range(3_000):
+            data = bytearray(self.GOOD[:rng.choice([self.END, self.END, rng.randint(0, self.END)])])
+            for _ in range(rng.randint(1, 2)):
+                if data:
+                    data[rng.randrange(len(data))] = rng.choice([0, 1, 0x7F, 0x80, 0xFF, rng.randrange(256)])
+            answer = read(bytes(data))
+            if isinstance(answer, Refusal):
+                self.assertIn(answer.number, range(1, 13))
+            else:
+                self.assertEqual(encode(answer, *(bool(data[1] >> bit & 1) for bit in (0, 3, 4))), data)
+            seen[number_of(bytes(data))] += 1
+        self.assertGreater(seen[0], 100)
+
+    def test_absent_fields(self):
+        case = replace(c1(), amounts=dict.fromkeys(AMOUNTS, 0))
+        data = encode(case, False, False, False)
+        self.assertEqual(data[:2], b"\x00\x66")
+        self.assertEqual(len(data), 224 - 64)
+        self.assertEqual(read(data), case)
+        with self.assertRaises(ValueError):
+            encode(c1(), False, False, False)
+
+    def test_buffers(self):
+        for lengths in ((239, 240), (240, 239), (0, 0)):
+            factors, rates = [7] * lengths[0], [8] * lengths[1]
+            self.assertEqual(fill(b"", factors, rates), Refusal(13))
+            self.assertEqual((factors, rates), ([7] * lengths[0], [8] * lengths[1]))
+        factors, rates = [7] * 241, [8] * 240
+        self.assertEqual(fill(self.GOOD[:-1], factors, rates), Refusal(1))
+        self.assertEqual((factors, rates), ([7] * 241, [8] * 240))
+        self.assertIsNone(fill(self.GOOD, factors, rates))
+        rounded = Rounded(examples.up())
+        self.assertEqual(factors[240:], [7])
+        self.assertEqual(len(rates), 240)
+        for t in range(1, 121):
+            self.assertEqual(tuple(factors[2 * t - 2:2 * t]), rounded.factors[t])
+            self.assertEqual(tuple(rates[2 * t - 2:2 * t]), rounded.zero_rates[t])
+
+    def test_command_line(self):
+        program = os.path.join(os.path.dirname(os.path.abspath(__file__)), "reference.py")
+        run = subprocess.run([sys.executable, program, "-"], input=file_of(c1()), capture_output=True, check=True)
+        self.assertEqual(run.stdout, C1_LINES)
+        run = subprocess.run([sys.executable, program, os.devnull], capture_output=True, check=True)
+        self.assertEqual(run.stdout, b"R 1\n")
+
+
+DAY_60 = Reading.DAYS + 1 + 2 * 59  # term 60 of the first day
+
+
+class Working(unittest.TestCase):
+    def test_weights(self):
+        self.assertEqual(list(reference.WEIGHTS), list(range(21, 61)))
+        self.assertEqual((reference.WEIGHTS[21], reference.WEIGHTS[40], reference.WEIGHTS[60]), (86, 891, 998))
+
+    def test_exact_worth_is_the_sum_of_flows_times_factors(self):
+        rng = random.Random(12)
+        for _ in range(3):
+            case = examples.random_case(rng, days=2)
+            curve = ExactCurve(case, -170)
+            plain = sum(100 * flow * curve.factor(t) for t, flow in enumerate(case.pension, 1))
+            self.assertEqual(curve.worth(case.pension), plain)
+
+    def test_product_to_20_is_the_power(self):
+        curve = ExactCurve(examples.bent())
+        for t in range(1, 21):
+            self.assertEqual(curve.product(t), (1 + curve.mean_rate(t)) ** t)
+        self.assertNotEqual(curve.product(21), (1 + curve.mean_rate(21)) ** 21)
+
+    def test_scan_against_bisection(self):
+        for case in (examples.bent(), c1(days=flat(-1_000)), c1(days=flat(10_000), ufr=5_000)):
+            factors = reference.rounded_factors(case)
+            for t in (1, 2, 21):
+                self.assertEqual(reference.zero_rate(factors[t], t, "scan"), reference.zero_rate(factors[t], t))
+        for t in (60, 120):
+            factor = reference.rounded_factors(examples.bent())[t]
+            self.assertEqual(reference.zero_rate(factor, t, "scan"), reference.zero_rate(factor, t))
+
+    def test_zero_rate_of_a_whole_step(self):
+        # At 0 both results are 10^12 itself, so the bracket closes.
+        self.assertEqual(reference.zero_rate((ONE, ONE), 7), (0, 0))
+
+    def test_s1_of_no_shift_is_as_wide_as_l_and_b(self):
+        case = replace(examples.up(), shocks=examples.up().shocks | {"up_shift": 0, "down_shift": 0})
+        rounded = Rounded(case)
+        widths = sum(bracket[UPPER] - bracket[LOWER] for bracket in (rounded.L, rounded.B))
+        self.assertGreater(widths, 0)
+        self.assertEqual(rounded.S1, (0, widths))
+        self.assertEqual(Exact(case).S1, 0)
+
+    def test_allowed_width(self):
+        self.assertEqual(reference.allowed_width([0] * 7), 14)
+        self.assertEqual(reference.allowed_width([]), 0)
+        self.assertEqual(reference.allowed_width([0, 10 ** 8, 1]), 6 + 1)  # 1.6e9 + 36
+        self.assertEqual(reference.allowed_width([0] * 4 + [10 ** 8]), 10 + 1)  # 1e10, exactly 1
+        self.assertEqual(reference.allowed_width([1] + [0] * 3 + [10 ** 8]), 10 + 2)
+
+    def test_rounded_verdict(self):
+        verdict = reference.rounded_verdict
+        self.assertEqual(verdict((0, 104), (100, 100), (0, 0)), DEKKINGSTEKORT)
+        self.assertEqual(verdict((105, 105), (100, 100), (5, 5)), VRIJ_VERMOGEN)
+        self.assertEqual(verdict((105, 105), (100, 100), (6, 6)), RESERVETEKORT)
+        self.assertEqual(verdict((105, 105), (100, 100), (5, 6)), ONBESLIST)
+        # The first border unclear: the second is not looked at.
+        self.assertEqual(verdict((104, 105), (100, 100), (50, 50)), ONBESLIST)
+        self.assertEqual(verdict((0, 0), (0, 0), (0, 0)), VRIJ_VERMOGEN)
+
+
+class Demand3(unittest.TestCase):
+    def test_random_cases(self):
+        rng = random.Random(2026)
+        verdicts = Counter()
+        for _ in range(60):
+            case = examples.random_case(rng)
+            rounded = Rounded(case)
+            verdicts[rounded.verdict] += 1
+            self.assertEqual(demand3(case, rounded=rounded), [], case)
+        self.assertEqual(set(verdicts), set(reference.VERDICTS), verdicts)
+
+    def test_full_file(self):
+        rng = random.Random(70)
+        case = replace(examples.random_case(rng, days=70), pension=[rng.randint(0, 10 ** 8) for _ in range(120)],
+                       bonds=[rng.randint(0, 10 ** 8) for _ in range(60)])
+        self.assertEqual(demand3(case), [])
+
+    def test_ends_of_the_limits(self):
+        for rate, ufr in ((-1_000, 0), (-1_000, 5_000), (10_000, 0), (10_000, 5_000)):
+            case = replace(examples.up(), ufr=ufr, days=flat(rate, rate, rate), pension=[10 ** 8] * 120,
+                           bonds=[10 ** 8] * 60, shocks=dict(SHOCK_LIMITS))
+            self.assertEqual(demand3(case), [])
+
+    def broken_by(self, **wrong):
+        """What demand 3 says of the "up" fund with some figures of the rounded working replaced."""
+        rounded = Rounded(examples.up())
+        self.assertEqual(demand3(examples.up(), rounded=rounded), [])
+        for name, value in wrong.items():
+            setattr(rounded, name, value)
+        return demand3(examples.up(), rounded=rounded)
+
+    def test_fakes_fail(self):
+        for name in ("L", "B", "A", "S"):
+            self.assertRegex(self.broken_by(**{name: (0, 2 ** 53)})[0], f"^{name} is at most")
+        self.assertEqual(len(self.broken_by(factors=[(0, 2 ** 53)] * 121)), 120)
+        self.assertEqual(len(self.broken_by(zero_rates=[(-2_000, 20_000)] * 121)), 120)
+        self.assertIn("undecided", self.broken_by(verdict=ONBESLIST)[0])
+        self.assertIn("verdict", self.broken_by(verdict=VRIJ_VERMOGEN)[0])
+        right = Rounded(examples.up())
+        for name in reference.MONEY:
+            lower, upper = getattr(right, name)
+            for moved in ((upper + 1, upper + 1), (lower - 1, lower - 1)):
+                self.assertIn(f"exact {name} lies in its bracket", self.broken_by(**{name: moved}))
+        for t in (1, 20, 21, 60, 61, 120):
+            for wrong in (1, -1):
+                name, width = "exact zero rate %d lies in its bracket" % t, 3 * wrong
+                rates = list(right.zero_rates)
+                rates[t] = (rates[t][0] + width, rates[t][1] + width)
+                self.assertEqual(self.broken_by(zero_rates=rates), [name])
+
+    def test_margins_through_squares(self):
+        class Fund:
+            L, S_squared = Fraction(100), Fraction(50)  # S is 7.07...
+        # WL = WB = 0 leaves a margin of 8 around A = 107.07 and of 0 around 20 A = 2,100.
+        for A, within in ((98, False), (99, False), (Fraction(99_072, 1_000), True), (100, True), (107, True),
+                          (Fraction(115_071, 1_000), True), (Fraction(115_072, 1_000), False), (116, False)):
+            Fund.A = Fraction(A)
+            self.assertEqual(reference.within_margins(Fund, 0, 0), within, A)
+        Fund.S_squared, Fund.A = Fraction(10 ** 6), Fraction(105)
+        self.assertTrue(reference.within_margins(Fund, 0, 0))
+        Fund.A = Fraction(106)
+        self.assertFalse(reference.within_margins(Fund, 0, 0))
+        self.assertTrue(reference.within_margins(Fund, 1, 0))  # |20 A - 21 L| = 20 <= 21
+
+
+class ErrorsToShutOut(unittest.TestCase):
+    def test_sixteen_bits_taken_unsigned(self):
+        data = encode(examples.bent(), True, False, True)
+        self.assertEqual(read(data).days[0][0], -290)
+        with mock.patch.object(reference, "twos_complement", lambda sixteen: sixteen):
+            self.assertEqual(read(data), Refusal(5))
+
+    def test_mean_rounded_to_a_step(self):
+        case = c1(days=flat(100, 101))
+        right = Rounded(case).factors[1]
+        self.assertEqual(right, (ONE * 200_000 // 200_201, ONE * 200_000 // 200_201 + 1))
+        for rounded_mean in (100, 101):
+            self.assertNotEqual(Rounded(c1(days=flat(rounded_mean))).factors[1], right)
+
+    def test_ufr_mixed_into_zero_rates(self):
+        curve = ExactCurve(c1())
+        wrong = (1 + Fraction(86 * 4_200, 1_000 * reference.STEPS)) ** -21
+        lower, upper = Rounded(c1()).factors[21]
+        self.assertTrue(lower <= curve.factor(21) * ONE <= upper)
+        self.assertFalse(lower <= wrong * ONE <= upper)
+
+    @staticmethod
+    def straight(old, weighed):
+        """next_factor without its crossing of ends."""
+        return tuple(reference.divide(old[end] * ONE, weighed[end], end) for end in (LOWER, UPPER))
+
+    def test_lower_factor_divided_by_lower_growth(self):
+        case = examples.bent()
+        right = Rounded(case)
+        with mock.patch.object(reference, "next_factor", self.straight):
+            wrong = Rounded(case)
+        self.assertEqual(right.factors[:21], wrong.factors[:21])
+        for t in range(21, 61):
+            self.assertNotEqual(right.factors[t], wrong.factors[t])
+
+    def test_lower_factor_divided_by_lower_growth_leaves_the_bracket(self):
+        with mock.patch.object(reference, "next_factor", self.straight):
+            broken = [sentence for seed in range(5)
+                      for sentence in demand3(examples.random_case(random.Random(seed), days=3))]
+        self.assertTrue(any("exact factor" in sentence for sentence in broken))
+
+    def test_year_61_weighted_with_998(self):
+        case = examples.bent()
+        N, P = reference.points(case)
+        right = Rounded(case).factors
+        growth_60 = [reference.growth(N, P, 60, end) for end in (LOWER, UPPER)]
+        ufr_growth = reference.weighed_growth(N, P, case.ufr, 61, LOWER)
+        weighed = [reference.divide(2 * growth_60[end] + 998 * ufr_growth, 1_000, end) for end in (LOWER, UPPER)]
+        self.assertNotEqual(reference.next_factor(right[60], weighed), right[61])
+        self.assertEqual(reference.next_factor(right[60], (ufr_growth, ufr_growth)), right[61])
+
+    def test_s6_without_the_root(self):
+        right = Rounded(c1()).S6
+        with mock.patch.object(reference, "root", lambda x, end: x):
+            wrong = reference.rounded_S6(Rounded(c1()).L, c1())
+        self.assertEqual(right, (10_000_000, 10_000_000))
+        self.assertNotEqual(wrong, right)
+        # without the root of TSO^2 + NSA^2 alone, 100 percent where the paper says 10
+        self.assertEqual(reference.exact_tso(c1()) ** 2 + reference.exact_nsa_squared(c1()), 100)
+
+
+class Examples(unittest.TestCase):
+    def test_every_field_is_told_apart(self):
+        for case in (examples.up(), examples.down()):
+            self.assertTrue(all(rate != 0 for day in case.days for rate in day))
+            for values, least in ((case.pension, 3), ([flow for flow in case.bonds if flow], 3),
+                                  (list(case.amounts.values()), 8), (list(case.shocks.values()), 12),
+                                  ([case.heads, case.pension_age, case.mean_age, case.ufr], 4)):
+                self.assertGreaterEqual(len(values), least)
+                self.assertNotIn(0, values)
+                self.assertEqual(len(set(values)), len(values))
+            self.assertGreater(case.pension_age, case.mean_age)
+            self.assertTrue(0 < case.shocks["correlation"] < 1_000)
+            self.assertNotEqual(case.ufr, 4_200)
+
+    def test_which_curve_decides(self):
+        for case, sign in ((examples.up(), 1), (examples.down(), -1)):
+            exact, rounded = Exact(case), Rounded(case)
+            self.assertGreater(sign * (exact.fall(exact.up) - exact.fall(exact.down)), 0)
+            self.assertGreater(exact.S1, 0)
+            self.assertGreater(rounded.S1[LOWER], 0)
+            self.assertEqual(rounded.verdict, exact.verdict)
+        self.assertGreater(Exact(examples.down()).S5, 100 * examples.down().amounts["credit"])
+
+    def test_printed_numbers(self):
+        program = os.path.join(os.path.dirname(os.path.abspath(__file__)), "examples.py")
+        run = subprocess.run([sys.executable, program], capture_output=True, check=True)
+        printed = json.loads(run.stdout)
+        self.assertEqual(list(printed), ["bent", "up", "down"])
+        for name, case in (("bent", examples.bent()), ("up", examples.up()), ("down", examples.down())):
+            self.assertEqual(printed[name]["case"], asdict(case))
+            self.assertEqual(read(bytes.fromhex(printed[name]["bytes"])), case)
+            for right, wrong in printed[name]["told_apart"].values():
+                self.assertNotEqual(right, wrong)
+        for name in ("up", "down"):
+            fund = printed[name]
+            lines = listing(bytes.fromhex(fund["bytes"])).decode().splitlines()
+            expected = [f"{figure} {lower} {upper}" for figure, (lower, upper) in fund["rounded"].items()]
+            self.assertEqual(lines, expected + ["V " + fund["verdict"]["rounded"]])
+            for figure in fund["exact"].values():
+                self.assertLess(max(len(figure["numerator"]), len(figure["denominator"])), 200)
+        self.assertEqual(len(printed["up"]["told_apart"]), 11)
+        self.assertEqual(len(printed["down"]["told_apart"]), 12)
+
+
+if __name__ == "__main__":
+    unittest.main()

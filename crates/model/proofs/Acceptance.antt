@@ -1,0 +1,38 @@
+-- A file is accepted exactly when it keeps the layout and limits, and the case that is read is the case that it holds.
+use mathlib.Core.Path.{_≡_, refl, sym, _∙_}
+use mathlib.Core.List.{List}
+use Prim.Native.Nat.{ℕ}
+use Rattle.model.specs.Numbers.{Bytes}
+use Rattle.model.specs.Layout.{Keeps}
+use Rattle.model.specs.Reading.{fileMap, caseOf}
+use Rattle.model.specs.Refusals.{refusal}
+use Rattle.model.proofs.Checks.{accepted-passed, passed-accepted}
+use Rattle.model.proofs.Accepted.{within-limits}
+use Rattle.model.proofs.Bitmap.{shown}
+use Rattle.model.proofs.Written.{agrees, written-back}
+use Rattle.model.proofs.Read.{case-read, passed}
+
+-- an accepted file keeps the layout and limits, and the case read is the case that it holds
+pub accepted-keeps : (file : List ℕ) → Bytes file → refusal file ≡ 0 → (x : Keeps file) × (x .held ≡ caseOf file)
+accepted-keeps file b h =
+    let p = accepted-passed file h in (
+      record {
+        present = shown (fileMap file);
+        held = caseOf file;
+        within = within-limits file h;
+        agrees = agrees file b p;
+        bytes = sym (written-back file b p);
+      },
+      refl,
+    )
+
+-- a file that keeps them is accepted, and the case that it holds is the one read
+pub keeps-accepted : (file : List ℕ) (x : Keeps file) → (refusal file ≡ 0) × (caseOf file ≡ x .held)
+keeps-accepted file x = (
+  passed-accepted file (passed file (x .present) (x .held) (x .within) (x .agrees) (x .bytes)),
+  case-read file (x .present) (x .held) (x .within) (x .agrees) (x .bytes),
+)
+
+-- so a file holds one case
+pub present-once : (file : List ℕ) (x y : Keeps file) → x .held ≡ y .held
+present-once file x y = sym (keeps-accepted file x .1) ∙ keeps-accepted file y .1

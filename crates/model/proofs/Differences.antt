@@ -1,0 +1,92 @@
+-- Integers as differences of two natural numbers, so that `omega` does their arithmetic.
+-- Assumes nothing.
+use Prim.Native.Nat.{ℕ, zero, suc, _+_, _*_, _-_, _≤_, _<_}
+use mathlib.Core.Path.{_≡_, ap}
+use mathlib.Core.Bool.{Bool, true, false, not, cond}
+use native.Mathlib.Omega.{arith}
+use lib.Dec.{T, leb, ltb, leb→le, le→leb, ltb→lt, lt→ltb, nltb→le}
+use lib.IntN.{ℤ, pos, negsuc, negℤ, _+ℤ_, _-ℤ_, _*ℤ_, subℕ}
+use lib.Signed.{leZ, ltZ, _≤ℤ_, _<ℤ_}
+use Rattle.model.specs.Curve.{natural}
+
+-- z is a - b
+abbrev pub Diff : ℤ → ℕ → ℕ → Type 0
+Diff (pos n) a b = n + b ≡ a
+Diff (negsuc n) a b = suc n + a ≡ b
+
+-- the same difference of two other numbers
+pub again : (z : ℤ) (a b c d : ℕ) → Diff z a b → a + d ≡ c + b → Diff z c d
+again (pos n) a b c d h e = omega arith
+again (negsuc n) a b c d h e = omega arith
+
+pub diff-unique : (z : ℤ) (a b c d : ℕ) → Diff z a b → Diff z c d → a + d ≡ c + b
+diff-unique (pos n) a b c d h k = omega arith
+diff-unique (negsuc n) a b c d h k = omega arith
+
+diff-sub : (a b : ℕ) → Diff (subℕ a b) a b
+diff-sub a b = go (ltb a b) (λ t. ltb→lt a b t) (λ t. nltb→le a b t)
+  where
+    go : (x : Bool) → (T x → a < b) → (T (not x) → b ≤ a) → Diff (cond x (negsuc (b - suc a)) (pos (a - b))) a b
+    go true p q = let h : a < b = p tt in omega arith
+    go false p q = let h : b ≤ a = q tt in omega arith
+
+pub diff-pos : (n : ℕ) → Diff (pos n) n 0
+diff-pos n = omega arith
+
+pub diff-sum : (y z : ℤ) (a b c d : ℕ) → Diff y a b → Diff z c d → Diff (y +ℤ z) (a + c) (b + d)
+diff-sum (pos n) (pos m) a b c d h k = omega arith
+diff-sum (pos n) (negsuc m) a b c d h k =
+    again (subℕ n (suc m)) n (suc m) (a + c) (b + d) (diff-sub n (suc m)) (omega arith)
+diff-sum (negsuc n) (pos m) a b c d h k =
+    again (subℕ m (suc n)) m (suc n) (a + c) (b + d) (diff-sub m (suc n)) (omega arith)
+diff-sum (negsuc n) (negsuc m) a b c d h k = omega arith
+
+pub diff-neg : (z : ℤ) (a b : ℕ) → Diff z a b → Diff (negℤ z) b a
+diff-neg (pos zero) a b h = omega arith
+diff-neg (pos (suc n)) a b h = omega arith
+diff-neg (negsuc n) a b h = omega arith
+
+pub diff-minus : (y z : ℤ) (a b c d : ℕ) → Diff y a b → Diff z c d → Diff (y -ℤ z) (a + d) (b + c)
+diff-minus y z a b c d h k = diff-sum y (negℤ z) a b d c h (diff-neg z c d k)
+
+pub diff-times : (t : ℕ) (z : ℤ) (a b : ℕ) → Diff z a b → Diff (pos t *ℤ z) (t * a) (t * b)
+diff-times t (pos n) a b h = omega (arith, ap (λ x. t * x) h)
+diff-times t (negsuc n) a b h =
+    again (negℤ (pos (t * suc n))) 0 (t * suc n) (t * a) (t * b)
+    (diff-neg (pos (t * suc n)) (t * suc n) 0 (omega arith)) (omega (arith, ap (λ x. t * x) h))
+
+-- the order, both ways
+pub diff-le : {y z : ℤ} (a b c d : ℕ) → Diff y a b → Diff z c d → y ≤ℤ z → a + d ≤ c + b
+diff-le {y} {z} a b c d h k l = go y z h k (l .le)
+  where
+    go : (y z : ℤ) → Diff y a b → Diff z c d → T (leZ y z) → a + d ≤ c + b
+    go (pos n) (pos m) h k t = let l : n ≤ m = leb→le n m t in omega arith
+    go (pos n) (negsuc m) h k t = absurd t
+    go (negsuc n) (pos m) h k t = omega arith
+    go (negsuc n) (negsuc m) h k t = let l : m ≤ n = leb→le m n t in omega arith
+
+pub le-diff : (y z : ℤ) (a b c d : ℕ) → Diff y a b → Diff z c d → a + d ≤ c + b → y ≤ℤ z
+le-diff (pos n) (pos m) a b c d h k l = record { le = le→leb n m (omega arith) }
+le-diff (pos n) (negsuc m) a b c d h k l = absurd (bad l)
+  where
+    bad : a + d ≤ c + b → ⊥
+    bad l = omega arith
+le-diff (negsuc n) (pos m) a b c d h k l = record { le = tt }
+le-diff (negsuc n) (negsuc m) a b c d h k l = record { le = le→leb m n (omega arith) }
+
+pub lt-diff : (y z : ℤ) (a b c d : ℕ) → Diff y a b → Diff z c d → a + d < c + b → y <ℤ z
+lt-diff (pos n) (pos m) a b c d h k l = record { lt = lt→ltb n m (omega arith) }
+lt-diff (pos n) (negsuc m) a b c d h k l = absurd (bad l)
+  where
+    bad : a + d < c + b → ⊥
+    bad l = omega arith
+lt-diff (negsuc n) (pos m) a b c d h k l = record { lt = tt }
+lt-diff (negsuc n) (negsuc m) a b c d h k l = record { lt = lt→ltb m n (omega arith) }
+
+-- a difference that is not below 0, as a natural number
+pub natural-is : (z : ℤ) (a b n : ℕ) → Diff z a b → n + b ≡ a → natural z ≡ n
+natural-is (pos m) a b n h e = omega arith
+natural-is (negsuc m) a b n h e = absurd (bad h)
+  where
+    bad : suc m + a ≡ b → ⊥
+    bad h = omega arith

@@ -1,0 +1,14 @@
+-- What holds of every list of bytes that is accepted.
+-- Assumes nothing.
+use mathlib.Core.Path.{_≡_}
+use mathlib.Core.List.{List}
+use Prim.Native.Nat.{ℕ}
+use Rattle.model.specs.Reading.{caseOf}
+use Rattle.model.specs.Refusals.{refusal}
+use Rattle.model.specs.Demand3.{Demand3}
+use Rattle.model.proofs.Accepted.{within-limits}
+use Rattle.model.proofs.Demand3Proved.{demand3}
+
+-- demand 3, from the bytes
+pub demand3-of-files : (file : List ℕ) → refusal file ≡ 0 → Demand3 (caseOf file)
+demand3-of-files file h = demand3 (caseOf file) (within-limits file h)

@@ -1,0 +1,94 @@
+-- The growth of a term: in its bracket, its width, and its least value.
+-- Assumes nothing.
+use Rattle.arith.proofs.Rounding.{divide-floor, divide-ceiling, divide-le, le-divide}
+use Prim.Native.Nat.{ℕ, zero, suc, _+_, _*_, _-_, _^_, _/_, _≤_, _<_}
+use mathlib.Core.Path.{_≡_, refl, sym, _∙_, ap}
+use native.Mathlib.Omega.{arith}
+use native.Mathlib.Nat.{mul-le-mul-left, mul-le-mul-right, le-of-mul-le-mul-right, pow-zero, pow-suc, le-dest, mul-pos, one-le-pow}
+use native.Mathlib.Decide.{decLe}
+use Rattle.model.specs.Fraction.{Fraction, _//_, _+ᶠ_, _*ᶠ_, _÷ᶠ_, _^ᶠ_, _≈_}
+use Rattle.model.specs.Curve.{Curve, P}
+use Rattle.model.specs.Exact as Exact
+use Rattle.model.specs.Exact.{G, onePlusR, onePlusUfr, weight, weights}
+use Rattle.arith.specs.Rounding.{End, low, high, other, divide}
+use Rattle.model.specs.Constants.{unit}
+use Rattle.model.specs.Rounded as Rounded
+use Rattle.model.specs.Rounded.{scaled, ufrGrowth}
+use Rattle.model.proofs.Bracket.{Bounded}
+use Rattle.model.proofs.CurveWithin.{CurveWithin}
+use Rattle.model.proofs.Steps.{step, same, scaled-in, scaled-width, wider}
+
+sub-one : (j : ℕ) → suc j - 1 ≡ j
+sub-one j = omega arith
+
+pub G-suc : (c : Curve) (j : ℕ) → G c (suc j) ≡ (onePlusR c (suc j) ^ᶠ suc j) ÷ᶠ (onePlusR c j ^ᶠ j)
+unfolding G
+G-suc c j = rw (sub-one j)
+
+pub growth-suc : (c : Curve) (e : End) (j : ℕ)
+    → Rounded.growth c e (suc j) ≡ divide e (scaled e (P c (suc j)) (P c j) j * P c (suc j)) (c .N)
+unfolding Rounded.growth
+growth-suc c e j = rw (sub-one j)
+
+-- (P ÷ P')^j × P ÷ N is G
+telescope : (p q n j : ℕ) → ((p // q) ^ᶠ j) *ᶠ (p // n) ≈ ((p // n) ^ᶠ suc j) ÷ᶠ ((q // n) ^ᶠ j)
+telescope p q n j = rw (pow-suc p j, pow-suc n j) (omega arith)
+
+pub pow-pos : (a j : ℕ) → 0 < a → 0 < a ^ j
+pow-pos a j h = one-le-pow j a h
+
+pub N-pos : (c : Curve) → CurveWithin c → 0 < c .N
+N-pos c f = omega (arith, f .some)
+
+pub P-pos : (c : Curve) → CurveWithin c → (t : ℕ) → t ≤ 60 → 0 < P c t
+P-pos c f t h = omega (arith, f .some, f .least t h)
+
+pub growth-in : (c : Curve) → CurveWithin c → (e : End) (j : ℕ) → suc j ≤ 60 → Bounded e unit (Rounded.growth c e (suc j)) (G c (suc j))
+growth-in c f e j h =
+    let p : ℕ = P c (suc j) in
+    let q : ℕ = P c j in
+    let hq : 0 < q = P-pos c f j (omega arith) in
+    rw (growth-suc c e j, G-suc c j)
+    (same ((onePlusR c (suc j) ^ᶠ suc j) ÷ᶠ (onePlusR c j ^ᶠ j)) (mul-pos (pow-pos q j hq) (N-pos c f)) (telescope p q (c .N) j)
+    (step p (c .N) (N-pos c f) (scaled-in e p q j hq)))
+
+pub growth-width : (c : Curve) → CurveWithin c → (j : ℕ) → suc j ≤ 60 → Rounded.growth c high (suc j) ≤ Rounded.growth c low (suc j) + (4 * j + 1)
+growth-width c f j h =
+    let p : ℕ = P c (suc j) in
+    let q : ℕ = P c j in
+    let hq : 0 < q = P-pos c f j (omega arith) in
+    let near : 3 * j * p ≤ (3 * j + 2) * q = omega (arith, f .forwardMost j h, f .least (suc j) h, f .least j (omega arith)) in
+    rw (growth-suc c high j, growth-suc c low j)
+    (wider (scaled low p q j) (scaled high p q j) p (c .N) (3 * j) (4 * j) (N-pos c f)
+    (scaled-width p q j hq near j (omega arith))
+    (omega (arith, mul-le-mul-left j (f .most (suc j) h))))
+
+-- the mean of powers: n + 1 scaled a b^n is at most a^(n+1) + n times b^(n+1)
+square : (a b : ℕ) → 2 * (a * b) ≤ a * a + b * b
+square a b = go (decLe a b)
+  where
+    go : Dec (a ≤ b) → 2 * (a * b) ≤ a * a + b * b
+    go (yes h) = let (d, e) = le-dest h in rw (← e) (omega arith)
+    go (no h) = let k : b ≤ a = omega arith in let (d, e) = le-dest k in rw (← e) (omega arith)
+
+pub mean : (a b n : ℕ) → suc n * (a * b ^ n) ≤ a ^ suc n + n * b ^ suc n
+mean a b zero = rw (pow-suc a 0, pow-suc b 0, pow-zero a, pow-zero b) (omega arith)
+mean a b (suc n) =
+    rw (pow-suc a (suc n), pow-suc b (suc n), pow-suc a n, pow-suc b n)
+    (omega (arith, mul-le-mul-right a (rw (pow-suc a n, pow-suc b n) at (mean a b n)), mul-le-mul-right (suc n * b ^ n) (square a b)))
+
+-- a growth is at least the forward rate of linear form, in hundredths of N
+pub forward : (p q r n j : ℕ) → 100 * (j * q) + r * n ≤ 100 * (suc j * p) → r * n * q ^ j ≤ 100 * p ^ suc j
+forward p q r n j h = omega (arith, rw (pow-suc q j) at (mean p q j), mul-le-mul-right (q ^ j) h)
+
+pub growth-least : (c : Curve) → CurveWithin c → (j : ℕ) → suc j ≤ 60 → Bounded low 100 97 (G c (suc j))
+growth-least c f j h =
+    rw (G-suc c j, pow-suc (c .N) j)
+    (omega (arith, mul-le-mul-right (c .N ^ j) (forward (P c (suc j)) (P c j) 97 (c .N) j (f .forwardLeast j h))))
+
+pub G-pos : (c : Curve) → CurveWithin c → (j : ℕ) → suc j ≤ 60 → (0 < G c (suc j) .num) × (0 < G c (suc j) .den)
+G-pos c f j h =
+    rw (G-suc c j) (
+      mul-pos (pow-pos (P c (suc j)) (suc j) (P-pos c f (suc j) h)) (pow-pos (c .N) j (N-pos c f)),
+      mul-pos (pow-pos (c .N) (suc j) (N-pos c f)) (pow-pos (P c j) j (P-pos c f j (omega arith))),
+    )

@@ -1,0 +1,82 @@
+-- Laws of `every` and `table`, and of tests that hold together.
+use mathlib.Core.Path.{_≡_, refl, ap, sym, _∙_, subst}
+use mathlib.Core.Bool.{Bool, true, false, _&&_}
+use mathlib.Core.Logic.{⊎-elim}
+use mathlib.Core.List.{List, [], _∷_, _++_, map}
+use Prim.Native.Nat.{ℕ, zero, suc, _<_}
+use native.Mathlib.Nat.{not-suc-le-zero, le-of-suc-le-suc, eq-or-lt-of-le, le-refl}
+use native.Mathlib.Omega.{arith}
+use lib.Dec.{T}
+use lib.ListN.{length, getD, length-append, List·getD-append}
+use lib.Seq.{getD-at}
+use Rattle.model.specs.Numbers.{every, table}
+
+-- a pair, written between its parts
+infixr 2 _also_
+pub _also_ : {A B : Type 0} → A → B → A × B
+a also b = (a, b)
+
+pub and-first : (a b : Bool) → (a && b) ≡ true → a ≡ true
+and-first true b h = refl
+and-first false b h = h
+
+pub and-second : (a b : Bool) → (a && b) ≡ true → b ≡ true
+and-second true b h = h
+and-second false b h = absurd (subst T (sym h) tt)
+
+pub and-both : (a b : Bool) → a ≡ true → b ≡ true → (a && b) ≡ true
+and-both a b h k = rw h k
+
+-- a test of each index below n holds of one of them, and conversely
+pub every-at : (test : ℕ → Bool) (n i : ℕ) → every test n ≡ true → i < n → test i ≡ true
+unfolding every
+every-at test zero i h l = absurd (not-suc-le-zero l)
+every-at test (suc n) i h l =
+    ⊎-elim (λ e. subst (λ (k : ℕ). test k ≡ true) (sym e) (and-second (every test n) (test n) h))
+    (λ k. every-at test n i (and-first (every test n) (test n) h) k)
+    (eq-or-lt-of-le (le-of-suc-le-suc l))
+
+pub every-all : (test : ℕ → Bool) (n : ℕ) → ((i : ℕ) → i < n → test i ≡ true) → every test n ≡ true
+unfolding every
+every-all test zero h = refl
+every-all test (suc n) h = and-both (every test n) (test n) (every-all test n (λ i l. h i (omega arith))) (h n (le-refl (suc n)))
+
+module _ {A : Type 0} where
+  pub length-table : (f : ℕ → A) (n : ℕ) → length (table f n) ≡ n
+  unfolding table
+  length-table f zero = refl
+  length-table f (suc n) = length-append (table f n) (f n ∷ []) ∙ (let e = length-table f n in omega arith)
+
+  pub getD-table : (f : ℕ → A) (n i : ℕ) (d : A) → i < n → getD (table f n) i d ≡ f i
+  unfolding table
+  getD-table f zero i d l = absurd (not-suc-le-zero l)
+  getD-table f (suc n) i d l =
+      ⊎-elim (λ e. getD-at (table f n) (f n) [] d i (length-table f n ∙ sym e) ∙ ap f (sym e))
+      (λ k. List·getD-append (table f n) (f n ∷ []) d i (subst (λ (m : ℕ). i < m) (sym (length-table f n)) k) ∙ getD-table f n i d k)
+      (eq-or-lt-of-le (le-of-suc-le-suc l))
+
+  pub table-none : (f : ℕ → A) → table f 0 ≡ []
+  unfolding table
+  table-none f = refl
+
+  -- the first value apart
+  pub table-first : (f : ℕ → A) (n : ℕ) → table f (suc n) ≡ f 0 ∷ table (λ i. f (suc i)) n
+  unfolding table
+  table-first f zero = refl
+  table-first f (suc n) = ap (λ l. l ++ (f (suc n) ∷ [])) (table-first f n)
+
+  -- tables of the same values
+  pub table-same : (f g : ℕ → A) (n : ℕ) → ((i : ℕ) → f i ≡ g i) → table f n ≡ table g n
+  unfolding table
+  table-same f g zero h = refl
+  table-same f g (suc n) h = rw (table-same f g n h, h n)
+
+module _ {A B : Type 0} (g : A → B) where
+  map-append : (xs : List A) (x : A) → map g (xs ++ (x ∷ [])) ≡ map g xs ++ (g x ∷ [])
+  map-append [] x = refl
+  map-append (y ∷ xs) x = ap (λ l. g y ∷ l) (map-append xs x)
+
+  pub map-table : (f : ℕ → A) (n : ℕ) → map g (table f n) ≡ table (λ i. g (f i)) n
+  unfolding table
+  map-table f zero = refl
+  map-table f (suc n) = map-append (table f n) (f n) ∙ ap (λ l. l ++ (g (f n) ∷ [])) (map-table f n)

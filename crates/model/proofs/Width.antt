@@ -1,0 +1,174 @@
+-- The bracket of factor t is at most 4 × t × t units wide.
+-- Assumes nothing.
+use Rattle.arith.proofs.Rounding.{divide-floor, divide-ceiling, divide-le, le-divide}
+use Prim.Native.Nat.{ℕ, zero, suc, _+_, _*_, _-_, _^_, _/_, _≤_, _<_}
+use mathlib.Core.Path.{_≡_, refl, sym, _∙_, ap}
+use mathlib.Core.Bool.{Bool, true, false, not}
+use lib.Dec.{T, leb, leb→le}
+use native.Mathlib.Omega.{arith}
+use native.Mathlib.Nat.{
+  add-suc,
+  le-trans,
+  le-dest,
+  mul-le-mul,
+  mul-le-mul-left,
+  mul-le-mul-right,
+  mul-lt-mul-of-pos-right,
+  le-of-mul-le-mul-right,
+  lt-of-mul-lt-mul-right,
+  mul-pos,
+}
+use native.Mathlib.Decide.{decLe}
+use Rattle.model.specs.Fraction.{Fraction, _//_, _+ᶠ_, _*ᶠ_, _÷ᶠ_, _^ᶠ_, _≈_}
+use Rattle.model.specs.Curve.{Curve, P}
+use Rattle.model.specs.Exact as Exact
+use Rattle.model.specs.Exact.{G, onePlusR, onePlusUfr, weight, weights}
+use Rattle.arith.specs.Rounding.{End, low, high, other, divide}
+use Rattle.model.specs.Constants.{unit}
+use Rattle.model.specs.Rounded as Rounded
+use Rattle.model.specs.Rounded.{scaled, ufrGrowth}
+use Rattle.model.proofs.Bracket.{Bounded}
+use Rattle.model.proofs.CurveWithin.{CurveWithin}
+use Rattle.model.proofs.Steps.{wider, scaled-width, ends}
+use Rattle.model.proofs.Growth.{growth-width, P-pos}
+use Rattle.model.proofs.Factor.{least, weighed-least, weighed-mixed, weighed-ufr, weighed-pos, weighed-in, adjusted-pos, rfactor-first, rfactor-next}
+use Rattle.model.proofs.Conditions.{below, at}
+
+-- to 20
+pub scaled-most : (a b p q j : ℕ) → 0 < b → 0 < q → a * q ≤ p * b → scaled high a b j ≤ scaled high p q j
+unfolding scaled
+scaled-most a b p q zero h k l = omega arith
+scaled-most a b p q (suc j) h k l =
+    let x : ℕ = scaled high a b j in
+    let y : ℕ = scaled high p q j in
+    let r : ℕ = divide high (y * p) q in
+    let ih : x ≤ y = scaled-most a b p q j h k l in
+    divide-le high (x * a) b r h
+    (le-of-mul-le-mul-right {m = x * a} {n = r * b}
+    (omega (arith, mul-le-mul-right (a * q) ih, mul-le-mul-left y l, mul-le-mul-right b (divide-ceiling (y * p) q k .0))) k)
+
+-- one crosswise division
+pub crosswise : (lo hi gl gh W v H A H′ a b : ℕ) → 0 < A → A ≤ gl → gl ≤ gh → gh ≤ gl + v → hi ≤ lo + W → hi ≤ H
+    → W * unit ≤ a * A → H * unit ≤ H′ * A → H′ * v ≤ b * A
+    → (divide high (hi * unit) gl ≤ H′) × (divide high (hi * unit) gl ≤ divide low (lo * unit) gh + (a + b + 1))
+crosswise lo hi gl gh W v H A H′ a b hA k1 k2 k3 k4 k5 l1 l2 l3 =
+    let p : ℕ = divide low (lo * unit) gh in
+    let q : ℕ = divide high (hi * unit) gl in
+    let hl : 0 < gl = omega arith in
+    let hh : 0 < gh = omega arith in
+    let f0 : hi * unit ≤ H′ * gl = omega (arith, mul-le-mul-left H′ k1) in
+    let u : q * gl * gh < (hi * unit + gl) * gh = mul-lt-mul-of-pos-right (divide-ceiling (hi * unit) gl hl .1) hh in
+    let f1 : hi * unit * gh ≤ hi * unit * (gl + v) = mul-le-mul-left (hi * unit) k3 in
+    let f2 : hi * (unit * gl) ≤ (lo + W) * (unit * gl) = mul-le-mul-right (unit * gl) k4 in
+    let f3 : lo * unit * gl ≤ (p * gh + gh) * gl = mul-le-mul-right gl (omega (arith, divide-floor (lo * unit) gh hh)) in
+    let f4 : W * unit * gl ≤ a * gh * gl = mul-le-mul-right gl (omega (arith, mul-le-mul-left a k1, mul-le-mul-left a k2)) in
+    let g1 : hi * unit * v ≤ H′ * A * v = mul-le-mul-right v (omega arith) in
+    let g2 : A * (H′ * v) ≤ A * (b * A) = mul-le-mul-left A l3 in
+    let g3 : b * (A * A) ≤ b * (gl * gh) = mul-le-mul-left b (mul-le-mul k1 (omega arith)) in
+    let m : q < p + (a + b + 2) = lt-of-mul-lt-mul-right (gl * gh) (omega (arith, u, f1, f2, f3, f4, g1, g2, g3)) in
+    (divide-le high (hi * unit) gl H′ hl f0, omega arith)
+
+-- Numbers that no file passes, at term 20 + j: the width of the growth of term t, the upper factor, the factor's width.
+unfoldable pub growthMost : ℕ → ℕ
+growthMost t = divide high ((1000 - weight t) * (4 * t)) 1000 + 1
+
+unfoldable pub factorMost : ℕ → ℕ
+factorMost zero = scaled high 100 98 20
+factorMost (suc j) = divide high (factorMost j * unit) (least (suc (20 + j)))
+
+unfoldable pub widthMost : ℕ → ℕ
+widthMost zero = 60
+widthMost (suc j) =
+    divide high (widthMost j * unit) (least (suc (20 + j)))
+    + divide high (factorMost (suc j) * growthMost (suc (20 + j))) (least (suc (20 + j))) + 1
+
+abbrev square : ℕ → Bool
+square j = leb (widthMost j) (4 * (20 + j) * (20 + j))
+
+narrow : T (below square 41)
+unfolding below widthMost factorMost growthMost divide scaled weight weights
+narrow = tt
+
+pub weighed-width : (c : Curve) → CurveWithin c → (j : ℕ) → suc j ≤ 60 → Rounded.weighed c high (suc j) ≤ Rounded.weighed c low (suc j) + growthMost (suc j)
+unfolding growthMost
+weighed-width c f j h = rw (weighed-mixed c high (suc j) h, weighed-mixed c low (suc j) h)
+    (mix (1000 - weight (suc j)) (weight (suc j)) (Rounded.growth c low (suc j)) (Rounded.growth c high (suc j)) (c .ufr) (omega (arith, growth-width c f j h)))
+  where
+    mix : (k l x y u : ℕ) → y ≤ x + 4 * suc j
+        → divide high (k * y + l * (unit + u * 10 ^ 7)) 1000 ≤ divide low (k * x + l * (unit + u * 10 ^ 7)) 1000 + (divide high (k * (4 * suc j)) 1000 + 1)
+    mix k l x y u m =
+        omega (
+          arith,
+          mul-le-mul-left k m,
+          divide-ceiling (k * y + l * (unit + u * 10 ^ 7)) 1000 (omega arith),
+          divide-floor (k * x + l * (unit + u * 10 ^ 7)) 1000 (omega arith),
+          divide-ceiling (k * (4 * suc j)) 1000 (omega arith),
+        )
+
+pub middle : (c : Curve) → CurveWithin c → (j : ℕ) → j ≤ 40
+    → (Rounded.factor c high (20 + j) ≤ factorMost j) × (Rounded.factor c high (20 + j) ≤ Rounded.factor c low (20 + j) + widthMost j)
+unfolding factorMost widthMost
+middle c f zero h =
+    rw (rfactor-first c high 19 (omega arith), rfactor-first c low 19 (omega arith)) (
+      scaled-most (c .N) (P c 20) 100 98 20 hp (omega arith) (omega (arith, hl)),
+      scaled-width (c .N) (P c 20) 20 hp (omega (arith, hl)) 20 (omega arith),
+    )
+  where
+    hl : 98 * c .N ≤ 100 * P c 20
+    hl = f .least 20 (omega arith)
+
+    hp : 0 < P c 20
+    hp = P-pos c f 20 (omega arith)
+middle c f (suc j) h =
+    let i : ℕ = 20 + j in
+    let ih = middle c f j (omega arith) in
+    let m : 20 < suc i = omega arith in
+    let k : suc i ≤ 60 = omega arith in
+    let A : ℕ = least (suc i) in
+    let hA : 0 < A = omega arith in
+    rw (add-suc 20 j, rfactor-next c high i m, rfactor-next c low i m)
+    (crosswise (Rounded.factor c low i) (Rounded.factor c high i) (Rounded.weighed c low (suc i)) (Rounded.weighed c high (suc i))
+    (widthMost j) (growthMost (suc i)) (factorMost j) A
+    (divide high (factorMost j * unit) A)
+    (divide high (widthMost j * unit) A)
+    (divide high (divide high (factorMost j * unit) A * growthMost (suc i)) A)
+    hA (weighed-least c f i k)
+    (ends (adjusted-pos c f i .1) (weighed-in c f low i m) (weighed-in c f high i m))
+    (weighed-width c f i k) (ih .1) (ih .0)
+    (divide-ceiling (widthMost j * unit) A hA .0) (divide-ceiling (factorMost j * unit) A hA .0)
+    (divide-ceiling (divide high (factorMost j * unit) A * growthMost (suc i)) A hA .0))
+
+-- from 61 the width grows by at most one a year
+late : (c : Curve) → CurveWithin c → (i : ℕ) → Rounded.factor c high (60 + i) ≤ Rounded.factor c low (60 + i) + (14400 + i)
+late c f zero = omega (arith, middle c f 40 (omega arith) .1, leb→le (widthMost 40) 14400 (at square 41 narrow 40 (omega arith)))
+late c f (suc i) =
+    let m : 20 < suc (60 + i) = omega arith in
+    let k : 60 < suc (60 + i) = omega arith in
+    rw (add-suc 60 i, rfactor-next c high (60 + i) m, rfactor-next c low (60 + i) m, weighed-ufr c low (suc (60 + i)) k, weighed-ufr c high (suc (60 + i)) k)
+    (omega (
+      arith,
+      wider (Rounded.factor c low (60 + i)) (Rounded.factor c high (60 + i)) unit (ufrGrowth c) (14400 + i) (14400 + i) (omega arith) (late c f i)
+          (mul-le-mul-left (14400 + i) (omega arith)),
+    ))
+
+pub factor-width : (c : Curve) → CurveWithin c → (t : ℕ) → Rounded.factor c high t ≤ Rounded.factor c low t + 4 * t * t
+factor-width c f t = go (decLe t 20) (decLe t 60)
+  where
+    first : (t : ℕ) → t ≤ 20 → Rounded.factor c high t ≤ Rounded.factor c low t + 4 * t * t
+    first zero h = unfold Rounded.factor in (omega arith)
+    first (suc j) h =
+        let hl : 98 * c .N ≤ 100 * P c (suc j) = f .least (suc j) (omega arith) in
+        let x : ℕ = P c (suc j) in
+        rw (rfactor-first c high j h, rfactor-first c low j h)
+        (omega (arith, scaled-width (c .N) x 20 (P-pos c f (suc j) (omega arith)) (omega (arith, hl)) (suc j) h))
+
+    go : Dec (t ≤ 20) → Dec (t ≤ 60) → Rounded.factor c high t ≤ Rounded.factor c low t + 4 * t * t
+    go (yes h) k = first t h
+    go (no h) (yes k) =
+        let l : 20 ≤ t = omega arith in
+        let (j, e) = le-dest l in
+        rw (← e) (omega (arith, middle c f j (omega arith) .1, leb→le (widthMost j) (4 * (20 + j) * (20 + j)) (at square 41 narrow j (omega arith))))
+    go (no h) (no k) =
+        let l : 60 ≤ t = omega arith in
+        let (i, e) = le-dest l in
+        rw (← e) (omega (arith, late c f i))

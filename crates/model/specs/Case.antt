@@ -1,0 +1,48 @@
+-- A case: what one case file says (document 01, 'The case file'), and the form in which the engine holds it.
+use Prim.Native.Nat.{ℕ, zero, suc, _+_, _-_}
+use mathlib.Core.List.{List, [], _∷_, _++_}
+use lib.ListN.{length, getD, replicate}
+use lib.IntN.{ℤ, pos, _+ℤ_}
+use Rattle.model.specs.Constants.{defaultUfr}
+use Rattle.model.specs.declared.case.Amounts.{Amounts}
+use Rattle.model.specs.declared.case.Shocks.{Shocks}
+use Rattle.model.specs.declared.case.People.{People}
+use Rattle.model.specs.declared.case.Case.{Case}
+
+-- The paper's case. A day is its 60 zero rates of terms 1 to 60, in steps, and n, m and k are the lengths of the three lists.
+-- Amounts, shocks and people are named in the structs of src/case.rt.
+pub record FileCase : Type 0 where
+  pub ufr : ℕ
+  pub days : List (List ℤ)
+  pub pension : List ℕ
+  pub bonds : List ℕ
+  pub amounts : Amounts
+  pub shocks : Shocks
+  pub people : People
+
+-- "Absent: all zero."
+abbrev pub noAmounts : Amounts
+noAmounts = record {
+  mature = 0;
+  emerging = 0;
+  private = 0;
+  property = 0;
+  commodities = 0;
+  credit = 0;
+  cash = 0;
+  currency = 0;
+}
+
+-- "s(t) the sum of term t's rates over the days and s(0) = 0"
+unfoldable pub s : List (List ℤ) → ℕ → ℤ
+s days zero = pos 0
+s [] (suc t) = pos 0
+s (day ∷ days) (suc t) = getD day t (pos 0) +ℤ s days (suc t)
+
+-- "all amounts except currency exposure"
+abbrev pub allExceptCurrency : Amounts → ℕ
+allExceptCurrency a = a .mature + a .emerging + a .private + a .property + a .commodities + a .credit + a .cash
+
+-- the months by which the pension age exceeds the mean age; 0 if it does not
+abbrev pub ageGap : People → ℕ
+ageGap p = p .«pension_age» - p .«mean_age»

@@ -1,0 +1,41 @@
+-- The curve that a case is valued on: the base curve, and the up and the down curve (document 01, 'The exact working' and 'The rounded
+-- working', whose curves are those of the DNB note of 2012, source document 001, step 2: the mean over the days).
+use Prim.Native.Nat.{ℕ, zero, suc, _*_}
+use lib.ListN.{length}
+use lib.IntN.{ℤ, pos, negsuc, negℤ, _+ℤ_, _*ℤ_}
+use Rattle.model.specs.Constants.{stepsPerOne}
+use Rattle.model.specs.Case.{FileCase, s}
+
+-- N, the sums s(t) as integers, and the UFR in steps: the mean rate R(t) is s(t) ÷ N
+pub record Curve : Type 0 where
+  pub N : ℕ
+  pub sum : ℕ → ℤ
+  pub ufr : ℕ
+
+pub data Move : Type 0 where
+  base up down : Move
+
+-- the shift of a curve in steps
+abbrev pub shift : FileCase → Move → ℤ
+shift k base = pos 0
+shift k up = pos (k .shocks .«up_shift»)
+shift k down = negℤ (pos (k .shocks .«down_shift»))
+
+-- "Up and down curves add the shift to, or take it from, every mean rate at terms 1 to 60": to the sum over n days n × shift, and
+-- s(0) stays 0
+unfoldable pub movedSum : FileCase → Move → ℕ → ℤ
+movedSum k m zero = pos 0
+movedSum k m (suc t) = s (k .days) (suc t) +ℤ pos (length (k .days)) *ℤ shift k m
+
+-- "N = 100,000 × n"; "with the same UFR"
+unfoldable pub curve : FileCase → Move → Curve
+curve k m = record { N = stepsPerOne * length (k .days); sum = movedSum k m; ufr = k .ufr }
+
+-- an integer as a natural number, and 0 below 0, which on an accepted file no N + s(t) is
+abbrev pub natural : ℤ → ℕ
+natural (pos n) = n
+natural (negsuc n) = 0
+
+-- "P(t) = N + s(t)": 1 + R(t) is P(t) ÷ N
+unfoldable pub P : Curve → ℕ → ℕ
+P c t = natural (pos (c .N) +ℤ c .sum t)

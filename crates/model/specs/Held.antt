@@ -1,0 +1,56 @@
+-- The case as the engine holds it: the struct of src/case.rt that stands for a case of document 01.
+use Prim.Native.Nat.{ℕ, suc}
+use mathlib.Core.List.{List}
+use lib.ListN.{length, getD, replicate}
+use Rattle.model.specs.Constants.{defaultUfr}
+use Rattle.model.specs.Numbers.{table}
+use Rattle.model.specs.Case.{FileCase, noAmounts}
+use Rattle.model.specs.Curve.{base, curve, P}
+use Rattle.model.specs.declared.case.Case.{Case}
+
+-- the n first of a list, with zeros behind its last
+abbrev pub padded : ℕ → List ℕ → List ℕ
+padded n xs = table (λ i. getD xs i 0) n
+
+-- of the days, their number and P(t) of the terms 1 to 60; of the flows, their number and room for the most that there can be
+unfoldable pub held : FileCase → Case
+held k = record {
+  ufr = k .ufr;
+  days = length (k .days);
+  sums = table (λ i. P (curve k base) (suc i)) 60;
+  «pension_count» = length (k .pension);
+  pension = padded 120 (k .pension);
+  «bond_count» = length (k .bonds);
+  bonds = padded 60 (k .bonds);
+  amounts = k .amounts;
+  shocks = k .shocks;
+  people = k .people;
+}
+
+-- the default case: the UFR of a file without that field, no bonds and no amounts, as a file that lacks them has, and all else 0
+unfoldable pub defaultCase : Case
+defaultCase = record {
+  ufr = defaultUfr;
+  days = 0;
+  sums = replicate 60 0;
+  «pension_count» = 0;
+  pension = replicate 120 0;
+  «bond_count» = 0;
+  bonds = replicate 60 0;
+  amounts = noAmounts;
+  shocks = record {
+    «up_shift» = 0;
+    «down_shift» = 0;
+    «mature_fall» = 0;
+    «emerging_fall» = 0;
+    «private_fall» = 0;
+    «property_fall» = 0;
+    «currency_fall» = 0;
+    «commodities_fall» = 0;
+    «spread_rise» = 0;
+    correlation = 0;
+    spread = 0;
+    duration = 0;
+  };
+  people = record { heads = 0; «pension_age» = 0; «mean_age» = 0 };
+}

@@ -1,0 +1,112 @@
+// The case as the engine holds it: of the days it keeps their number and the sums of each term.
+ghost use mathlib.Core.Path.{_≡_};
+ghost use Rattle.model.specs.Held.{defaultCase};
+
+// Amounts in euros.
+pub struct Amounts {
+    pub mature: u64,
+    pub emerging: u64,
+    pub private: u64,
+    pub property: u64,
+    pub commodities: u64,
+    pub credit: u64,
+    pub cash: u64,
+    pub currency: u64,
+}
+
+// Shifts and spread in rate steps, falls, spread rise and correlation in thousandths, the duration
+// in tenths of a year.
+pub struct Shocks {
+    pub up_shift: u64,
+    pub down_shift: u64,
+    pub mature_fall: u64,
+    pub emerging_fall: u64,
+    pub private_fall: u64,
+    pub property_fall: u64,
+    pub currency_fall: u64,
+    pub commodities_fall: u64,
+    pub spread_rise: u64,
+    pub correlation: u64,
+    pub spread: u64,
+    pub duration: u64,
+}
+
+// The head count, and the ages in months.
+pub struct People {
+    pub heads: u64,
+    pub pension_age: u64,
+    pub mean_age: u64,
+}
+
+// `sums` has P(t) of the terms 1 to 60: over the days, the sum of 100,000 and the rate in steps.
+// Of `pension` and `bonds` the first `pension_count` and `bond_count` are flows, and the rest is 0.
+pub struct Case {
+    pub ufr: u64,
+    pub days: u64,
+    pub sums: [u64; 60],
+    pub pension_count: usize,
+    pub pension: [u64; 120],
+    pub bond_count: usize,
+    pub bonds: [u64; 60],
+    pub amounts: Amounts,
+    pub shocks: Shocks,
+    pub people: People,
+}
+
+impl Case {
+    // The UFR of a file without that field.
+    pub const DEFAULT_UFR: u64 = 4_200;
+
+    // So many rate steps are 1.
+    pub const STEPS_PER_ONE: u64 = 100_000;
+
+    // So many units of a factor or a growth are 1.
+    pub const UNIT: u64 = 1_000_000_000_000;
+
+    // The case of which nothing is said.
+    pub fn default() -> Case
+        ensures { λ r. ⌜ r ≡ defaultCase ⌝ }
+    {
+        let amounts = Amounts {
+            mature: 0,
+            emerging: 0,
+            private: 0,
+            property: 0,
+            commodities: 0,
+            credit: 0,
+            cash: 0,
+            currency: 0,
+        };
+        let shocks = Shocks {
+            up_shift: 0,
+            down_shift: 0,
+            mature_fall: 0,
+            emerging_fall: 0,
+            private_fall: 0,
+            property_fall: 0,
+            currency_fall: 0,
+            commodities_fall: 0,
+            spread_rise: 0,
+            correlation: 0,
+            spread: 0,
+            duration: 0,
+        };
+        let people = People {
+            heads: 0,
+            pension_age: 0,
+            mean_age: 0,
+        };
+        Case {
+            ufr: Case::DEFAULT_UFR,
+            days: 0,
+            sums: [0; 60],
+            pension_count: 0,
+            pension: [0; 120],
+            bond_count: 0,
+            bonds: [0; 60],
+            amounts,
+            shocks,
+            people,
+        }
+    }
+}

@@ -27,3 +27,4 @@ pub mod MoneySizes
 pub mod Verdicts
 pub mod Demand3Proved
 pub mod Files
+pub mod Entries

@@ -49,29 +49,29 @@ lt-square p q h = omega (arith, mul-le-mul h h)
 
 -- what the rounded verdict is, by the comparisons of the ends
 module _ (A L S : End → ℕ) where
-  judge-d : 20 * A high < 21 * L low → Rounded.judge A L S ≡ Dekkingstekort
+  pub judge-d : 20 * A high < 21 * L low → Rounded.judge A L S ≡ Dekkingstekort
   unfolding Rounded.judge
   judge-d h = cond-le (suc (20 * A high)) (21 * L low) _ _ h
 
   module _ (h : 21 * L low ≤ 20 * A high) where
-    judge-first : 20 * A low < 21 * L high → Rounded.judge A L S ≡ Onbeslist
+    pub judge-first : 20 * A low < 21 * L high → Rounded.judge A L S ≡ Onbeslist
     unfolding Rounded.judge
     judge-first k = cond-gt (suc (20 * A high)) (21 * L low) _ _ (omega arith) ∙ cond-gt (21 * L high) (20 * A low) _ _ k
 
     module _ (k : 21 * L high ≤ 20 * A low) where
-      judge-r : A high < L low + S low → Rounded.judge A L S ≡ Reservetekort
+      pub judge-r : A high < L low + S low → Rounded.judge A L S ≡ Reservetekort
       unfolding Rounded.judge
       judge-r m =
           cond-gt (suc (20 * A high)) (21 * L low) _ _ (omega arith) ∙ cond-le (21 * L high) (20 * A low) _ _ k
           ∙ cond-le (suc (A high)) (L low + S low) _ _ m
 
-      judge-v : L low + S low ≤ A high → L high + S high ≤ A low → Rounded.judge A L S ≡ VrijVermogen
+      pub judge-v : L low + S low ≤ A high → L high + S high ≤ A low → Rounded.judge A L S ≡ VrijVermogen
       unfolding Rounded.judge
       judge-v m n =
           cond-gt (suc (20 * A high)) (21 * L low) _ _ (omega arith) ∙ cond-le (21 * L high) (20 * A low) _ _ k
           ∙ cond-gt (suc (A high)) (L low + S low) _ _ (omega arith) ∙ cond-le (L high + S high) (A low) _ _ n
 
-      judge-second : L low + S low ≤ A high → A low < L high + S high → Rounded.judge A L S ≡ Onbeslist
+      pub judge-second : L low + S low ≤ A high → A low < L high + S high → Rounded.judge A L S ≡ Onbeslist
       unfolding Rounded.judge
       judge-second m n =
           cond-gt (suc (20 * A high)) (21 * L low) _ _ (omega arith) ∙ cond-le (21 * L high) (20 * A low) _ _ k

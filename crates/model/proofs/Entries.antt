@@ -1,0 +1,49 @@
+-- What stands where in entries lower, upper, term by term.
+-- Assumes nothing.
+use Prim.Native.Nat.{ℕ, zero, suc, _+_, _*_, _≤_, _<_}
+use mathlib.Core.Path.{_≡_, refl, ap, sym, _∙_}
+use mathlib.Core.List.{List, [], _∷_, _++_}
+use mathlib.Core.Logic.{_⊎_, inl, inr}
+use native.Mathlib.Omega.{arith}
+use native.Mathlib.Nat.{not-suc-le-zero, le-of-suc-le-suc, eq-or-lt-of-le}
+use lib.ListN.{length, getD, length-append, List·getD-append}
+use lib.Seq.{getD-append-add}
+use Rattle.arith.specs.Rounding.{End, low, high}
+use Rattle.model.specs.Buffers.{byTerm}
+
+module _ {A : Type 0} (f : End → ℕ → A) where
+  pub length-byTerm : (n : ℕ) → length (byTerm f n) ≡ 2 * n
+  unfolding byTerm
+  length-byTerm zero = refl
+  length-byTerm (suc n) =
+      length-append (byTerm f n) (f low (suc n) ∷ f high (suc n) ∷ []) ∙ (let e = length-byTerm n in omega arith)
+
+  -- the last two
+  at-last : (n i : ℕ) (d : A) → getD (byTerm f n ++ (f low (suc n) ∷ f high (suc n) ∷ [])) (2 * n + i) d ≡ getD (f low (suc n) ∷ f high (suc n) ∷ []) i d
+  at-last n i d =
+      let e = length-byTerm n in
+      ap (λ (k : ℕ). getD (byTerm f n ++ (f low (suc n) ∷ f high (suc n) ∷ [])) (k + i) d) (sym e)
+      ∙ getD-append-add (byTerm f n) (f low (suc n) ∷ f high (suc n) ∷ []) i d
+
+  -- the entries of term t + 1
+  pub lower-entry : (n t : ℕ) (d : A) → t < n → getD (byTerm f n) (2 * t) d ≡ f low (suc t)
+  unfolding byTerm
+  lower-entry zero t d h = absurd (not-suc-le-zero h)
+  lower-entry (suc n) t d h = go (eq-or-lt-of-le (le-of-suc-le-suc h)) (lower-entry n t d)
+    where
+      go : (t ≡ n) ⊎ (t < n) → (t < n → getD (byTerm f n) (2 * t) d ≡ f low (suc t))
+          → getD (byTerm f n ++ (f low (suc n) ∷ f high (suc n) ∷ [])) (2 * t) d ≡ f low (suc t)
+      go (inl e) ih = let z : 2 * n ≡ 2 * n + 0 = omega arith in rw (e, z) (at-last n 0 d)
+      go (inr l) ih =
+          List·getD-append (byTerm f n) (f low (suc n) ∷ f high (suc n) ∷ []) d (2 * t) (let e = length-byTerm n in omega arith) ∙ ih l
+
+  pub upper-entry : (n t : ℕ) (d : A) → t < n → getD (byTerm f n) (2 * t + 1) d ≡ f high (suc t)
+  unfolding byTerm
+  upper-entry zero t d h = absurd (not-suc-le-zero h)
+  upper-entry (suc n) t d h = go (eq-or-lt-of-le (le-of-suc-le-suc h)) (upper-entry n t d)
+    where
+      go : (t ≡ n) ⊎ (t < n) → (t < n → getD (byTerm f n) (2 * t + 1) d ≡ f high (suc t))
+          → getD (byTerm f n ++ (f low (suc n) ∷ f high (suc n) ∷ [])) (2 * t + 1) d ≡ f high (suc t)
+      go (inl e) ih = rw e (at-last n 1 d)
+      go (inr l) ih =
+          List·getD-append (byTerm f n) (f low (suc n) ∷ f high (suc n) ∷ []) d (2 * t + 1) (let e = length-byTerm n in omega arith) ∙ ih l

@@ -1,14 +1,9 @@
-"""Case files for the tests: three fixed ones, whose numbers this program prints as JSON, and random ones.
+"""Cases for the tests: three fixed ones, whose numbers tests/pinned.py writes down, and random ones."""
 
-Command line: python3 tests/examples.py
-"""
-
-import json
-from dataclasses import asdict, replace
-from unittest import mock
+from dataclasses import replace
 
 import reference
-from reference import AMOUNTS, LOWER, MONEY, SHOCK_LIMITS, SHOCKS, UPPER, Case, Exact, Rounded, encode
+from reference import AMOUNTS, LOWER, SHOCK_LIMITS, SHOCKS, Case, Rounded
 
 
 def flat(*rates):
@@ -24,7 +19,7 @@ def c1(**changes):
     return replace(case, **changes)
 
 
-# ---------------------------------------------------------------- three fixed files
+# ---------------------------------------------------------------- three fixed cases
 
 def bent():
     """Three days that rise, fall, rise and fall with the term; the short rates are negative."""
@@ -79,113 +74,6 @@ def down():
         heads=4_321, pension_age=816, mean_age=577)
 
 
-# ---------------------------------------------------------------- wrong edits
-
-def figures(rounded, *names):
-    return {name: list(getattr(rounded, name)) for name in names}
-
-
-def swapped(values, one, other):
-    return values | {one: values[other], other: values[one]}
-
-
-RIGHT_POINTS = reference.points
-
-
-def plain_shift_points(case, shift=0):
-    """The points with the shift not multiplied by n."""
-    N, P = RIGHT_POINTS(case)
-    return N, [p + shift for p in P]
-
-
-def told_apart(case):
-    """{edit: [right, wrong]} for the wrong edits that show on this fund."""
-    right = Rounded(case)
-    amounts, shocks = case.amounts, case.shocks
-    edits = {}
-
-    def edit(name, good, bad):
-        assert good != bad, name
-        edits[name] = [good, bad]
-
-    def edit_case(name, wrong_case, *names):
-        edit(name, figures(right, *names), figures(Rounded(wrong_case), *names))
-
-    def moved(cents):
-        return {"A": [end + cents for end in right.A]}
-
-    with mock.patch.dict(reference.WEIGHTS, {60: 999}):
-        edit("weight of term 60 = 999", {"factor 60": list(right.factors[60])},
-             {"factor 60": list(reference.rounded_factors(case)[60])})
-    edit("A without credit", moved(0), moved(-100 * amounts["credit"]))
-    edit("A plus currency exposure", moved(0), moved(100 * amounts["currency"]))
-    edit_case("equity thousandths of mature and emerging swapped",
-              replace(case, shocks=swapped(shocks, "mature_fall", "emerging_fall")), "S2")
-    edit_case("property left out of S2", replace(case, shocks=shocks | {"property_fall": 0}), "S2")
-    with mock.patch.object(reference, "points", plain_shift_points):
-        edit_case("shift not multiplied by n", case, "S1")
-    # The curve that decides is the one whose absence shows.
-    decides = max(right.falls, key=lambda name: right.falls[name])
-    others = [fall for name, fall in right.falls.items() if name != decides]
-    edit(f"no {decides} curve", {"S1": list(right.S1)}, {"S1": list(reference.rounded_S1(others))})
-    Q = {"WL": right.WL - 2 * len(case.pension), "WB": right.WB - 2 * len(case.bonds)}
-    edit("W = 3m + Q", {"WL": right.WL, "WB": right.WB},
-         {"WL": 3 * len(case.pension) + Q["WL"], "WB": 3 * len(case.bonds) + Q["WB"]})
-    hundredfold = lambda flows: 2 * len(flows) + reference.divide(
-        sum(400 * t * t * flow for t, flow in enumerate(flows, 1)), 10 ** 10, UPPER)
-    edit("W with 400 t t", {"WL": right.WL, "WB": right.WB},
-         {"WL": hundredfold(case.pension), "WB": hundredfold(case.bonds)})
-    edit_case("currency and commodities shocks swapped",
-              replace(case, shocks=swapped(shocks, "currency_fall", "commodities_fall")), "S3", "S4")
-    edit_case("credit read from cash", replace(case, amounts=amounts | {"credit": amounts["cash"]}), "S5", "A")
-    if right.S5[UPPER] > 100 * amounts["credit"]:
-        edit("S5 capped at the credit", {"S5": list(right.S5)},
-             {"S5": [min(end, 100 * amounts["credit"]) for end in right.S5]})
-    return edits
-
-
-# ---------------------------------------------------------------- their numbers
-
-def file_numbers(data, case):
-    assert reference.read(data) == case
-    assert reference.demand3(case) == []
-    offset, length = reference.rates_part(data)
-    return {"bytes": data.hex(), "case": asdict(case), "rates_part": {"offset": offset, "length": length}}
-
-
-def bent_numbers():
-    case = bent()
-    rounded = Rounded(case)
-    N, P = reference.points(case)
-    s = reference.sums(case.days)
-    ends = lambda one_end: [one_end(LOWER), one_end(UPPER)]
-    factor_60 = {"factor 60": list(rounded.factors[60])}
-    with mock.patch.dict(reference.WEIGHTS, {60: 999}):
-        wrong_60 = {"factor 60": list(reference.rounded_factors(case)[60])}
-    assert factor_60 != wrong_60
-    return file_numbers(encode(case, True, False, True), case) | {
-        "s": {t: s[t] for t in (1, 20, 21, 60)},
-        "growth": {t: ends(lambda end: reference.growth(N, P, t, end)) for t in (21, 40, 60)},
-        "weighed_growth": {t: ends(lambda end: reference.weighed_growth(N, P, case.ufr, t, end))
-                           for t in (21, 40, 60, 61)},
-        "factors": {t: list(rounded.factors[t]) for t in (1, 20, 21, 40, 60, 61, 120)},
-        "zero_rates": {t: list(rounded.zero_rates[t]) for t in (1, 2, 3, 10)},
-        "told_apart": {"weight of term 60 = 999": [factor_60, wrong_60]},
-    }
-
-
-def fund_numbers(case):
-    rounded, exact = Rounded(case), Exact(case)
-    fraction = lambda x: {"numerator": str(x.numerator), "denominator": str(x.denominator)}
-    return file_numbers(encode(case, True, True, True), case) | {
-        "rounded": figures(rounded, *MONEY),
-        "exact": {name: fraction(getattr(exact, name)) for name in MONEY[:8] + ["S6_squared", "S_squared"]},
-        "WL": rounded.WL, "WB": rounded.WB,
-        "verdict": {"rounded": rounded.verdict, "exact": exact.verdict},
-        "told_apart": told_apart(case),
-    }
-
-
 # ---------------------------------------------------------------- random cases
 
 def random_days(rng, n):
@@ -238,7 +126,3 @@ def presence(rng, case):
     """Which optional fields to write: all that are not at their absent value, and some of the others."""
     return (case.ufr != 4_200 or rng.random() < 0.5, bool(case.bonds),
             any(case.amounts.values()) or rng.random() < 0.5)
-
-
-if __name__ == "__main__":
-    print(json.dumps({"bent": bent_numbers(), "up": fund_numbers(up()), "down": fund_numbers(down())}, indent=1))

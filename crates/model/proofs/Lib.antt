@@ -28,3 +28,6 @@ pub mod Verdicts
 pub mod Demand3Proved
 pub mod Files
 pub mod Entries
+pub mod Computing
+pub mod Worked
+pub mod Pinned

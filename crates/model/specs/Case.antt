@@ -1,13 +1,11 @@
--- A case: what one case file says (document 01, 'The case file'), and the form in which the engine holds it.
+-- A case: what one case file says (document 01, 'The case file').
 use Prim.Native.Nat.{ℕ, zero, suc, _+_, _-_}
-use mathlib.Core.List.{List, [], _∷_, _++_}
-use lib.ListN.{length, getD, replicate}
+use mathlib.Core.List.{List, [], _∷_}
+use lib.ListN.{getD}
 use lib.IntN.{ℤ, pos, _+ℤ_}
-use Rattle.model.specs.Constants.{defaultUfr}
 use Rattle.model.specs.declared.case.Amounts.{Amounts}
 use Rattle.model.specs.declared.case.Shocks.{Shocks}
 use Rattle.model.specs.declared.case.People.{People}
-use Rattle.model.specs.declared.case.Case.{Case}
 
 -- The paper's case. A day is its 60 zero rates of terms 1 to 60, in steps, and n, m and k are the lengths of the three lists.
 -- Amounts, shocks and people are named in the structs of src/case.rt.

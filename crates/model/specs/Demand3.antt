@@ -10,7 +10,7 @@ use Rattle.model.specs.Constants.{stepsPerOne, unit}
 use Rattle.model.specs.Fraction.{Fraction, _//_, _*ᶠ_, _^ᶠ_, whole, Real, _≤ᶠ_}
 use Rattle.model.specs.Case.{FileCase}
 use Rattle.model.specs.Limits.{Between}
-use Rattle.model.specs.Curve.{Curve, Move, base, curve, natural}
+use Rattle.model.specs.Curve.{Move, base, curve, natural}
 use Rattle.model.specs.Exact as Exact
 use Rattle.model.specs.Rounded as Rounded
 use Rattle.model.specs.Margins.{WL, WB, NearFirst, NearSecond, firstMargin, secondMargin}

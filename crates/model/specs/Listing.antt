@@ -8,7 +8,6 @@ use lib.Dec.{leb, ltb}
 use lib.ListN.{length, drop}
 use Rattle.model.specs.Numbers.{table}
 use Rattle.model.specs.declared.figures.Bracket.{Bracket}
-use Rattle.model.specs.declared.figures.Figures.{Figures}
 use Rattle.model.specs.declared.figures.Verdict.{Verdict}
 use Rattle.model.specs.declared.figures.Verdict.the-variants.{Dekkingstekort, Reservetekort, VrijVermogen, Onbeslist}
 use Rattle.model.specs.declared.figures.Valuation.{Valuation}

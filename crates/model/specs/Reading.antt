@@ -2,7 +2,7 @@
 -- Positions are functions of the bytes, and a byte past the end counts as 0: whether a file is long enough is a matter of the refusals.
 use Prim.Native.Nat.{ℕ, _+_, _*_, _/_, _%_, _^_}
 use mathlib.Core.Bool.{Bool, cond}
-use mathlib.Core.List.{List, []}
+use mathlib.Core.List.{List}
 use lib.Dec.{eqb}
 use lib.ListN.{getD}
 use lib.IntN.{ℤ}

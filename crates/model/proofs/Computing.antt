@@ -1,0 +1,65 @@
+-- What the computed statements of Worked and Pinned share. Assumes nothing.
+use Prim.Native.Nat.{ℕ}
+use Prim.Native.String.{String}
+use mathlib.Core.List.{List, [], _∷_, _++_}
+use lib.Ieee.{size}
+use Rattle.arith.specs.Rounding.{divide}
+use Rattle.arith.specs.Root.{root, rootOfDigits}
+use Rattle.model.specs.Case.{s}
+use Rattle.model.specs.Numbers.{number, bytesOf, bytesOfRun, every, table}
+use Rattle.model.specs.Layout.{ratesOf, fileOf}
+use Rattle.model.specs.Reading.{
+  fileMap,
+  daysAt,
+  dayCount,
+  pensionAt,
+  pensionCount,
+  bondsAt,
+  bondCount,
+  amountsAt,
+  shocksAt,
+  peopleAt,
+  endAt,
+  daysOf,
+  caseOf,
+}
+use Rattle.model.specs.Refusals.{
+  firstOf,
+  mapChecks,
+  ufrChecks,
+  daysChecks,
+  flowsChecks,
+  amountsChecks,
+  shocksChecks,
+  peopleChecks,
+  endChecks,
+  checks,
+  refusal,
+  ratesPart,
+}
+use Rattle.model.specs.Curve.{movedSum, curve, P}
+use Rattle.model.specs.Exact as Exact
+use Rattle.model.specs.Rounded as Rounded
+use Rattle.model.specs.Margins.{weightedSum}
+use Rattle.model.specs.Buffers.{valuationRefusal, byTerm, factorEntries, factorsAfter, ratesAfter, rateEntries, valuationOf}
+use Rattle.model.specs.Window.{windowPoint}
+use Rattle.model.specs.Listing.{ascii, digits, decimal, word, line, listing}
+
+-- the bytes of a text, line by line
+abbrev pub text : List String → List ℕ
+text [] = []
+text (one ∷ lines) = ascii one ++ ascii "\n" ++ text lines
+
+-- A proof whose `unfolding` line names `all` computes with every definition that is named here.
+unfoldable pub all : ℕ
+unfolding
+    s number bytesOf bytesOfRun every table ratesOf fileOf
+    fileMap daysAt dayCount pensionAt pensionCount bondsAt bondCount amountsAt shocksAt peopleAt endAt daysOf caseOf
+    firstOf mapChecks ufrChecks daysChecks flowsChecks amountsChecks shocksChecks peopleChecks endChecks checks refusal ratesPart
+    movedSum curve P
+    Exact.weights Exact.weight Exact.G Exact.weighed Exact.growth Exact.product Exact.factor Exact.worth Exact.judge
+    Rounded.scaled Rounded.growth Rounded.weighed Rounded.factor Rounded.largest Rounded.smallest Rounded.zeroRate Rounded.worth Rounded.judge
+    divide root rootOfDigits size
+    weightedSum valuationRefusal byTerm factorEntries rateEntries factorsAfter ratesAfter valuationOf windowPoint
+    ascii digits decimal word line listing
+all = 0

@@ -1,0 +1,736 @@
+-- Numbers of three case files as computed statements about the definitions. tests/pinned.py wrote this file, from an implementation in
+-- Python that was written from the paper alone (tests/reference.py): change that, not this. Assumes nothing.
+use Prim.Native.Nat.{ℕ}
+use Prim.Native.String.{String}
+use mathlib.Core.Path.{_≡_, refl, ap}
+use mathlib.Core.Bool.{true, false}
+use mathlib.Core.List.{List, [], _∷_}
+use lib.Dec.{lit<}
+use lib.ListN.{length}
+use lib.IntN.{pos, negℤ}
+use Rattle.arith.specs.Rounding.{low, high}
+use Rattle.model.specs.Case.{FileCase, s}
+use Rattle.model.specs.Layout.{fileOf}
+use Rattle.model.specs.Numbers.{number}
+use Rattle.model.specs.Reading.{fileMap, daysAt, dayCount, caseOf}
+use Rattle.model.specs.Refusals.{refusal, ratesPart, ratesPartAfter}
+use Rattle.model.specs.Fraction.{_//_, _≐_}
+use Rattle.model.specs.Curve.{Curve, base, curve}
+use Rattle.model.specs.Exact as Exact
+use Rattle.model.specs.Rounded as Rounded
+use Rattle.model.specs.Margins.{WL, WB}
+use Rattle.model.specs.Buffers.{valuationOf}
+use Rattle.model.specs.Listing.{listing}
+use Rattle.model.specs.declared.figures.Verdict.the-variants.{Reservetekort, VrijVermogen}
+use Rattle.model.proofs.Computing.{text, all}
+
+-- A bent curve of three days: the rates rise, fall, rise and fall with the term, and the short ones are negative.
+abbrev bentFile : List ℕ
+bentFile =
+    0x00 ∷ 0x77
+    ∷ 0x10 ∷ 0xe1
+    ∷ 0x03
+    ∷ 0xfe ∷ 0xde ∷ 0xff ∷ 0x1a ∷ 0xff ∷ 0x56 ∷ 0xff ∷ 0x92 ∷ 0xff ∷ 0xce ∷ 0x00 ∷ 0x0a ∷ 0x00 ∷ 0x46 ∷ 0x00 ∷ 0x82 ∷ 0x00 ∷ 0xbe ∷ 0x00 ∷ 0xfa
+    ∷ 0x01 ∷ 0x36 ∷ 0x01 ∷ 0x72 ∷ 0x01 ∷ 0xae ∷ 0x01 ∷ 0xea ∷ 0x02 ∷ 0x26 ∷ 0x02 ∷ 0x0d ∷ 0x01 ∷ 0xf4 ∷ 0x01 ∷ 0xdb ∷ 0x01 ∷ 0xc2 ∷ 0x01 ∷ 0xa9
+    ∷ 0x01 ∷ 0x90 ∷ 0x01 ∷ 0x77 ∷ 0x01 ∷ 0x5e ∷ 0x01 ∷ 0x45 ∷ 0x01 ∷ 0x2c ∷ 0x01 ∷ 0x13 ∷ 0x00 ∷ 0xfa ∷ 0x00 ∷ 0xe1 ∷ 0x00 ∷ 0xc8 ∷ 0x00 ∷ 0xaf
+    ∷ 0x00 ∷ 0xd7 ∷ 0x00 ∷ 0xff ∷ 0x01 ∷ 0x27 ∷ 0x01 ∷ 0x4f ∷ 0x01 ∷ 0x77 ∷ 0x01 ∷ 0x9f ∷ 0x01 ∷ 0xc7 ∷ 0x01 ∷ 0xef ∷ 0x02 ∷ 0x17 ∷ 0x02 ∷ 0x3f
+    ∷ 0x02 ∷ 0x67 ∷ 0x02 ∷ 0x8f ∷ 0x02 ∷ 0xb7 ∷ 0x02 ∷ 0xdf ∷ 0x03 ∷ 0x07 ∷ 0x02 ∷ 0xf8 ∷ 0x02 ∷ 0xe9 ∷ 0x02 ∷ 0xda ∷ 0x02 ∷ 0xcb ∷ 0x02 ∷ 0xbc
+    ∷ 0x02 ∷ 0xad ∷ 0x02 ∷ 0x9e ∷ 0x02 ∷ 0x8f ∷ 0x02 ∷ 0x80 ∷ 0x02 ∷ 0x71 ∷ 0x02 ∷ 0x62 ∷ 0x02 ∷ 0x53 ∷ 0x02 ∷ 0x44 ∷ 0x02 ∷ 0x35 ∷ 0x02 ∷ 0x26
+    ∷ 0xfe ∷ 0xe8 ∷ 0xff ∷ 0x20 ∷ 0xff ∷ 0x63 ∷ 0xff ∷ 0x9b ∷ 0xff ∷ 0xd3 ∷ 0x00 ∷ 0x16 ∷ 0x00 ∷ 0x4e ∷ 0x00 ∷ 0x86 ∷ 0x00 ∷ 0xc9 ∷ 0x01 ∷ 0x01
+    ∷ 0x01 ∷ 0x39 ∷ 0x01 ∷ 0x7c ∷ 0x01 ∷ 0xb4 ∷ 0x01 ∷ 0xf7 ∷ 0x02 ∷ 0x2f ∷ 0x02 ∷ 0x12 ∷ 0x02 ∷ 0x00 ∷ 0x01 ∷ 0xe3 ∷ 0x01 ∷ 0xc6 ∷ 0x01 ∷ 0xb4
+    ∷ 0x01 ∷ 0x97 ∷ 0x01 ∷ 0x7a ∷ 0x01 ∷ 0x68 ∷ 0x01 ∷ 0x4b ∷ 0x01 ∷ 0x39 ∷ 0x01 ∷ 0x1c ∷ 0x00 ∷ 0xff ∷ 0x00 ∷ 0xed ∷ 0x00 ∷ 0xd0 ∷ 0x00 ∷ 0xb3
+    ∷ 0x00 ∷ 0xe2 ∷ 0x01 ∷ 0x06 ∷ 0x01 ∷ 0x2a ∷ 0x01 ∷ 0x59 ∷ 0x01 ∷ 0x7d ∷ 0x01 ∷ 0xac ∷ 0x01 ∷ 0xd0 ∷ 0x01 ∷ 0xf4 ∷ 0x02 ∷ 0x23 ∷ 0x02 ∷ 0x47
+    ∷ 0x02 ∷ 0x6b ∷ 0x02 ∷ 0x9a ∷ 0x02 ∷ 0xbe ∷ 0x02 ∷ 0xe2 ∷ 0x03 ∷ 0x11 ∷ 0x02 ∷ 0xfe ∷ 0x02 ∷ 0xf6 ∷ 0x02 ∷ 0xe3 ∷ 0x02 ∷ 0xd0 ∷ 0x02 ∷ 0xc8
+    ∷ 0x02 ∷ 0xb5 ∷ 0x02 ∷ 0xa2 ∷ 0x02 ∷ 0x9a ∷ 0x02 ∷ 0x87 ∷ 0x02 ∷ 0x74 ∷ 0x02 ∷ 0x6c ∷ 0x02 ∷ 0x59 ∷ 0x02 ∷ 0x51 ∷ 0x02 ∷ 0x3e ∷ 0x02 ∷ 0x2b
+    ∷ 0xfe ∷ 0xbe ∷ 0xfe ∷ 0xff ∷ 0xff ∷ 0x33 ∷ 0xff ∷ 0x74 ∷ 0xff ∷ 0xb5 ∷ 0xff ∷ 0xe9 ∷ 0x00 ∷ 0x2a ∷ 0x00 ∷ 0x5e ∷ 0x00 ∷ 0x9f ∷ 0x00 ∷ 0xe0
+    ∷ 0x01 ∷ 0x14 ∷ 0x01 ∷ 0x55 ∷ 0x01 ∷ 0x89 ∷ 0x01 ∷ 0xca ∷ 0x02 ∷ 0x0b ∷ 0x01 ∷ 0xea ∷ 0x01 ∷ 0xd6 ∷ 0x01 ∷ 0xc2 ∷ 0x01 ∷ 0xa1 ∷ 0x01 ∷ 0x8d
+    ∷ 0x01 ∷ 0x6c ∷ 0x01 ∷ 0x58 ∷ 0x01 ∷ 0x44 ∷ 0x01 ∷ 0x23 ∷ 0x01 ∷ 0x0f ∷ 0x00 ∷ 0xee ∷ 0x00 ∷ 0xda ∷ 0x00 ∷ 0xc6 ∷ 0x00 ∷ 0xa5 ∷ 0x00 ∷ 0x91
+    ∷ 0x00 ∷ 0xbe ∷ 0x00 ∷ 0xde ∷ 0x01 ∷ 0x0b ∷ 0x01 ∷ 0x2b ∷ 0x01 ∷ 0x58 ∷ 0x01 ∷ 0x85 ∷ 0x01 ∷ 0xa5 ∷ 0x01 ∷ 0xd2 ∷ 0x01 ∷ 0xf2 ∷ 0x02 ∷ 0x1f
+    ∷ 0x02 ∷ 0x4c ∷ 0x02 ∷ 0x6c ∷ 0x02 ∷ 0x99 ∷ 0x02 ∷ 0xc6 ∷ 0x02 ∷ 0xe6 ∷ 0x02 ∷ 0xdc ∷ 0x02 ∷ 0xc5 ∷ 0x02 ∷ 0xbb ∷ 0x02 ∷ 0xb1 ∷ 0x02 ∷ 0x9a
+    ∷ 0x02 ∷ 0x90 ∷ 0x02 ∷ 0x79 ∷ 0x02 ∷ 0x6f ∷ 0x02 ∷ 0x65 ∷ 0x02 ∷ 0x4e ∷ 0x02 ∷ 0x44 ∷ 0x02 ∷ 0x3a ∷ 0x02 ∷ 0x23 ∷ 0x02 ∷ 0x19 ∷ 0x02 ∷ 0x02
+    ∷ 0x01
+    ∷ 0x00 ∷ 0x0f ∷ 0x42 ∷ 0x40
+    ∷ 0x00 ∷ 0x00 ∷ 0x00 ∷ 0x00 ∷ 0x00 ∷ 0x00 ∷ 0x00 ∷ 0x00
+    ∷ 0x00 ∷ 0x00 ∷ 0x00 ∷ 0x00 ∷ 0x00 ∷ 0x00 ∷ 0x00 ∷ 0x00
+    ∷ 0x00 ∷ 0x00 ∷ 0x00 ∷ 0x00 ∷ 0x00 ∷ 0x00 ∷ 0x00 ∷ 0x00
+    ∷ 0x00 ∷ 0x00 ∷ 0x00 ∷ 0x00 ∷ 0x00 ∷ 0x00 ∷ 0x00 ∷ 0x00
+    ∷ 0x00 ∷ 0x00 ∷ 0x00 ∷ 0x00 ∷ 0x00 ∷ 0x00 ∷ 0x00 ∷ 0x00
+    ∷ 0x00 ∷ 0x00 ∷ 0x00 ∷ 0x00 ∷ 0x00 ∷ 0x00 ∷ 0x00 ∷ 0x00
+    ∷ 0x00 ∷ 0x00 ∷ 0x00 ∷ 0x00 ∷ 0x00 ∷ 0x10 ∷ 0xc8 ∷ 0xe0
+    ∷ 0x00 ∷ 0x00 ∷ 0x00 ∷ 0x00 ∷ 0x00 ∷ 0x00 ∷ 0x00 ∷ 0x00
+    ∷ 0x00 ∷ 0x00 ∷ 0x00 ∷ 0x00 ∷ 0x00 ∷ 0x00 ∷ 0x00 ∷ 0x00 ∷ 0x00 ∷ 0x00 ∷ 0x00 ∷ 0x00 ∷ 0x00 ∷ 0x00 ∷ 0x00 ∷ 0x00 ∷ 0x00 ∷ 0x00 ∷ 0x00 ∷ 0x00
+    ∷ 0x00 ∷ 0x00 ∷ 0x00 ∷ 0x00
+    ∷ 0x00 ∷ 0x00 ∷ 0x00 ∷ 0x64 ∷ 0x03 ∷ 0x0c ∷ 0x01 ∷ 0xcc
+    ∷ []
+
+abbrev bent : FileCase
+bent = caseOf bentFile
+
+abbrev bentCase : FileCase
+bentCase = record {
+  ufr = 4321;
+  days = (negℤ (pos 290) ∷ negℤ (pos 230) ∷ negℤ (pos 170) ∷ negℤ (pos 110) ∷ negℤ (pos 50) ∷ pos 10 ∷ pos 70 ∷ pos 130 ∷ pos 190 ∷ pos 250
+      ∷ pos 310 ∷ pos 370 ∷ pos 430 ∷ pos 490 ∷ pos 550 ∷ pos 525 ∷ pos 500 ∷ pos 475 ∷ pos 450 ∷ pos 425
+      ∷ pos 400 ∷ pos 375 ∷ pos 350 ∷ pos 325 ∷ pos 300 ∷ pos 275 ∷ pos 250 ∷ pos 225 ∷ pos 200 ∷ pos 175
+      ∷ pos 215 ∷ pos 255 ∷ pos 295 ∷ pos 335 ∷ pos 375 ∷ pos 415 ∷ pos 455 ∷ pos 495 ∷ pos 535 ∷ pos 575
+      ∷ pos 615 ∷ pos 655 ∷ pos 695 ∷ pos 735 ∷ pos 775 ∷ pos 760 ∷ pos 745 ∷ pos 730 ∷ pos 715 ∷ pos 700
+      ∷ pos 685 ∷ pos 670 ∷ pos 655 ∷ pos 640 ∷ pos 625 ∷ pos 610 ∷ pos 595 ∷ pos 580 ∷ pos 565 ∷ pos 550
+      ∷ [])
+      ∷ (negℤ (pos 280) ∷ negℤ (pos 224) ∷ negℤ (pos 157) ∷ negℤ (pos 101) ∷ negℤ (pos 45) ∷ pos 22 ∷ pos 78 ∷ pos 134 ∷ pos 201 ∷ pos 257
+      ∷ pos 313 ∷ pos 380 ∷ pos 436 ∷ pos 503 ∷ pos 559 ∷ pos 530 ∷ pos 512 ∷ pos 483 ∷ pos 454 ∷ pos 436
+      ∷ pos 407 ∷ pos 378 ∷ pos 360 ∷ pos 331 ∷ pos 313 ∷ pos 284 ∷ pos 255 ∷ pos 237 ∷ pos 208 ∷ pos 179
+      ∷ pos 226 ∷ pos 262 ∷ pos 298 ∷ pos 345 ∷ pos 381 ∷ pos 428 ∷ pos 464 ∷ pos 500 ∷ pos 547 ∷ pos 583
+      ∷ pos 619 ∷ pos 666 ∷ pos 702 ∷ pos 738 ∷ pos 785 ∷ pos 766 ∷ pos 758 ∷ pos 739 ∷ pos 720 ∷ pos 712
+      ∷ pos 693 ∷ pos 674 ∷ pos 666 ∷ pos 647 ∷ pos 628 ∷ pos 620 ∷ pos 601 ∷ pos 593 ∷ pos 574 ∷ pos 555
+      ∷ [])
+      ∷ (negℤ (pos 322) ∷ negℤ (pos 257) ∷ negℤ (pos 205) ∷ negℤ (pos 140) ∷ negℤ (pos 75) ∷ negℤ (pos 23) ∷ pos 42 ∷ pos 94 ∷ pos 159 ∷ pos 224
+      ∷ pos 276 ∷ pos 341 ∷ pos 393 ∷ pos 458 ∷ pos 523 ∷ pos 490 ∷ pos 470 ∷ pos 450 ∷ pos 417 ∷ pos 397
+      ∷ pos 364 ∷ pos 344 ∷ pos 324 ∷ pos 291 ∷ pos 271 ∷ pos 238 ∷ pos 218 ∷ pos 198 ∷ pos 165 ∷ pos 145
+      ∷ pos 190 ∷ pos 222 ∷ pos 267 ∷ pos 299 ∷ pos 344 ∷ pos 389 ∷ pos 421 ∷ pos 466 ∷ pos 498 ∷ pos 543
+      ∷ pos 588 ∷ pos 620 ∷ pos 665 ∷ pos 710 ∷ pos 742 ∷ pos 732 ∷ pos 709 ∷ pos 699 ∷ pos 689 ∷ pos 666
+      ∷ pos 656 ∷ pos 633 ∷ pos 623 ∷ pos 613 ∷ pos 590 ∷ pos 580 ∷ pos 570 ∷ pos 547 ∷ pos 537 ∷ pos 514
+      ∷ [])
+      ∷ [];
+  pension = 1000000 ∷ [];
+  bonds = [];
+  amounts = record {
+    mature = 0;
+    emerging = 0;
+    private = 0;
+    property = 0;
+    commodities = 0;
+    credit = 0;
+    cash = 1100000;
+    currency = 0;
+  };
+  shocks = record {
+    «up_shift» = 0;
+    «down_shift» = 0;
+    «mature_fall» = 0;
+    «emerging_fall» = 0;
+    «private_fall» = 0;
+    «property_fall» = 0;
+    «currency_fall» = 0;
+    «commodities_fall» = 0;
+    «spread_rise» = 0;
+    correlation = 0;
+    spread = 0;
+    duration = 0;
+  };
+  people = record {
+    heads = 100;
+    «pension_age» = 780;
+    «mean_age» = 460;
+  };
+}
+
+bent-case : bent ≡ bentCase
+unfolding all
+bent-case = refl
+
+bent-layout : fileOf (record { ufr = true; bonds = false; amounts = true }) bentCase ≡ bentFile
+unfolding all
+bent-layout = refl
+
+bent-accepted : refusal bentFile ≡ 0
+unfolding all
+bent-accepted = refl
+
+bent-rates-part : length (ratesPart bentFile) ≡ 360
+unfolding ratesPart dayCount daysAt fileMap number
+bent-rates-part = ap (λ r. length (ratesPartAfter r bentFile)) bent-accepted
+
+abbrev bentCurve : Curve
+bentCurve = curve bent base
+
+bent-sums : (s (bent .days) 1 ≡ negℤ (pos 892))
+    × (s (bent .days) 20 ≡ pos 1258)
+    × (s (bent .days) 21 ≡ pos 1171)
+    × (s (bent .days) 60 ≡ pos 1619)
+unfolding all
+bent-sums = (refl, refl, refl, refl)
+
+bent-growth-21 : (Rounded.growth bentCurve low 21 ≡ 998120888448)
+    × (Rounded.growth bentCurve high 21 ≡ 998120888469)
+unfolding all
+bent-growth-21 = (refl, refl)
+
+bent-growth-40 : (Rounded.growth bentCurve low 40 ≡ 1021526867743)
+    × (Rounded.growth bentCurve high 40 ≡ 1021526867784)
+unfolding all
+bent-growth-40 = (refl, refl)
+
+bent-growth-60 : (Rounded.growth bentCurve low 60 ≡ 994249977157)
+    × (Rounded.growth bentCurve high 60 ≡ 994249977218)
+unfolding all
+bent-growth-60 = (refl, refl)
+
+bent-weighed-21 : (Rounded.weighed bentCurve low 21 ≡ 1001998552041)
+    × (Rounded.weighed bentCurve high 21 ≡ 1001998552061)
+unfolding all
+bent-weighed-21 = (refl, refl)
+
+bent-weighed-40 : (Rounded.weighed bentCurve low 40 ≡ 1040846538583)
+    × (Rounded.weighed bentCurve high 40 ≡ 1040846538589)
+unfolding all
+bent-weighed-40 = (refl, refl)
+
+bent-weighed-60 : (Rounded.weighed bentCurve low 60 ≡ 1043112079954)
+    × (Rounded.weighed bentCurve high 60 ≡ 1043112079955)
+unfolding all
+bent-weighed-60 = (refl, refl)
+
+bent-weighed-61 : (Rounded.weighed bentCurve low 61 ≡ 1043210000000)
+    × (Rounded.weighed bentCurve high 61 ≡ 1043210000000)
+unfolding all
+bent-weighed-61 = (refl, refl)
+
+bent-factor-1 : (Rounded.factor bentCurve low 1 ≡ 1002982200409)
+    × (Rounded.factor bentCurve high 1 ≡ 1002982200410)
+unfolding all
+bent-factor-1 = (refl, refl)
+
+bent-factor-20 : (Rounded.factor bentCurve low 20 ≡ 919715113381)
+    × (Rounded.factor bentCurve high 20 ≡ 919715113401)
+unfolding all
+bent-factor-20 = (refl, refl)
+
+bent-factor-21 : (Rounded.factor bentCurve low 21 ≡ 917880681054)
+    × (Rounded.factor bentCurve high 21 ≡ 917880681093)
+unfolding all
+bent-factor-21 = (refl, refl)
+
+bent-factor-40 : (Rounded.factor bentCurve low 40 ≡ 536796712985)
+    × (Rounded.factor bentCurve high 40 ≡ 536796713129)
+unfolding all
+bent-factor-40 = (refl, refl)
+
+bent-factor-60 : (Rounded.factor bentCurve low 60 ≡ 235189661055)
+    × (Rounded.factor bentCurve high 60 ≡ 235189661143)
+unfolding all
+bent-factor-60 = (refl, refl)
+
+bent-factor-61 : (Rounded.factor bentCurve low 61 ≡ 225448050780)
+    × (Rounded.factor bentCurve high 61 ≡ 225448050866)
+unfolding all
+bent-factor-61 = (refl, refl)
+
+bent-factor-120 : (Rounded.factor bentCurve low 120 ≡ 18582910617)
+    × (Rounded.factor bentCurve high 120 ≡ 18582910646)
+unfolding all
+bent-factor-120 = (refl, refl)
+
+bent-zero-rate-1 : (Rounded.zeroRate bentCurve low 1 ≡ negℤ (pos 298))
+    × (Rounded.zeroRate bentCurve high 1 ≡ negℤ (pos 297))
+unfolding all
+bent-zero-rate-1 = (refl, refl)
+
+bent-zero-rate-2 : (Rounded.zeroRate bentCurve low 2 ≡ negℤ (pos 238))
+    × (Rounded.zeroRate bentCurve high 2 ≡ negℤ (pos 236))
+unfolding all
+bent-zero-rate-2 = (refl, refl)
+
+bent-zero-rate-3 : (Rounded.zeroRate bentCurve low 3 ≡ negℤ (pos 178))
+    × (Rounded.zeroRate bentCurve high 3 ≡ negℤ (pos 177))
+unfolding all
+bent-zero-rate-3 = (refl, refl)
+
+bent-zero-rate-21 : Rounded.zeroRate bentCurve high 21 ≡ pos 409
+unfolding all
+bent-zero-rate-21 = refl
+
+bent-exact-factor-1 : Exact.factor bentCurve 1 ≐ 75000 // 74777
+unfolding all
+bent-exact-factor-1 = (lit< tt, lit< tt, refl)
+
+bent-exact-factor-2 : Exact.factor bentCurve 2 ≐ 10000000000 // 9952656169
+unfolding all
+bent-exact-factor-2 = (lit< tt, lit< tt, refl)
+
+bent-exact-growth-61 : Exact.growth bentCurve 61 ≐ 104321 // 100000
+unfolding all
+bent-exact-growth-61 = (lit< tt, lit< tt, refl)
+
+bent-exact-growth-120 : Exact.growth bentCurve 120 ≐ 104321 // 100000
+unfolding all
+bent-exact-growth-120 = (lit< tt, lit< tt, refl)
+
+-- A fund with another number in every field, whose bonds are longer than its pensions: the up curve decides S1.
+abbrev upFile : List ℕ
+upFile =
+    0x00 ∷ 0x7f
+    ∷ 0x10 ∷ 0xe1
+    ∷ 0x03
+    ∷ 0x00 ∷ 0xce ∷ 0x00 ∷ 0xe1 ∷ 0x00 ∷ 0xf4 ∷ 0x01 ∷ 0x07 ∷ 0x01 ∷ 0x1a ∷ 0x01 ∷ 0x2d ∷ 0x01 ∷ 0x40 ∷ 0x01 ∷ 0x53 ∷ 0x01 ∷ 0x66 ∷ 0x01 ∷ 0x79
+    ∷ 0x01 ∷ 0x8c ∷ 0x01 ∷ 0x9f ∷ 0x01 ∷ 0xb2 ∷ 0x01 ∷ 0xc5 ∷ 0x01 ∷ 0xd8 ∷ 0x01 ∷ 0xeb ∷ 0x01 ∷ 0xfe ∷ 0x02 ∷ 0x11 ∷ 0x02 ∷ 0x24 ∷ 0x02 ∷ 0x37
+    ∷ 0x02 ∷ 0x4a ∷ 0x02 ∷ 0x5d ∷ 0x02 ∷ 0x70 ∷ 0x02 ∷ 0x83 ∷ 0x02 ∷ 0x96 ∷ 0x02 ∷ 0xa9 ∷ 0x02 ∷ 0xbc ∷ 0x02 ∷ 0xcf ∷ 0x02 ∷ 0xe2 ∷ 0x02 ∷ 0xf5
+    ∷ 0x02 ∷ 0xf4 ∷ 0x02 ∷ 0xf3 ∷ 0x02 ∷ 0xde ∷ 0x02 ∷ 0xdd ∷ 0x02 ∷ 0xdc ∷ 0x02 ∷ 0xc7 ∷ 0x02 ∷ 0xc6 ∷ 0x02 ∷ 0xc5 ∷ 0x02 ∷ 0xb0 ∷ 0x02 ∷ 0xaf
+    ∷ 0x02 ∷ 0xae ∷ 0x02 ∷ 0x99 ∷ 0x02 ∷ 0x98 ∷ 0x02 ∷ 0x97 ∷ 0x02 ∷ 0x82 ∷ 0x02 ∷ 0x81 ∷ 0x02 ∷ 0x80 ∷ 0x02 ∷ 0x6b ∷ 0x02 ∷ 0x6a ∷ 0x02 ∷ 0x69
+    ∷ 0x02 ∷ 0x54 ∷ 0x02 ∷ 0x53 ∷ 0x02 ∷ 0x52 ∷ 0x02 ∷ 0x3d ∷ 0x02 ∷ 0x3c ∷ 0x02 ∷ 0x3b ∷ 0x02 ∷ 0x26 ∷ 0x02 ∷ 0x25 ∷ 0x02 ∷ 0x24 ∷ 0x02 ∷ 0x0f
+    ∷ 0x00 ∷ 0xfd ∷ 0x01 ∷ 0x13 ∷ 0x01 ∷ 0x29 ∷ 0x01 ∷ 0x3f ∷ 0x01 ∷ 0x55 ∷ 0x01 ∷ 0x6b ∷ 0x01 ∷ 0x81 ∷ 0x01 ∷ 0x97 ∷ 0x01 ∷ 0xad ∷ 0x01 ∷ 0xc3
+    ∷ 0x01 ∷ 0xd9 ∷ 0x01 ∷ 0xef ∷ 0x02 ∷ 0x05 ∷ 0x02 ∷ 0x1b ∷ 0x02 ∷ 0x31 ∷ 0x02 ∷ 0x47 ∷ 0x02 ∷ 0x5d ∷ 0x02 ∷ 0x73 ∷ 0x02 ∷ 0x89 ∷ 0x02 ∷ 0x9f
+    ∷ 0x02 ∷ 0xb5 ∷ 0x02 ∷ 0xcb ∷ 0x02 ∷ 0xe1 ∷ 0x02 ∷ 0xf7 ∷ 0x03 ∷ 0x0d ∷ 0x03 ∷ 0x23 ∷ 0x03 ∷ 0x39 ∷ 0x03 ∷ 0x4f ∷ 0x03 ∷ 0x65 ∷ 0x03 ∷ 0x7b
+    ∷ 0x03 ∷ 0x7d ∷ 0x03 ∷ 0x7f ∷ 0x03 ∷ 0x6d ∷ 0x03 ∷ 0x6f ∷ 0x03 ∷ 0x71 ∷ 0x03 ∷ 0x5f ∷ 0x03 ∷ 0x61 ∷ 0x03 ∷ 0x63 ∷ 0x03 ∷ 0x51 ∷ 0x03 ∷ 0x53
+    ∷ 0x03 ∷ 0x55 ∷ 0x03 ∷ 0x43 ∷ 0x03 ∷ 0x45 ∷ 0x03 ∷ 0x47 ∷ 0x03 ∷ 0x35 ∷ 0x03 ∷ 0x37 ∷ 0x03 ∷ 0x39 ∷ 0x03 ∷ 0x27 ∷ 0x03 ∷ 0x29 ∷ 0x03 ∷ 0x2b
+    ∷ 0x03 ∷ 0x19 ∷ 0x03 ∷ 0x1b ∷ 0x03 ∷ 0x1d ∷ 0x03 ∷ 0x0b ∷ 0x03 ∷ 0x0d ∷ 0x03 ∷ 0x0f ∷ 0x02 ∷ 0xfd ∷ 0x02 ∷ 0xff ∷ 0x03 ∷ 0x01 ∷ 0x02 ∷ 0xef
+    ∷ 0x00 ∷ 0xdd ∷ 0x00 ∷ 0xf0 ∷ 0x01 ∷ 0x03 ∷ 0x01 ∷ 0x16 ∷ 0x01 ∷ 0x29 ∷ 0x01 ∷ 0x3c ∷ 0x01 ∷ 0x4f ∷ 0x01 ∷ 0x62 ∷ 0x01 ∷ 0x75 ∷ 0x01 ∷ 0x88
+    ∷ 0x01 ∷ 0x9b ∷ 0x01 ∷ 0xae ∷ 0x01 ∷ 0xc1 ∷ 0x01 ∷ 0xd4 ∷ 0x01 ∷ 0xe7 ∷ 0x01 ∷ 0xfa ∷ 0x02 ∷ 0x0d ∷ 0x02 ∷ 0x20 ∷ 0x02 ∷ 0x33 ∷ 0x02 ∷ 0x46
+    ∷ 0x02 ∷ 0x59 ∷ 0x02 ∷ 0x6c ∷ 0x02 ∷ 0x7f ∷ 0x02 ∷ 0x92 ∷ 0x02 ∷ 0xa5 ∷ 0x02 ∷ 0xb8 ∷ 0x02 ∷ 0xcb ∷ 0x02 ∷ 0xde ∷ 0x02 ∷ 0xf1 ∷ 0x03 ∷ 0x04
+    ∷ 0x03 ∷ 0x03 ∷ 0x03 ∷ 0x02 ∷ 0x02 ∷ 0xed ∷ 0x02 ∷ 0xec ∷ 0x02 ∷ 0xeb ∷ 0x02 ∷ 0xd6 ∷ 0x02 ∷ 0xd5 ∷ 0x02 ∷ 0xd4 ∷ 0x02 ∷ 0xbf ∷ 0x02 ∷ 0xbe
+    ∷ 0x02 ∷ 0xbd ∷ 0x02 ∷ 0xa8 ∷ 0x02 ∷ 0xa7 ∷ 0x02 ∷ 0xa6 ∷ 0x02 ∷ 0x91 ∷ 0x02 ∷ 0x90 ∷ 0x02 ∷ 0x8f ∷ 0x02 ∷ 0x7a ∷ 0x02 ∷ 0x79 ∷ 0x02 ∷ 0x78
+    ∷ 0x02 ∷ 0x63 ∷ 0x02 ∷ 0x62 ∷ 0x02 ∷ 0x61 ∷ 0x02 ∷ 0x4c ∷ 0x02 ∷ 0x4b ∷ 0x02 ∷ 0x4a ∷ 0x02 ∷ 0x35 ∷ 0x02 ∷ 0x34 ∷ 0x02 ∷ 0x33 ∷ 0x02 ∷ 0x1e
+    ∷ 0x03
+    ∷ 0x01 ∷ 0xdf ∷ 0x5e ∷ 0x77 ∷ 0x01 ∷ 0x9e ∷ 0xc6 ∷ 0xe2 ∷ 0x00 ∷ 0xf6 ∷ 0xe4 ∷ 0x73
+    ∷ 0x05
+    ∷ 0x00 ∷ 0x96 ∷ 0xb4 ∷ 0x3f ∷ 0x00 ∷ 0x00 ∷ 0x00 ∷ 0x00 ∷ 0x02 ∷ 0xb9 ∷ 0x01 ∷ 0x40 ∷ 0x00 ∷ 0x00 ∷ 0x00 ∷ 0x00 ∷ 0x02 ∷ 0x0f ∷ 0x76 ∷ 0xd3
+    ∷ 0x00 ∷ 0x00 ∷ 0x00 ∷ 0x00 ∷ 0x00 ∷ 0x12 ∷ 0xd6 ∷ 0x87
+    ∷ 0x00 ∷ 0x00 ∷ 0x00 ∷ 0x00 ∷ 0x00 ∷ 0x0b ∷ 0xad ∷ 0xf9
+    ∷ 0x00 ∷ 0x00 ∷ 0x00 ∷ 0x00 ∷ 0x00 ∷ 0x08 ∷ 0x49 ∷ 0xeb
+    ∷ 0x00 ∷ 0x00 ∷ 0x00 ∷ 0x00 ∷ 0x00 ∷ 0x0f ∷ 0x12 ∷ 0x0b
+    ∷ 0x00 ∷ 0x00 ∷ 0x00 ∷ 0x00 ∷ 0x00 ∷ 0x04 ∷ 0xe9 ∷ 0xc3
+    ∷ 0x00 ∷ 0x00 ∷ 0x00 ∷ 0x00 ∷ 0x00 ∷ 0x09 ∷ 0xfb ∷ 0xf1
+    ∷ 0x00 ∷ 0x00 ∷ 0x00 ∷ 0x00 ∷ 0x00 ∷ 0x01 ∷ 0xb2 ∷ 0x6d
+    ∷ 0x00 ∷ 0x00 ∷ 0x00 ∷ 0x00 ∷ 0x03 ∷ 0xad ∷ 0xbe ∷ 0xaf
+    ∷ 0x01 ∷ 0x40 ∷ 0x00 ∷ 0xb4 ∷ 0x00 ∷ 0xfb ∷ 0x01 ∷ 0x61 ∷ 0x01 ∷ 0x33 ∷ 0x00 ∷ 0x95 ∷ 0x01 ∷ 0xc9 ∷ 0x01 ∷ 0x5d ∷ 0x01 ∷ 0xfd ∷ 0x01 ∷ 0x91
+    ∷ 0x09 ∷ 0x29 ∷ 0x00 ∷ 0x49
+    ∷ 0x00 ∷ 0x00 ∷ 0x04 ∷ 0xd5 ∷ 0x03 ∷ 0x24 ∷ 0x02 ∷ 0x1d
+    ∷ []
+
+abbrev up : FileCase
+up = caseOf upFile
+
+abbrev upCase : FileCase
+upCase = record {
+  ufr = 4321;
+  days = (pos 206 ∷ pos 225 ∷ pos 244 ∷ pos 263 ∷ pos 282 ∷ pos 301 ∷ pos 320 ∷ pos 339 ∷ pos 358 ∷ pos 377
+      ∷ pos 396 ∷ pos 415 ∷ pos 434 ∷ pos 453 ∷ pos 472 ∷ pos 491 ∷ pos 510 ∷ pos 529 ∷ pos 548 ∷ pos 567
+      ∷ pos 586 ∷ pos 605 ∷ pos 624 ∷ pos 643 ∷ pos 662 ∷ pos 681 ∷ pos 700 ∷ pos 719 ∷ pos 738 ∷ pos 757
+      ∷ pos 756 ∷ pos 755 ∷ pos 734 ∷ pos 733 ∷ pos 732 ∷ pos 711 ∷ pos 710 ∷ pos 709 ∷ pos 688 ∷ pos 687
+      ∷ pos 686 ∷ pos 665 ∷ pos 664 ∷ pos 663 ∷ pos 642 ∷ pos 641 ∷ pos 640 ∷ pos 619 ∷ pos 618 ∷ pos 617
+      ∷ pos 596 ∷ pos 595 ∷ pos 594 ∷ pos 573 ∷ pos 572 ∷ pos 571 ∷ pos 550 ∷ pos 549 ∷ pos 548 ∷ pos 527
+      ∷ [])
+      ∷ (pos 253 ∷ pos 275 ∷ pos 297 ∷ pos 319 ∷ pos 341 ∷ pos 363 ∷ pos 385 ∷ pos 407 ∷ pos 429 ∷ pos 451
+      ∷ pos 473 ∷ pos 495 ∷ pos 517 ∷ pos 539 ∷ pos 561 ∷ pos 583 ∷ pos 605 ∷ pos 627 ∷ pos 649 ∷ pos 671
+      ∷ pos 693 ∷ pos 715 ∷ pos 737 ∷ pos 759 ∷ pos 781 ∷ pos 803 ∷ pos 825 ∷ pos 847 ∷ pos 869 ∷ pos 891
+      ∷ pos 893 ∷ pos 895 ∷ pos 877 ∷ pos 879 ∷ pos 881 ∷ pos 863 ∷ pos 865 ∷ pos 867 ∷ pos 849 ∷ pos 851
+      ∷ pos 853 ∷ pos 835 ∷ pos 837 ∷ pos 839 ∷ pos 821 ∷ pos 823 ∷ pos 825 ∷ pos 807 ∷ pos 809 ∷ pos 811
+      ∷ pos 793 ∷ pos 795 ∷ pos 797 ∷ pos 779 ∷ pos 781 ∷ pos 783 ∷ pos 765 ∷ pos 767 ∷ pos 769 ∷ pos 751
+      ∷ [])
+      ∷ (pos 221 ∷ pos 240 ∷ pos 259 ∷ pos 278 ∷ pos 297 ∷ pos 316 ∷ pos 335 ∷ pos 354 ∷ pos 373 ∷ pos 392
+      ∷ pos 411 ∷ pos 430 ∷ pos 449 ∷ pos 468 ∷ pos 487 ∷ pos 506 ∷ pos 525 ∷ pos 544 ∷ pos 563 ∷ pos 582
+      ∷ pos 601 ∷ pos 620 ∷ pos 639 ∷ pos 658 ∷ pos 677 ∷ pos 696 ∷ pos 715 ∷ pos 734 ∷ pos 753 ∷ pos 772
+      ∷ pos 771 ∷ pos 770 ∷ pos 749 ∷ pos 748 ∷ pos 747 ∷ pos 726 ∷ pos 725 ∷ pos 724 ∷ pos 703 ∷ pos 702
+      ∷ pos 701 ∷ pos 680 ∷ pos 679 ∷ pos 678 ∷ pos 657 ∷ pos 656 ∷ pos 655 ∷ pos 634 ∷ pos 633 ∷ pos 632
+      ∷ pos 611 ∷ pos 610 ∷ pos 609 ∷ pos 588 ∷ pos 587 ∷ pos 586 ∷ pos 565 ∷ pos 564 ∷ pos 563 ∷ pos 542
+      ∷ [])
+      ∷ [];
+  pension = 31415927 ∷ 27182818 ∷ 16180339 ∷ [];
+  bonds = 9876543 ∷ 0 ∷ 45678912 ∷ 0 ∷ 34567891 ∷ [];
+  amounts = record {
+    mature = 1234567;
+    emerging = 765433;
+    private = 543211;
+    property = 987659;
+    commodities = 321987;
+    credit = 654321;
+    cash = 111213;
+    currency = 61718191;
+  };
+  shocks = record {
+    «up_shift» = 320;
+    «down_shift» = 180;
+    «mature_fall» = 251;
+    «emerging_fall» = 353;
+    «private_fall» = 307;
+    «property_fall» = 149;
+    «currency_fall» = 457;
+    «commodities_fall» = 349;
+    «spread_rise» = 509;
+    correlation = 401;
+    spread = 2345;
+    duration = 73;
+  };
+  people = record {
+    heads = 1237;
+    «pension_age» = 804;
+    «mean_age» = 541;
+  };
+}
+
+up-case : up ≡ upCase
+unfolding all
+up-case = refl
+
+up-layout : fileOf (record { ufr = true; bonds = true; amounts = true }) upCase ≡ upFile
+unfolding all
+up-layout = refl
+
+up-accepted : refusal upFile ≡ 0
+unfolding all
+up-accepted = refl
+
+up-rates-part : length (ratesPart upFile) ≡ 360
+unfolding ratesPart dayCount daysAt fileMap number
+up-rates-part = ap (λ r. length (ratesPartAfter r upFile)) up-accepted
+
+up-L : (Rounded.L up base low ≡ 7444567283)
+    × (Rounded.L up base high ≡ 7444567286)
+unfolding all
+up-L = (refl, refl)
+
+up-B : (Rounded.B up base low ≡ 8921231953)
+    × (Rounded.B up base high ≡ 8921231956)
+unfolding all
+up-B = (refl, refl)
+
+up-A : (Rounded.A up low ≡ 9383071053)
+    × (Rounded.A up high ≡ 9383071056)
+unfolding all
+up-A = (refl, refl)
+
+up-S1 : (Rounded.S1 up low ≡ 57600402)
+    × (Rounded.S1 up high ≡ 57600414)
+unfolding all
+up-S1 = (refl, refl)
+
+up-S2 : (Rounded.S2 up low ≡ 89400113)
+    × (Rounded.S2 up high ≡ 89400114)
+unfolding all
+up-S2 = (refl, refl)
+
+up-S3 : (Rounded.S3 up low ≡ 2820521328)
+    × (Rounded.S3 up high ≡ 2820521329)
+unfolding all
+up-S3 = (refl, refl)
+
+up-S4 : (Rounded.S4 up low ≡ 11237346)
+    × (Rounded.S4 up high ≡ 11237347)
+unfolding all
+up-S4 = (refl, refl)
+
+up-S5 : (Rounded.S5 up low ≡ 5701305)
+    × (Rounded.S5 up high ≡ 5701306)
+unfolding all
+up-S5 = (refl, refl)
+
+up-S6 : (Rounded.S6 up low ≡ 531400770)
+    × (Rounded.S6 up high ≡ 531400771)
+unfolding all
+up-S6 = (refl, refl)
+
+up-S : (Rounded.S up low ≡ 2872860281)
+    × (Rounded.S up high ≡ 2872860283)
+unfolding all
+up-S = (refl, refl)
+
+up-exact-L : Exact.L up base ≐ 168155064767139827083435640625 // 22587621057143702912
+unfolding all
+up-exact-L = (lit< tt, lit< tt, refl)
+
+up-exact-B : Exact.B up base ≐ 335543059470507098458367512603970578125 // 37611740305631749979809095826
+unfolding all
+up-exact-B = (lit< tt, lit< tt, refl)
+
+up-exact-A : Exact.A up ≐ 352913631762693790800467563592064174725 // 37611740305631749979809095826
+unfolding all
+up-exact-A = (lit< tt, lit< tt, refl)
+
+up-exact-S1 : Exact.S1 up ≐ 44181224453198451554541098188879867485664651114657644875418062968625957581172747203125 // 767029719523088532586871570344152914215352840585909743515616773144350749426816
+unfolding all
+up-exact-S1 = (lit< tt, lit< tt, refl)
+
+up-exact-S2 : Exact.S2 up ≐ 447000567 // 5
+unfolding all
+up-exact-S2 = (lit< tt, lit< tt, refl)
+
+up-exact-S3 : Exact.S3 up ≐ 28205213287 // 10
+unfolding all
+up-exact-S3 = (lit< tt, lit< tt, refl)
+
+up-exact-S4 : Exact.S4 up ≐ 112373463 // 10
+unfolding all
+up-exact-S4 = (lit< tt, lit< tt, refl)
+
+up-exact-S5 : Exact.S5 up ≐ 11402611931193 // 2000000
+unfolding all
+up-exact-S5 = (lit< tt, lit< tt, refl)
+
+up-exact-S6² : Exact.S6² up ≐ 2919947110411389181796448525006754184145597738064133204504953125 // 10340240148908071860956364157652380467909885952
+unfolding all
+up-exact-S6² = (lit< tt, lit< tt, refl)
+
+up-exact-S² : Exact.S² up ≐ 2184189923395775883784794193202266610101016240870692246306451158013145723577213778082391822303829593776645095328082991674383715581132122712148411299026366615859154770044581554227702962074023 // 264643595858681143562482928318659749061562834132537287864928333930139057444510644493487991503319183955730837680531967748462774747017079500596080812324310417408000000000000
+unfolding all
+up-exact-S² = (lit< tt, lit< tt, refl)
+
+up-widths : (WL up ≡ 7)
+    × (WB up ≡ 11)
+unfolding all
+up-widths = (refl, refl)
+
+up-verdict : Rounded.verdict up ≡ Reservetekort
+unfolding all
+up-verdict = refl
+
+up-exact-verdict : Exact.verdict up ≡ Reservetekort
+unfolding all
+up-exact-verdict = refl
+
+abbrev upListing : List String
+upListing =
+    "L 7444567283 7444567286"
+    ∷ "B 8921231953 8921231956"
+    ∷ "A 9383071053 9383071056"
+    ∷ "S1 57600402 57600414"
+    ∷ "S2 89400113 89400114"
+    ∷ "S3 2820521328 2820521329"
+    ∷ "S4 11237346 11237347"
+    ∷ "S5 5701305 5701306"
+    ∷ "S6 531400770 531400771"
+    ∷ "S 2872860281 2872860283"
+    ∷ "V RESERVETEKORT"
+    ∷ []
+
+up-listing : listing (valuationOf 240 240 upFile) ≡ text upListing
+unfolding all
+up-listing = refl
+
+-- A fund with another number in every field, whose pensions outweigh its bonds: the down curve decides S1. S5 exceeds the credit.
+abbrev downFile : List ℕ
+downFile =
+    0x00 ∷ 0x7f
+    ∷ 0x0f ∷ 0x27
+    ∷ 0x03
+    ∷ 0xff ∷ 0x66 ∷ 0xff ∷ 0x79 ∷ 0xff ∷ 0x8c ∷ 0xff ∷ 0x9f ∷ 0xff ∷ 0xb2 ∷ 0xff ∷ 0xc5 ∷ 0xff ∷ 0xd8 ∷ 0xff ∷ 0xeb ∷ 0xff ∷ 0xfe ∷ 0x00 ∷ 0x11
+    ∷ 0x00 ∷ 0x24 ∷ 0x00 ∷ 0x37 ∷ 0x00 ∷ 0x4a ∷ 0x00 ∷ 0x5d ∷ 0x00 ∷ 0x70 ∷ 0x00 ∷ 0x83 ∷ 0x00 ∷ 0x96 ∷ 0x00 ∷ 0xa9 ∷ 0x00 ∷ 0xbc ∷ 0x00 ∷ 0xcf
+    ∷ 0x00 ∷ 0xe2 ∷ 0x00 ∷ 0xf5 ∷ 0x01 ∷ 0x08 ∷ 0x01 ∷ 0x1b ∷ 0x01 ∷ 0x2e ∷ 0x01 ∷ 0x2d ∷ 0x01 ∷ 0x40 ∷ 0x01 ∷ 0x3f ∷ 0x01 ∷ 0x52 ∷ 0x01 ∷ 0x51
+    ∷ 0x01 ∷ 0x64 ∷ 0x01 ∷ 0x63 ∷ 0x01 ∷ 0x76 ∷ 0x01 ∷ 0x75 ∷ 0x01 ∷ 0x88 ∷ 0x01 ∷ 0x87 ∷ 0x01 ∷ 0x9a ∷ 0x01 ∷ 0x99 ∷ 0x01 ∷ 0xac ∷ 0x01 ∷ 0xab
+    ∷ 0x01 ∷ 0xbe ∷ 0x01 ∷ 0xbd ∷ 0x01 ∷ 0xd0 ∷ 0x01 ∷ 0xcf ∷ 0x01 ∷ 0xe2 ∷ 0x01 ∷ 0xe1 ∷ 0x01 ∷ 0xf4 ∷ 0x01 ∷ 0xf3 ∷ 0x02 ∷ 0x06 ∷ 0x02 ∷ 0x05
+    ∷ 0x02 ∷ 0x18 ∷ 0x02 ∷ 0x17 ∷ 0x02 ∷ 0x2a ∷ 0x02 ∷ 0x29 ∷ 0x02 ∷ 0x3c ∷ 0x02 ∷ 0x3b ∷ 0x02 ∷ 0x4e ∷ 0x02 ∷ 0x4d ∷ 0x02 ∷ 0x60 ∷ 0x02 ∷ 0x5f
+    ∷ 0xff ∷ 0x95 ∷ 0xff ∷ 0xab ∷ 0xff ∷ 0xc1 ∷ 0xff ∷ 0xd7 ∷ 0xff ∷ 0xed ∷ 0x00 ∷ 0x03 ∷ 0x00 ∷ 0x19 ∷ 0x00 ∷ 0x2f ∷ 0x00 ∷ 0x45 ∷ 0x00 ∷ 0x5b
+    ∷ 0x00 ∷ 0x71 ∷ 0x00 ∷ 0x87 ∷ 0x00 ∷ 0x9d ∷ 0x00 ∷ 0xb3 ∷ 0x00 ∷ 0xc9 ∷ 0x00 ∷ 0xdf ∷ 0x00 ∷ 0xf5 ∷ 0x01 ∷ 0x0b ∷ 0x01 ∷ 0x21 ∷ 0x01 ∷ 0x37
+    ∷ 0x01 ∷ 0x4d ∷ 0x01 ∷ 0x63 ∷ 0x01 ∷ 0x79 ∷ 0x01 ∷ 0x8f ∷ 0x01 ∷ 0xa5 ∷ 0x01 ∷ 0xa7 ∷ 0x01 ∷ 0xbd ∷ 0x01 ∷ 0xbf ∷ 0x01 ∷ 0xd5 ∷ 0x01 ∷ 0xd7
+    ∷ 0x01 ∷ 0xed ∷ 0x01 ∷ 0xef ∷ 0x02 ∷ 0x05 ∷ 0x02 ∷ 0x07 ∷ 0x02 ∷ 0x1d ∷ 0x02 ∷ 0x1f ∷ 0x02 ∷ 0x35 ∷ 0x02 ∷ 0x37 ∷ 0x02 ∷ 0x4d ∷ 0x02 ∷ 0x4f
+    ∷ 0x02 ∷ 0x65 ∷ 0x02 ∷ 0x67 ∷ 0x02 ∷ 0x7d ∷ 0x02 ∷ 0x7f ∷ 0x02 ∷ 0x95 ∷ 0x02 ∷ 0x97 ∷ 0x02 ∷ 0xad ∷ 0x02 ∷ 0xaf ∷ 0x02 ∷ 0xc5 ∷ 0x02 ∷ 0xc7
+    ∷ 0x02 ∷ 0xdd ∷ 0x02 ∷ 0xdf ∷ 0x02 ∷ 0xf5 ∷ 0x02 ∷ 0xf7 ∷ 0x03 ∷ 0x0d ∷ 0x03 ∷ 0x0f ∷ 0x03 ∷ 0x25 ∷ 0x03 ∷ 0x27 ∷ 0x03 ∷ 0x3d ∷ 0x03 ∷ 0x3f
+    ∷ 0xff ∷ 0x75 ∷ 0xff ∷ 0x88 ∷ 0xff ∷ 0x9b ∷ 0xff ∷ 0xae ∷ 0xff ∷ 0xc1 ∷ 0xff ∷ 0xd4 ∷ 0xff ∷ 0xe7 ∷ 0xff ∷ 0xfa ∷ 0x00 ∷ 0x0d ∷ 0x00 ∷ 0x20
+    ∷ 0x00 ∷ 0x33 ∷ 0x00 ∷ 0x46 ∷ 0x00 ∷ 0x59 ∷ 0x00 ∷ 0x6c ∷ 0x00 ∷ 0x7f ∷ 0x00 ∷ 0x92 ∷ 0x00 ∷ 0xa5 ∷ 0x00 ∷ 0xb8 ∷ 0x00 ∷ 0xcb ∷ 0x00 ∷ 0xde
+    ∷ 0x00 ∷ 0xf1 ∷ 0x01 ∷ 0x04 ∷ 0x01 ∷ 0x17 ∷ 0x01 ∷ 0x2a ∷ 0x01 ∷ 0x3d ∷ 0x01 ∷ 0x3c ∷ 0x01 ∷ 0x4f ∷ 0x01 ∷ 0x4e ∷ 0x01 ∷ 0x61 ∷ 0x01 ∷ 0x60
+    ∷ 0x01 ∷ 0x73 ∷ 0x01 ∷ 0x72 ∷ 0x01 ∷ 0x85 ∷ 0x01 ∷ 0x84 ∷ 0x01 ∷ 0x97 ∷ 0x01 ∷ 0x96 ∷ 0x01 ∷ 0xa9 ∷ 0x01 ∷ 0xa8 ∷ 0x01 ∷ 0xbb ∷ 0x01 ∷ 0xba
+    ∷ 0x01 ∷ 0xcd ∷ 0x01 ∷ 0xcc ∷ 0x01 ∷ 0xdf ∷ 0x01 ∷ 0xde ∷ 0x01 ∷ 0xf1 ∷ 0x01 ∷ 0xf0 ∷ 0x02 ∷ 0x03 ∷ 0x02 ∷ 0x02 ∷ 0x02 ∷ 0x15 ∷ 0x02 ∷ 0x14
+    ∷ 0x02 ∷ 0x27 ∷ 0x02 ∷ 0x26 ∷ 0x02 ∷ 0x39 ∷ 0x02 ∷ 0x38 ∷ 0x02 ∷ 0x4b ∷ 0x02 ∷ 0x4a ∷ 0x02 ∷ 0x5d ∷ 0x02 ∷ 0x5c ∷ 0x02 ∷ 0x6f ∷ 0x02 ∷ 0x6e
+    ∷ 0x03
+    ∷ 0x01 ∷ 0xaf ∷ 0x95 ∷ 0x6f ∷ 0x02 ∷ 0x3a ∷ 0xee ∷ 0x7d ∷ 0x03 ∷ 0x43 ∷ 0xc2 ∷ 0x1f
+    ∷ 0x05
+    ∷ 0x00 ∷ 0x6b ∷ 0xe5 ∷ 0x5b ∷ 0x00 ∷ 0x54 ∷ 0xb0 ∷ 0x2b ∷ 0x00 ∷ 0x00 ∷ 0x00 ∷ 0x00 ∷ 0x00 ∷ 0x30 ∷ 0xfe ∷ 0xeb ∷ 0x00 ∷ 0x00 ∷ 0x00 ∷ 0x00
+    ∷ 0x00 ∷ 0x00 ∷ 0x00 ∷ 0x00 ∷ 0x00 ∷ 0xbc ∷ 0x61 ∷ 0x4f
+    ∷ 0x00 ∷ 0x00 ∷ 0x00 ∷ 0x00 ∷ 0x00 ∷ 0x85 ∷ 0xbf ∷ 0xf7
+    ∷ 0x00 ∷ 0x00 ∷ 0x00 ∷ 0x00 ∷ 0x00 ∷ 0x41 ∷ 0xf2 ∷ 0xc3
+    ∷ 0x00 ∷ 0x00 ∷ 0x00 ∷ 0x00 ∷ 0x00 ∷ 0x63 ∷ 0xd7 ∷ 0x71
+    ∷ 0x00 ∷ 0x00 ∷ 0x00 ∷ 0x00 ∷ 0x00 ∷ 0x20 ∷ 0x31 ∷ 0xb1
+    ∷ 0x00 ∷ 0x00 ∷ 0x00 ∷ 0x00 ∷ 0x00 ∷ 0x14 ∷ 0xb8 ∷ 0x59
+    ∷ 0x00 ∷ 0x00 ∷ 0x00 ∷ 0x00 ∷ 0x0b ∷ 0xd8 ∷ 0xeb ∷ 0x7d
+    ∷ 0x00 ∷ 0x00 ∷ 0x00 ∷ 0x00 ∷ 0x00 ∷ 0x9d ∷ 0x12 ∷ 0x57
+    ∷ 0x00 ∷ 0x8c ∷ 0x01 ∷ 0x04 ∷ 0x00 ∷ 0xef ∷ 0x01 ∷ 0x51 ∷ 0x01 ∷ 0xa3 ∷ 0x00 ∷ 0x9d ∷ 0x00 ∷ 0xd3 ∷ 0x01 ∷ 0x61 ∷ 0x03 ∷ 0x7a ∷ 0x02 ∷ 0x65
+    ∷ 0x22 ∷ 0x3d ∷ 0x01 ∷ 0xb5
+    ∷ 0x00 ∷ 0x00 ∷ 0x10 ∷ 0xe1 ∷ 0x03 ∷ 0x30 ∷ 0x02 ∷ 0x41
+    ∷ []
+
+abbrev down : FileCase
+down = caseOf downFile
+
+abbrev downCase : FileCase
+downCase = record {
+  ufr = 3879;
+  days = (negℤ (pos 154) ∷ negℤ (pos 135) ∷ negℤ (pos 116) ∷ negℤ (pos 97) ∷ negℤ (pos 78) ∷ negℤ (pos 59) ∷ negℤ (pos 40) ∷ negℤ (pos 21) ∷ negℤ (pos 2) ∷ pos 17
+      ∷ pos 36 ∷ pos 55 ∷ pos 74 ∷ pos 93 ∷ pos 112 ∷ pos 131 ∷ pos 150 ∷ pos 169 ∷ pos 188 ∷ pos 207
+      ∷ pos 226 ∷ pos 245 ∷ pos 264 ∷ pos 283 ∷ pos 302 ∷ pos 301 ∷ pos 320 ∷ pos 319 ∷ pos 338 ∷ pos 337
+      ∷ pos 356 ∷ pos 355 ∷ pos 374 ∷ pos 373 ∷ pos 392 ∷ pos 391 ∷ pos 410 ∷ pos 409 ∷ pos 428 ∷ pos 427
+      ∷ pos 446 ∷ pos 445 ∷ pos 464 ∷ pos 463 ∷ pos 482 ∷ pos 481 ∷ pos 500 ∷ pos 499 ∷ pos 518 ∷ pos 517
+      ∷ pos 536 ∷ pos 535 ∷ pos 554 ∷ pos 553 ∷ pos 572 ∷ pos 571 ∷ pos 590 ∷ pos 589 ∷ pos 608 ∷ pos 607
+      ∷ [])
+      ∷ (negℤ (pos 107) ∷ negℤ (pos 85) ∷ negℤ (pos 63) ∷ negℤ (pos 41) ∷ negℤ (pos 19) ∷ pos 3 ∷ pos 25 ∷ pos 47 ∷ pos 69 ∷ pos 91
+      ∷ pos 113 ∷ pos 135 ∷ pos 157 ∷ pos 179 ∷ pos 201 ∷ pos 223 ∷ pos 245 ∷ pos 267 ∷ pos 289 ∷ pos 311
+      ∷ pos 333 ∷ pos 355 ∷ pos 377 ∷ pos 399 ∷ pos 421 ∷ pos 423 ∷ pos 445 ∷ pos 447 ∷ pos 469 ∷ pos 471
+      ∷ pos 493 ∷ pos 495 ∷ pos 517 ∷ pos 519 ∷ pos 541 ∷ pos 543 ∷ pos 565 ∷ pos 567 ∷ pos 589 ∷ pos 591
+      ∷ pos 613 ∷ pos 615 ∷ pos 637 ∷ pos 639 ∷ pos 661 ∷ pos 663 ∷ pos 685 ∷ pos 687 ∷ pos 709 ∷ pos 711
+      ∷ pos 733 ∷ pos 735 ∷ pos 757 ∷ pos 759 ∷ pos 781 ∷ pos 783 ∷ pos 805 ∷ pos 807 ∷ pos 829 ∷ pos 831
+      ∷ [])
+      ∷ (negℤ (pos 139) ∷ negℤ (pos 120) ∷ negℤ (pos 101) ∷ negℤ (pos 82) ∷ negℤ (pos 63) ∷ negℤ (pos 44) ∷ negℤ (pos 25) ∷ negℤ (pos 6) ∷ pos 13 ∷ pos 32
+      ∷ pos 51 ∷ pos 70 ∷ pos 89 ∷ pos 108 ∷ pos 127 ∷ pos 146 ∷ pos 165 ∷ pos 184 ∷ pos 203 ∷ pos 222
+      ∷ pos 241 ∷ pos 260 ∷ pos 279 ∷ pos 298 ∷ pos 317 ∷ pos 316 ∷ pos 335 ∷ pos 334 ∷ pos 353 ∷ pos 352
+      ∷ pos 371 ∷ pos 370 ∷ pos 389 ∷ pos 388 ∷ pos 407 ∷ pos 406 ∷ pos 425 ∷ pos 424 ∷ pos 443 ∷ pos 442
+      ∷ pos 461 ∷ pos 460 ∷ pos 479 ∷ pos 478 ∷ pos 497 ∷ pos 496 ∷ pos 515 ∷ pos 514 ∷ pos 533 ∷ pos 532
+      ∷ pos 551 ∷ pos 550 ∷ pos 569 ∷ pos 568 ∷ pos 587 ∷ pos 586 ∷ pos 605 ∷ pos 604 ∷ pos 623 ∷ pos 622
+      ∷ [])
+      ∷ [];
+  pension = 28284271 ∷ 37416573 ∷ 54772255 ∷ [];
+  bonds = 7071067 ∷ 5550123 ∷ 0 ∷ 3210987 ∷ 0 ∷ [];
+  amounts = record {
+    mature = 12345679;
+    emerging = 8765431;
+    private = 4321987;
+    property = 6543217;
+    commodities = 2109873;
+    credit = 1357913;
+    cash = 198765437;
+    currency = 10293847;
+  };
+  shocks = record {
+    «up_shift» = 140;
+    «down_shift» = 260;
+    «mature_fall» = 239;
+    «emerging_fall» = 337;
+    «private_fall» = 419;
+    «property_fall» = 157;
+    «currency_fall» = 211;
+    «commodities_fall» = 353;
+    «spread_rise» = 890;
+    correlation = 613;
+    spread = 8765;
+    duration = 437;
+  };
+  people = record {
+    heads = 4321;
+    «pension_age» = 816;
+    «mean_age» = 577;
+  };
+}
+
+down-case : down ≡ downCase
+unfolding all
+down-case = refl
+
+down-layout : fileOf (record { ufr = true; bonds = true; amounts = true }) downCase ≡ downFile
+unfolding all
+down-layout = refl
+
+down-accepted : refusal downFile ≡ 0
+unfolding all
+down-accepted = refl
+
+down-rates-part : length (ratesPart downFile) ≡ 360
+unfolding ratesPart dayCount daysAt fileMap number
+down-rates-part = ap (λ r. length (ratesPartAfter r downFile)) down-accepted
+
+down-L : (Rounded.L down base low ≡ 12074946603)
+    × (Rounded.L down base high ≡ 12074946606)
+unfolding all
+down-L = (refl, refl)
+
+down-B : (Rounded.B down base low ≡ 1586365554)
+    × (Rounded.B down base high ≡ 1586365557)
+unfolding all
+down-B = (refl, refl)
+
+down-A : (Rounded.A down low ≡ 25007319254)
+    × (Rounded.A down high ≡ 25007319257)
+unfolding all
+down-A = (refl, refl)
+
+down-S1 : (Rounded.S1 down low ≡ 61969548)
+    × (Rounded.S1 down high ≡ 61969560)
+unfolding all
+down-S1 = (refl, refl)
+
+down-S2 : (Rounded.S2 down low ≡ 874276515)
+    × (Rounded.S2 down high ≡ 874276515)
+unfolding all
+down-S2 = (refl, refl)
+
+down-S3 : (Rounded.S3 down low ≡ 217200171)
+    × (Rounded.S3 down high ≡ 217200172)
+unfolding all
+down-S3 = (refl, refl)
+
+down-S4 : (Rounded.S4 down low ≡ 74478516)
+    × (Rounded.S4 down high ≡ 74478517)
+unfolding all
+down-S4 = (refl, refl)
+
+down-S5 : (Rounded.S5 down low ≡ 462908664)
+    × (Rounded.S5 down high ≡ 462908665)
+unfolding all
+down-S5 = (refl, refl)
+
+down-S6 : (Rounded.S6 down low ≡ 790330318)
+    × (Rounded.S6 down high ≡ 790330319)
+unfolding all
+down-S6 = (refl, refl)
+
+down-S : (Rounded.S down low ≡ 1313869065)
+    × (Rounded.S down high ≡ 1313869073)
+unfolding all
+down-S = (refl, refl)
+
+down-exact-L : Exact.L down base ≐ 854145374752962654623118456225000 // 70736989797211365326377
+unfolding all
+down-exact-L = (lit< tt, lit< tt, refl)
+
+down-exact-B : Exact.B down base ≐ 1035690361552856875015924789169325000 // 652869924863788663396396577
+unfolding all
+down-exact-B = (lit< tt, lit< tt, refl)
+
+down-exact-A : Exact.A down ≐ 16326526643910129967007813765924809900 // 652869924863788663396396577
+unfolding all
+down-exact-A = (lit< tt, lit< tt, refl)
+
+down-exact-S1 : Exact.S1 down ≐ 7973440429828132656147514264495952784598757405744483402025860917446084375 // 128667060271084940309734446148854116600973577637906974947910381742
+unfolding all
+down-exact-S1 = (lit< tt, lit< tt, refl)
+
+down-exact-S2 : Exact.S2 down ≐ 874276515 // 1
+unfolding all
+down-exact-S2 = (lit< tt, lit< tt, refl)
+
+down-exact-S3 : Exact.S3 down ≐ 2172001717 // 10
+unfolding all
+down-exact-S3 = (lit< tt, lit< tt, refl)
+
+down-exact-S4 : Exact.S4 down ≐ 744785169 // 10
+unfolding all
+down-exact-S4 = (lit< tt, lit< tt, refl)
+
+down-exact-S5 : Exact.S5 down ≐ 92581732971677 // 200000
+unfolding all
+down-exact-S5 = (lit< tt, lit< tt, refl)
+
+down-exact-S6² : Exact.S6² down ≐ 3457280890298547635662345718738888024718897701474201611342489339655625 // 5534996883504988441482174618616950871351741241192704
+unfolding all
+down-exact-S6² = (lit< tt, lit< tt, refl)
+
+down-exact-S² : Exact.S² down ≐ 1234875575710765426925949233835776981888776792015642360414151426925723122848560953427089946963497252354080348872932491921867608597990427490599967502141895768055369 // 715350727752277830206841165892995540756292414674804632168243048667673462787686022326051430749895779747649632206102125039714654106710440000000000
+unfolding all
+down-exact-S² = (lit< tt, lit< tt, refl)
+
+down-widths : (WL down ≡ 7)
+    × (WB down ≡ 11)
+unfolding all
+down-widths = (refl, refl)
+
+down-verdict : Rounded.verdict down ≡ VrijVermogen
+unfolding all
+down-verdict = refl
+
+down-exact-verdict : Exact.verdict down ≡ VrijVermogen
+unfolding all
+down-exact-verdict = refl
+
+abbrev downListing : List String
+downListing =
+    "L 12074946603 12074946606"
+    ∷ "B 1586365554 1586365557"
+    ∷ "A 25007319254 25007319257"
+    ∷ "S1 61969548 61969560"
+    ∷ "S2 874276515 874276515"
+    ∷ "S3 217200171 217200172"
+    ∷ "S4 74478516 74478517"
+    ∷ "S5 462908664 462908665"
+    ∷ "S6 790330318 790330319"
+    ∷ "S 1313869065 1313869073"
+    ∷ "V VRIJ VERMOGEN"
+    ∷ []
+
+down-listing : listing (valuationOf 240 240 downFile) ≡ text downListing
+unfolding all
+down-listing = refl

@@ -1,0 +1,408 @@
+-- The twelve hand-worked cases of document 01 as one result about the definitions, `twelve-cases`; then the order of checks, each
+-- refusal, the other two verdicts, the lent buffers and the window on small files. Each statement is computed. Assumes nothing.
+use Prim.Native.Nat.{ℕ, zero, suc, _*_, _<_}
+use Prim.Native.String.{String}
+use mathlib.Core.Path.{_≡_, refl}
+use mathlib.Core.List.{List, [], _∷_, _++_}
+use native.Mathlib.Omega.{arith}
+use lib.Dec.{lit<}
+use lib.ListN.{length, getD, replicate}
+use lib.IntN.{pos, negℤ}
+use Rattle.arith.specs.Rounding.{low, high}
+use Rattle.model.specs.Numbers.{number, twosComplement, table}
+use Rattle.model.specs.Fraction.{_//_, _≐_}
+use Rattle.model.specs.Case.{FileCase}
+use Rattle.model.specs.Reading.{caseOf}
+use Rattle.model.specs.Refusals.{refusal, ratesPart}
+use Rattle.model.specs.Curve.{base, curve}
+use Rattle.model.specs.Exact as Exact
+use Rattle.model.specs.Rounded as Rounded
+use Rattle.model.specs.Buffers.{valuationRefusal, valuationOf, refusalNumber, factorsAfter, ratesAfter}
+use Rattle.model.specs.Window.{double, windowPoint}
+use Rattle.model.specs.Listing.{ascii, word, listing}
+use Rattle.model.specs.declared.figures.Bracket.{Bracket}
+use Rattle.model.specs.declared.figures.Figures.{Figures}
+use Rattle.model.specs.declared.figures.Verdict.the-variants.{Dekkingstekort, Reservetekort, VrijVermogen, Onbeslist}
+use Rattle.model.specs.declared.window.Point.the-variants.{Factor, Money, Blank}
+use Rattle.model.proofs.Computing.{text, all}
+
+-- so many times the same two bytes, and so many zeros
+abbrev pub pairs : ℕ → ℕ → ℕ → List ℕ
+pairs zero a b = []
+pairs (suc n) a b = a ∷ b ∷ pairs n a b
+
+abbrev pub zeros : ℕ → List ℕ
+zeros n = replicate n 0
+
+-- The fields of file C1, as bytes. "one day, all rates 0"; "Flat means one day with that rate at every term".
+abbrev pub flat : ℕ → ℕ → List ℕ
+flat a b = 1 ∷ pairs 60 a b
+
+-- "one flow 1,000,000"
+abbrev pub oneFlow : List ℕ
+oneFlow = 1 ∷ 0x00 ∷ 0x0f ∷ 0x42 ∷ 0x40 ∷ []
+
+-- "cash 1,100,000, other amounts 0": cash is the seventh, here by its last three bytes
+abbrev pub cashOnly : ℕ → ℕ → ℕ → List ℕ
+cashOnly a b c = zeros (6 * 8) ++ (0 ∷ 0 ∷ 0 ∷ 0 ∷ 0 ∷ a ∷ b ∷ c ∷ []) ++ zeros 8
+
+abbrev pub cash : List ℕ
+cash = cashOnly 0x10 0xc8 0xe0
+
+-- "shocks 0"
+abbrev pub noShocks : List ℕ
+noShocks = zeros (12 * 2)
+
+-- "H 100, ages 780 and 460"
+abbrev pub aged : ℕ → ℕ → ℕ → ℕ → List ℕ
+aged a b c d = 0 ∷ 0 ∷ 0 ∷ 100 ∷ a ∷ b ∷ c ∷ d ∷ []
+
+abbrev pub people : List ℕ
+people = aged 0x03 0x0c 0x01 0xcc
+
+-- "map 0x0076": a file with the fields that C1 has
+abbrev pub likeC1 : List ℕ → List ℕ → List ℕ → List ℕ → List ℕ → List ℕ
+likeC1 days flows amounts shocks people = 0x00 ∷ 0x76 ∷ days ++ flows ++ amounts ++ shocks ++ people
+
+abbrev pub fileC1 : List ℕ
+fileC1 = likeC1 (flat 0 0) oneFlow cash noShocks people
+
+-- C1 with other days: "a field that a case doesn't name is as in C1"
+abbrev pub withDays : List ℕ → List ℕ
+withDays days = likeC1 days oneFlow cash noShocks people
+
+-- C1 with other cash; C2 has 1,099,999
+abbrev pub withCash : ℕ → ℕ → ℕ → List ℕ
+withCash a b c = likeC1 (flat 0 0) oneFlow (cashOnly a b c) noShocks people
+
+abbrev pub fileC2 : List ℕ
+fileC2 = withCash 0x10 0xc8 0xdf
+
+-- "days at 100 and 101"
+abbrev pub fileC5 : List ℕ
+fileC5 = withDays (2 ∷ pairs 60 0 100 ++ pairs 60 0 101)
+
+-- "one day, rate 0 then 6,000 for all later terms", and 6,001
+abbrev pub fileC8 : ℕ → ℕ → List ℕ
+fileC8 a b = withDays (1 ∷ 0 ∷ 0 ∷ pairs 59 a b)
+
+-- "pension age 780, mean 540"
+abbrev pub fileC10 : List ℕ
+fileC10 = likeC1 (flat 0 0) oneFlow cash noShocks (aged 0x03 0x0c 0x02 0x1c)
+
+abbrev pub listingC1 : List String
+listingC1 =
+    "L 100000000 100000000"
+    ∷ "B 0 0"
+    ∷ "A 110000000 110000000"
+    ∷ "S1 0 0"
+    ∷ "S2 0 0"
+    ∷ "S3 0 0"
+    ∷ "S4 0 0"
+    ∷ "S5 0 0"
+    ∷ "S6 10000000 10000000"
+    ∷ "S 10000000 10000000"
+    ∷ "V VRIJ VERMOGEN"
+    ∷ []
+
+-- The paper's statements. A file with refusal 0 is accepted, and `caseOf` is the case that its bytes hold.
+pub record TwelveCases : Type 0 where
+  -- "Its 224 bytes give": the listing; and the exact verdict is the same
+  pub c1 : (length fileC1 ≡ 224)
+      × (refusal fileC1 ≡ 0)
+      × (listing (valuationOf 240 240 fileC1) ≡ text listingC1)
+      × (Exact.verdict (caseOf fileC1) ≡ VrijVermogen)
+  -- "C1 with cash 1,099,999: RESERVETEKORT"
+  pub c2 : (refusal fileC2 ≡ 0)
+      × (Rounded.verdict (caseOf fileC2) ≡ Reservetekort)
+      × (Exact.verdict (caseOf fileC2) ≡ Reservetekort)
+  -- "bytes FE 0C are -500; flat, exact factor 1 is 200/199"
+  pub c3 : (twosComplement 2 (number (0xfe ∷ 0x0c ∷ []) 0 2) ≡ negℤ (pos 500))
+      × (refusal (withDays (flat 0xfe 0x0c)) ≡ 0)
+      × (caseOf (withDays (flat 0xfe 0x0c)) .days ≡ replicate 60 (negℤ (pos 500)) ∷ [])
+      × (Exact.factor (curve (caseOf (withDays (flat 0xfe 0x0c))) base) 1 ≐ 200 // 199)
+  -- "flat FC 18 (-1,000) passes; flat FC 17 gives 5"
+  pub c4 : (refusal (withDays (flat 0xfc 0x18)) ≡ 0) × (refusal (withDays (flat 0xfc 0x17)) ≡ 5)
+  -- "days at 100 and 101 give exact factor 1 of 200,000/200,201"
+  pub c5 : (refusal fileC5 ≡ 0) × (Exact.factor (curve (caseOf fileC5) base) 1 ≐ 200000 // 200201)
+  -- "flat 0, exact factor 21 is 250,000/250,903"
+  pub c6 : Exact.factor (curve (caseOf fileC1) base) 21 ≐ 250000 // 250903
+  -- "flat 5,000, exact growth 21 is 1.049312"
+  pub c7 : (refusal (withDays (flat 0x13 0x88)) ≡ 0)
+      × (Exact.growth (curve (caseOf (withDays (flat 0x13 0x88))) base) 21 ≐ 1049312 // 1000000)
+  -- "one day, rate 0 then 6,000 for all later terms passes; 6,001 gives 6"
+  pub c8 : (refusal (fileC8 0x17 0x70) ≡ 0) × (refusal (fileC8 0x17 0x71) ≡ 6)
+  -- "S1 300, S2 400 euros, correlation 500, others 0: S is 60,827 to 60,828"
+  pub c9 : (Rounded.buffer low 500 30000 40000 0 0 0 0 ≡ 60827) × (Rounded.buffer high 500 30000 40000 0 0 0 0 ≡ 60828)
+  -- "pension age 780, mean 540: TSO 6.5"
+  pub c10 : (refusal fileC10 ≡ 0) × (Exact.TSO (caseOf fileC10) ≐ 65 // 10)
+  -- "mean age above pension age: TSO 2", of every case
+  pub c11 : (k : FileCase) → k .people .«pension_age» < k .people .«mean_age» → Exact.TSO k ≐ 2 // 1
+  -- "empty file gives 1"
+  pub c12 : refusal [] ≡ 1
+
+c1-bytes : (length fileC1 ≡ 224) × (refusal fileC1 ≡ 0)
+unfolding all
+c1-bytes = (refl, refl)
+
+c1-listing : listing (valuationOf 240 240 fileC1) ≡ text listingC1
+unfolding all
+c1-listing = refl
+
+c1-exact : Exact.verdict (caseOf fileC1) ≡ VrijVermogen
+unfolding all
+c1-exact = refl
+
+c2-verdicts : (refusal fileC2 ≡ 0)
+    × (Rounded.verdict (caseOf fileC2) ≡ Reservetekort)
+    × (Exact.verdict (caseOf fileC2) ≡ Reservetekort)
+unfolding all
+c2-verdicts = (refl, refl, refl)
+
+c3-bytes : twosComplement 2 (number (0xfe ∷ 0x0c ∷ []) 0 2) ≡ negℤ (pos 500)
+unfolding all
+c3-bytes = refl
+
+c3-accepted : refusal (withDays (flat 0xfe 0x0c)) ≡ 0
+unfolding all
+c3-accepted = refl
+
+c3-days : caseOf (withDays (flat 0xfe 0x0c)) .days ≡ replicate 60 (negℤ (pos 500)) ∷ []
+unfolding all
+c3-days = refl
+
+c3-factor : Exact.factor (curve (caseOf (withDays (flat 0xfe 0x0c))) base) 1 ≐ 200 // 199
+unfolding all
+c3-factor = (lit< tt, lit< tt, refl)
+
+c4-refusals : (refusal (withDays (flat 0xfc 0x18)) ≡ 0) × (refusal (withDays (flat 0xfc 0x17)) ≡ 5)
+unfolding all
+c4-refusals = (refl, refl)
+
+c5-factor : (refusal fileC5 ≡ 0) × (Exact.factor (curve (caseOf fileC5) base) 1 ≐ 200000 // 200201)
+unfolding all
+c5-factor = (refl, (lit< tt, lit< tt, refl))
+
+c6-factor : Exact.factor (curve (caseOf fileC1) base) 21 ≐ 250000 // 250903
+unfolding all
+c6-factor = (lit< tt, lit< tt, refl)
+
+c7-growth : (refusal (withDays (flat 0x13 0x88)) ≡ 0)
+    × (Exact.growth (curve (caseOf (withDays (flat 0x13 0x88))) base) 21 ≐ 1049312 // 1000000)
+unfolding all
+c7-growth = (refl, (lit< tt, lit< tt, refl))
+
+c8-refusals : (refusal (fileC8 0x17 0x70) ≡ 0) × (refusal (fileC8 0x17 0x71) ≡ 6)
+unfolding all
+c8-refusals = (refl, refl)
+
+c9-buffer : (Rounded.buffer low 500 30000 40000 0 0 0 0 ≡ 60827) × (Rounded.buffer high 500 30000 40000 0 0 0 0 ≡ 60828)
+unfolding all
+c9-buffer = (refl, refl)
+
+c10-TSO : (refusal fileC10 ≡ 0) × (Exact.TSO (caseOf fileC10) ≐ 65 // 10)
+unfolding all
+c10-TSO = (refl, (lit< tt, lit< tt, refl))
+
+c11-TSO : (k : FileCase) → k .people .«pension_age» < k .people .«mean_age» → Exact.TSO k ≐ 2 // 1
+c11-TSO k h = (lit< tt, lit< tt, omega (arith, h))
+
+c12-refusal : refusal [] ≡ 1
+unfolding all
+c12-refusal = refl
+
+pub twelve-cases : TwelveCases
+twelve-cases = record {
+  c1 = (c1-bytes .0, c1-bytes .1, c1-listing, c1-exact);
+  c2 = c2-verdicts;
+  c3 = (c3-bytes, c3-accepted, c3-days, c3-factor);
+  c4 = c4-refusals;
+  c5 = c5-factor;
+  c6 = c6-factor;
+  c7 = c7-growth;
+  c8 = c8-refusals;
+  c9 = c9-buffer;
+  c10 = c10-TSO;
+  c11 = c11-TSO;
+  c12 = c12-refusal;
+}
+
+-- "Order: 13; then the map (1, then 3)"
+order-13 : (valuationRefusal 239 240 [] ≡ 13) × (valuationRefusal 240 239 [] ≡ 13) × (valuationRefusal 240 240 [] ≡ 1)
+unfolding all
+order-13 = (refl, refl, refl)
+
+order-map : (refusal (0x00 ∷ []) ≡ 1)
+    × (refusal (0x00 ∷ 0x00 ∷ []) ≡ 3)
+    × (refusal (0x00 ∷ 0x74 ∷ []) ≡ 3)
+    × (refusal (0x80 ∷ 0x76 ∷ []) ≡ 3)
+    × (refusal (0x00 ∷ 0xf6 ∷ []) ≡ 3)
+    × (refusal (0x00 ∷ 0x76 ∷ []) ≡ 1)
+unfolding all
+order-map = (refl, refl, refl, refl, refl, refl)
+
+-- "then 2; then 6": C8 with 6,001 and one byte more
+order-2-before-6 : refusal (fileC8 0x17 0x71 ++ (0 ∷ [])) ≡ 2
+unfolding all
+order-2-before-6 = refl
+
+-- each refusal 1 to 12; beside some, the number next to it that passes, so that the file ends too early
+refusal-1 : (refusal [] ≡ 1) × (refusal (likeC1 (flat 0 0) oneFlow cash noShocks (0 ∷ 0 ∷ 0 ∷ 100 ∷ 3 ∷ 12 ∷ 1 ∷ [])) ≡ 1)
+unfolding all
+refusal-1 = (refl, refl)
+
+refusal-2 : refusal (fileC1 ++ (0 ∷ [])) ≡ 2
+unfolding all
+refusal-2 = refl
+
+-- bit 6 missing; bit 8 stands
+refusal-3 : (refusal (0x00 ∷ 0x36 ∷ []) ≡ 3) × (refusal (0x01 ∷ 0x76 ∷ []) ≡ 3)
+unfolding all
+refusal-3 = (refl, refl)
+
+-- no day, and 71 days, before the missing rates are seen
+refusal-4 : (refusal (0x00 ∷ 0x76 ∷ 0 ∷ []) ≡ 4) × (refusal (0x00 ∷ 0x76 ∷ 71 ∷ []) ≡ 4) × (refusal (0x00 ∷ 0x76 ∷ 70 ∷ []) ≡ 1)
+unfolding all
+refusal-4 = (refl, refl, refl)
+
+-- flat 10,001, before the missing flows are seen
+refusal-5 : (refusal (0x00 ∷ 0x76 ∷ flat 0x27 0x11) ≡ 5) × (refusal (0x00 ∷ 0x76 ∷ flat 0x27 0x10) ≡ 1)
+unfolding all
+refusal-5 = (refl, refl)
+
+-- rate 1,000 and then -1,000: 2 × -1,000 - 1,000 is below -2,000
+refusal-6 : refusal (withDays (1 ∷ 0x03 ∷ 0xe8 ∷ pairs 59 0xfc 0x18)) ≡ 6
+unfolding all
+refusal-6 = refl
+
+-- no pension flow, and 121; with map 0x006e, no bond flow, and 61
+refusal-7 : (refusal (0x00 ∷ 0x76 ∷ flat 0 0 ++ (0 ∷ [])) ≡ 7)
+    × (refusal (0x00 ∷ 0x76 ∷ flat 0 0 ++ (121 ∷ [])) ≡ 7)
+    × (refusal (0x00 ∷ 0x6e ∷ flat 0 0 ++ oneFlow ++ (0 ∷ [])) ≡ 7)
+    × (refusal (0x00 ∷ 0x6e ∷ flat 0 0 ++ oneFlow ++ (61 ∷ [])) ≡ 7)
+unfolding all
+refusal-7 = (refl, refl, refl, refl)
+
+-- a flow of 100,000,001
+refusal-8 : refusal (0x00 ∷ 0x76 ∷ flat 0 0 ++ (1 ∷ 0x05 ∷ 0xf5 ∷ 0xe1 ∷ 0x01 ∷ [])) ≡ 8
+unfolding all
+refusal-8 = refl
+
+-- a UFR of 5,001, and of 5,000
+refusal-9 : (refusal (0x00 ∷ 0x77 ∷ 0x13 ∷ 0x89 ∷ []) ≡ 9) × (refusal (0x00 ∷ 0x77 ∷ 0x13 ∷ 0x88 ∷ []) ≡ 1)
+unfolding all
+refusal-9 = (refl, refl)
+
+-- a currency exposure of 100,000,000,001
+refusal-10 : refusal (likeC1 (flat 0 0) oneFlow (zeros (7 * 8) ++ (0x00 ∷ 0x00 ∷ 0x00 ∷ 0x17 ∷ 0x48 ∷ 0x76 ∷ 0xe8 ∷ 0x01 ∷ [])) [] []) ≡ 10
+unfolding all
+refusal-10 = refl
+
+-- an up shift of 1,001; a credit duration of 501
+refusal-11 : (refusal (likeC1 (flat 0 0) oneFlow cash (0x03 ∷ 0xe9 ∷ zeros 22) []) ≡ 11)
+    × (refusal (likeC1 (flat 0 0) oneFlow cash (zeros 22 ++ (0x01 ∷ 0xf5 ∷ [])) []) ≡ 11)
+unfolding all
+refusal-11 = (refl, refl)
+
+-- nobody; a mean age of 1,201
+refusal-12 : (refusal (likeC1 (flat 0 0) oneFlow cash noShocks (zeros 8)) ≡ 12)
+    × (refusal (likeC1 (flat 0 0) oneFlow cash noShocks (aged 0x03 0x0c 0x04 0xb1)) ≡ 12)
+unfolding all
+refusal-12 = (refl, refl)
+
+-- "DEKKINGSTEKORT if 20 × A < 21 × L": C1 with cash 1,049,999, and with 1,050,000, where both are the same
+first-border : (word (Rounded.verdict (caseOf (withCash 0x10 0x05 0x8f))) ≡ ascii "DEKKINGSTEKORT")
+    × (Exact.verdict (caseOf (withCash 0x10 0x05 0x8f)) ≡ Dekkingstekort)
+    × (Rounded.verdict (caseOf (withCash 0x10 0x05 0x90)) ≡ Reservetekort)
+    × (Exact.verdict (caseOf (withCash 0x10 0x05 0x90)) ≡ Reservetekort)
+unfolding all
+first-border = (refl, refl, refl, refl)
+
+-- "Else ONBESLIST, which is undecided.": C1 with flat 100, a flow of 1,000,009 and cash 1,098,911, which is exactly VRIJ VERMOGEN, and
+-- with a flow of 1,000,080 and cash 1,098,989, which is exactly RESERVETEKORT
+abbrev justOver : List ℕ
+justOver = likeC1 (flat 0 100) (1 ∷ 0x00 ∷ 0x0f ∷ 0x42 ∷ 0x49 ∷ []) (cashOnly 0x10 0xc4 0x9f) noShocks people
+
+abbrev justUnder : List ℕ
+justUnder = likeC1 (flat 0 100) (1 ∷ 0x00 ∷ 0x0f ∷ 0x42 ∷ 0x90 ∷ []) (cashOnly 0x10 0xc4 0xed) noShocks people
+
+undecided : (word (Rounded.verdict (caseOf justOver)) ≡ ascii "ONBESLIST")
+    × (Exact.verdict (caseOf justOver) ≡ VrijVermogen)
+    × (Rounded.verdict (caseOf justUnder) ≡ Onbeslist)
+    × (Exact.verdict (caseOf justUnder) ≡ Reservetekort)
+unfolding all
+undecided = (refl, refl, refl, refl)
+
+-- the paper's number of an answer
+answer-numbers : (refusalNumber (valuationOf 240 240 fileC1) ≡ 0)
+    × (refusalNumber (valuationOf 240 240 []) ≡ 1)
+    × (refusalNumber (valuationOf 239 240 fileC1) ≡ 13)
+unfolding all
+answer-numbers = (refl, refl, refl)
+
+-- "A refused file prints R and its number, one space between, as its only line."
+listing-refused : (listing (valuationOf 0 0 fileC1) ≡ ascii "R 13\n") × (listing (valuationOf 240 240 []) ≡ ascii "R 1\n")
+unfolding all
+listing-refused = (refl, refl)
+
+-- "all n × 120 bytes; of a file that 1 to 12 refuse, an empty part"
+rates-part : (length (ratesPart fileC1) ≡ 120)
+    × (ratesPart fileC5 ≡ pairs 60 0 100 ++ pairs 60 0 101)
+    × (ratesPart (withDays (flat 0xfc 0x17)) ≡ [])
+unfolding all
+rates-part = (refl, refl, refl)
+
+-- "A refusal .. changes nothing lent.": by 13, where a rate is lent too few, and by 1
+lent-after-refusal : (factorsAfter fileC1 (replicate 241 7) (replicate 239 (pos 8)) ≡ replicate 241 7)
+    × (factorsAfter [] (replicate 241 7) (replicate 240 (pos 8)) ≡ replicate 241 7)
+    × (ratesAfter [] (replicate 241 7) (replicate 241 (pos 8)) ≡ replicate 241 (pos 8))
+unfolding all
+lent-after-refusal = (refl, refl, refl)
+
+-- "into entries 0 to 239; later entries keep their content": C1's factors 1 and 20 are 1
+lent-after-valuation : (length (factorsAfter fileC1 (replicate 241 7) (replicate 240 (pos 8))) ≡ 241)
+    × (getD (factorsAfter fileC1 (replicate 241 7) (replicate 240 (pos 8))) 0 0 ≡ 1000000000000)
+    × (getD (factorsAfter fileC1 (replicate 241 7) (replicate 240 (pos 8))) 39 0 ≡ 1000000000000)
+    × (getD (factorsAfter fileC1 (replicate 241 7) (replicate 240 (pos 8))) 240 0 ≡ 7)
+unfolding all
+lent-after-valuation = (refl, refl, refl, refl)
+
+-- The window, on 240 entries that are 0 to 239 and ten brackets 1 2, 3 4, .., 19 20: "a factor (1 to 120), a money figure (121 to 130:
+-- L B A S1 S2 S3 S4 S5 S6 S) or blank (any other number)".
+abbrev counting : List ℕ
+counting = table (λ i. i) 240
+
+abbrev ends : ℕ → ℕ → Bracket
+ends l u = record { lower = l; upper = u }
+
+abbrev tenBrackets : Figures
+tenBrackets = record {
+  l = ends 1 2;
+  b = ends 3 4;
+  a = ends 5 6;
+  s1 = ends 7 8;
+  s2 = ends 9 10;
+  s3 = ends 11 12;
+  s4 = ends 13 14;
+  s5 = ends 15 16;
+  s6 = ends 17 18;
+  s = ends 19 20;
+}
+
+window-factors : (windowPoint 1 counting tenBrackets ≡ Factor (double 0) (double 1))
+    × (windowPoint 120 counting tenBrackets ≡ Factor (double 238) (double 239))
+unfolding all
+window-factors = (refl, refl)
+
+window-money : (windowPoint 121 counting tenBrackets ≡ Money (double 1) (double 2))
+    × (windowPoint 122 counting tenBrackets ≡ Money (double 3) (double 4))
+    × (windowPoint 124 counting tenBrackets ≡ Money (double 7) (double 8))
+    × (windowPoint 130 counting tenBrackets ≡ Money (double 19) (double 20))
+unfolding all
+window-money = (refl, refl, refl, refl)
+
+window-blank : (windowPoint 0 counting tenBrackets ≡ Blank)
+    × (windowPoint 131 counting tenBrackets ≡ Blank)
+    × (windowPoint 1 (replicate 239 0) tenBrackets ≡ Blank)
+unfolding all
+window-blank = (refl, refl, refl)

@@ -1,6 +1,6 @@
 -- What stands where in entries lower, upper, term by term.
 -- Assumes nothing.
-use Prim.Native.Nat.{ℕ, zero, suc, _+_, _*_, _≤_, _<_}
+use Prim.Native.Nat.{ℕ, zero, suc, _+_, _*_, _-_, _≤_, _<_}
 use mathlib.Core.Path.{_≡_, refl, ap, sym, _∙_}
 use mathlib.Core.List.{List, [], _∷_, _++_}
 use mathlib.Core.Logic.{_⊎_, inl, inr}
@@ -9,7 +9,7 @@ use native.Mathlib.Nat.{not-suc-le-zero, le-of-suc-le-suc, eq-or-lt-of-le}
 use lib.ListN.{length, getD, length-append, List·getD-append}
 use lib.Seq.{getD-append-add}
 use Rattle.arith.specs.Rounding.{End, low, high}
-use Rattle.model.specs.Buffers.{byTerm}
+use Rattle.model.specs.Buffers.{byTerm, entryOf}
 
 module _ {A : Type 0} (f : End → ℕ → A) where
   pub length-byTerm : (n : ℕ) → length (byTerm f n) ≡ 2 * n
@@ -47,3 +47,9 @@ module _ {A : Type 0} (f : End → ℕ → A) where
       go (inl e) ih = rw e (at-last n 1 d)
       go (inr l) ih =
           List·getD-append (byTerm f n) (f low (suc n) ∷ f high (suc n) ∷ []) d (2 * t + 1) (let e = length-byTerm n in omega arith) ∙ ih l
+
+-- as `entryOf` reads them
+pub entry-is : (f : End → ℕ → ℕ) (n : ℕ) (e : End) (t : ℕ) → 1 ≤ t → t ≤ n → entryOf (byTerm f n) e t ≡ f e t
+entry-is f n e zero h k = absurd (not-suc-le-zero h)
+entry-is f n low (suc t) h k = let q : suc t - 1 ≡ t = omega arith in rw q (lower-entry f n t 0 k)
+entry-is f n high (suc t) h k = let q : suc t - 1 ≡ t = omega arith in rw q (upper-entry f n t 0 k)

@@ -1,9 +1,9 @@
 -- What a valuation answers, and what the lent buffers hold after it (document 01, 'Buffers, window, print' and the order of checks).
-use Prim.Native.Nat.{ℕ, zero, suc}
+use Prim.Native.Nat.{ℕ, zero, suc, _+_, _*_, _-_}
 use mathlib.Core.Bool.{_&&_}
 use mathlib.Core.List.{List, [], _∷_, _++_}
 use lib.Dec.{leb}
-use lib.ListN.{length, drop}
+use lib.ListN.{length, getD, drop}
 use lib.IntN.{ℤ}
 use Rattle.arith.specs.Rounding.{End, low, high}
 use Rattle.model.specs.Case.{FileCase}
@@ -23,6 +23,11 @@ valuationRefusal factors rates file = firstOf ((leb 240 factors && leb 240 rates
 unfoldable pub byTerm : {A : Type 0} → (End → ℕ → A) → ℕ → List A
 byTerm figure zero = []
 byTerm figure (suc t) = byTerm figure t ++ (figure low (suc t) ∷ figure high (suc t) ∷ [])
+
+-- an end of the figure of a term, from 1, in such entries
+abbrev pub entryOf : List ℕ → End → ℕ → ℕ
+entryOf entries low t = getD entries (2 * (t - 1)) 0
+entryOf entries high t = getD entries (2 * (t - 1) + 1) 0
 
 unfoldable pub factorEntries : FileCase → List ℕ
 factorEntries k = byTerm (Rounded.factor (curve k base)) 120

@@ -152,10 +152,15 @@ judge a l s =
 abbrev pub verdict : FileCase → Verdict
 verdict k = judge (A k) (L k base) (S k)
 
--- the ten brackets
+-- a bracket from its ends, and an end of a bracket
 abbrev pub bracket : (End → ℕ) → Bracket
 bracket figure = record { lower = figure low; upper = figure high }
 
+abbrev pub endOf : Bracket → End → ℕ
+endOf b low = b .lower
+endOf b high = b .upper
+
+-- the ten brackets
 abbrev pub figures : FileCase → Figures
 figures k = record {
   l = bracket (L k base);

@@ -1,11 +1,13 @@
 -- The points of the window (document 01, 'Buffers, window, print').
-use Prim.Native.Nat.{ℕ, _+_, _*_, _-_, _^_}
+use Prim.Native.Nat.{ℕ, _-_, _^_}
 use mathlib.Core.Bool.{Bool, _&&_, cond}
 use mathlib.Core.List.{List, [], _∷_}
 use lib.Dec.{leb}
 use lib.IntN.{pos}
 use lib.Ieee.{Float, binary64, ofInt}
 use lib.ListN.{length, getD}
+use Rattle.model.specs.Rounded.{bracket}
+use Rattle.model.specs.Buffers.{entryOf}
 use Rattle.model.specs.declared.figures.Bracket.{Bracket}
 use Rattle.model.specs.declared.figures.Figures.{Figures}
 use Rattle.model.specs.declared.window.Point.{Point}
@@ -30,9 +32,9 @@ factorPoint b = cond (holds b) (Factor (double (b .lower)) (double (b .upper))) 
 abbrev pub moneyPoint : Bracket → Point
 moneyPoint b = cond (holds b) (Money (double (b .lower)) (double (b .upper))) Blank
 
--- the bracket of factor t in a buffer: entries 2t - 2 and 2t - 1
+-- the bracket of factor t in a buffer
 abbrev pub factorBracket : List ℕ → ℕ → Bracket
-factorBracket factors t = record { lower = getD factors (2 * (t - 1)) 0; upper = getD factors (2 * (t - 1) + 1) 0 }
+factorBracket factors t = bracket (λ e. entryOf factors e t)
 
 -- "A window point is a factor (1 to 120), a money figure (121 to 130 ..) or blank (any other number)." A point is blank also where
 -- fewer than 240 factors are lent, or where a double does not hold an end: after an accepted valuation neither occurs.

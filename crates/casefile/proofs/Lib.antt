@@ -1,0 +1,5 @@
+pub mod FirstOf
+pub mod Bits
+pub mod HeldCase
+pub mod Parts
+pub mod AcceptedReading

@@ -1,0 +1,43 @@
+-- What a refused file gives, and the part of an accepted file that holds its rates.
+use mathlib.Core.Path.{_≡_, refl, ap, sym}
+use mathlib.Core.List.{List, []}
+use Prim.Native.Nat.{ℕ, zero, suc, _+_, _*_, _-_, _≤_}
+use native.Mathlib.Nat.{zero-add}
+use native.Mathlib.Omega.{arith}
+use borrow.Author.Tests.{leb-true}
+use lib.ListN.{length, take, drop}
+use Rattle.model.specs.Held.{defaultCase}
+use Rattle.model.specs.Reading.{daysAt, dayCount, pensionAt}
+use Rattle.model.specs.Refusals.{daysChecks, refusal, ratesPartAfter, ratesPart}
+use Rattle.model.specs.declared.case.Case.{Case}
+use Rattle.model.proofs.Checks.{accepted-passed}
+use Rattle.casefile.specs.Answers.{answerOf, caseAfter, ratesFrom, behind}
+use Rattle.casefile.specs.declared.Answer.the-variants.{Refused}
+
+pub refused-answer : (r : ℕ) → (r ≡ 0 → ⊥) → Refused r ≡ answerOf r
+refused-answer zero n = absurd (n refl)
+refused-answer (suc r) n = refl
+
+pub refused-case : (r : ℕ) (k : Case) → (r ≡ 0 → ⊥) → defaultCase ≡ caseAfter r k
+refused-case zero k n = absurd (n refl)
+refused-case (suc r) k n = refl
+
+pub refused-rates : (r : ℕ) (file : List ℕ) → (r ≡ 0 → ⊥) → [] ≡ ratesPartAfter r file
+refused-rates zero file n = absurd (n refl)
+refused-rates (suc r) file n = refl
+
+pub refused-place : (place : ℕ × ℕ) (r : ℕ) (file : List ℕ) → (r ≡ 0 → ⊥) → place ≡ behind place (ratesFrom r file)
+refused-place place zero file n = absurd (n refl)
+refused-place place (suc r) file n = λ i. (place .0, sym (zero-add (place .1)) i)
+
+-- the rates stand between the count of the days and that of the pension flows
+pub rates-inside : (file : List ℕ) → refusal file ≡ 0 → (daysAt file + 1 ≤ pensionAt file) × (pensionAt file ≤ length file)
+unfolding daysChecks pensionAt
+rates-inside file h =
+    (omega arith, leb-true (daysAt file + 1 + 2 * (60 * dayCount file)) (length file) (accepted-passed file h .days .1 .1 .0))
+
+pub accepted-rates : (file : List ℕ) → refusal file ≡ 0 → take (pensionAt file - (daysAt file + 1)) (drop (daysAt file + 1) file) ≡ ratesPart file
+unfolding ratesPart pensionAt
+accepted-rates file h =
+    let n : daysAt file + 1 + 2 * (60 * dayCount file) - (daysAt file + 1) ≡ 120 * dayCount file = omega arith in
+    simp h (ap (λ k. take k (drop (daysAt file + 1) file)) n)

@@ -1,0 +1,43 @@
+-- What reading a file gives (document 01, 'Office errors and host errors'), and the part of the file that holds the rates.
+use Prim.Native.Nat.{ℕ, zero, suc, _+_}
+use mathlib.Core.Path.{_≡_}
+use mathlib.Core.List.{List}
+use denote.Ref.{RefT, now}
+use Rattle.model.specs.Held.{held, defaultCase}
+use Rattle.model.specs.Reading.{daysAt, caseOf}
+use Rattle.model.specs.Refusals.{refusal, ratesPart}
+use Rattle.model.specs.declared.case.Case.{Case}
+use Rattle.casefile.specs.declared.Answer.{Answer}
+use Rattle.casefile.specs.declared.Answer.the-variants.{Accepted, Refused}
+use Rattle.casefile.specs.declared.Reading.{Reading}
+
+-- document 01's number for each answer: 0 is none of its numbers
+abbrev pub numberOf : Answer → ℕ
+numberOf Accepted = 0
+numberOf (Refused number) = number
+
+-- the answer with a number
+abbrev pub answerOf : ℕ → Answer
+answerOf zero = Accepted
+answerOf (suc r) = Refused (suc r)
+
+-- a refused file gives the default case: "A refusal returns only its number"
+abbrev pub caseAfter : ℕ → Case → Case
+caseAfter zero k = k
+caseAfter (suc r) k = defaultCase
+
+unfoldable pub readingOf : List ℕ → Reading
+readingOf file = record { answer = answerOf (refusal file); «case» = caseAfter (refusal file) (held (caseOf file)) }
+
+-- where in the file the part starts that holds the rates, and a place so far behind another
+abbrev pub ratesFrom : ℕ → List ℕ → ℕ
+ratesFrom zero file = daysAt file + 1
+ratesFrom (suc r) file = 0
+
+abbrev pub behind : ℕ × ℕ → ℕ → ℕ × ℕ
+behind place k = (place .0, k + place .1)
+
+-- the caller's own bytes: the rates' part of the file, at its place in the file
+pub record RatesPart (file r : RefT (List ℕ)) : Type 0 where
+  pub bytes : now r ≡ ratesPart (now file)
+  pub place : r .ptr ≡ behind (file .ptr) (ratesFrom (refusal (now file)) (now file))

@@ -1,0 +1,136 @@
+-- `curve::rates::zero_rates` meets its contract. After t turns the entries of the terms 1 to t stand. Assumes nothing.
+use Prim.Native.Nat.{_*_, _-_, _≤_}
+use mathlib.Core.Path.{_≡_, refl}
+use native.Mathlib.Omega.{arith}
+use lib.ListN.{length, take, length-set}
+use Rattle.model.specs.Buffers.{byTerm, entryOf}
+use Rattle.curve.specs.Rates.{rateBy}
+use Rattle.curve.proofs.Terms.{one-term-more, all-terms}
+use Rattle.curve.proofs.Rated.{lower-within, upper-within, lower-rate, upper-rate}
+use Rattle.curve.proofs.rates.zero_rates.Statement.{statement}
+use Rattle.curve.proofs.rates.zero_rates.Tie as tie
+
+abbrev Inv-loop : tie.InvT-loop
+Inv-loop factors out₀ t₀ out t = (t ≤ 120) × (length out ≡ 240) × (take (2 * t) out ≡ byTerm (rateBy (entryOf factors)) t)
+
+abbrev μ-loop : tie.MeasureT-loop
+μ-loop factors out₀ t₀ out t = 120 - t
+
+loop-holds : tie.Need-loop-holds Inv-loop μ-loop
+unfolding byTerm
+loop-holds c = (omega arith, refl, refl)
+
+add-lower-step : tie.Need-add-lower-step Inv-loop μ-loop
+add-lower-step c = omega arith
+
+mul-lower-step : tie.Need-mul-lower-step Inv-loop μ-loop
+mul-lower-step c = omega arith
+
+add-lower-step-2 : tie.Need-add-lower-step-2 Inv-loop μ-loop
+add-lower-step-2 c = omega arith
+
+mul-lower-step-2 : tie.Need-mul-lower-step-2 Inv-loop μ-loop
+mul-lower-step-2 c = omega arith
+
+array-read-lower-step : tie.Need-array-read-lower-step Inv-loop μ-loop
+array-read-lower-step c = omega arith
+
+lower-step-requires : tie.Need-lower-step-requires Inv-loop μ-loop
+lower-step-requires c κs = lower-within _ _ (c .before .before .pre) (omega arith)
+
+add-upper-step : tie.Need-add-upper-step Inv-loop μ-loop
+add-upper-step c = omega arith
+
+mul-upper-step : tie.Need-mul-upper-step Inv-loop μ-loop
+mul-upper-step c = omega arith
+
+mul-upper-step-2 : tie.Need-mul-upper-step-2 Inv-loop μ-loop
+mul-upper-step-2 c = omega arith
+
+array-read-upper-step : tie.Need-array-read-upper-step Inv-loop μ-loop
+array-read-upper-step c = omega arith
+
+upper-step-requires : tie.Need-upper-step-requires Inv-loop μ-loop
+upper-step-requires c κs = upper-within _ _ (c .before .before .before .pre) (omega arith)
+
+rate-at-requires : tie.Need-rate-at-requires Inv-loop μ-loop
+rate-at-requires c κs = c .before .lower-step .ensures .1
+
+mul-out : tie.Need-mul-out Inv-loop μ-loop
+mul-out c = omega arith
+
+mul-out-2 : tie.Need-mul-out-2 Inv-loop μ-loop
+mul-out-2 c = omega arith
+
+array-set-from-out : tie.Need-array-set-from-out Inv-loop μ-loop
+array-set-from-out c = omega arith
+
+rate-at-requires-2 : tie.Need-rate-at-requires-2 Inv-loop μ-loop
+rate-at-requires-2 c κs = c .before .upper-step .ensures .1
+
+mul-out-3 : tie.Need-mul-out-3 Inv-loop μ-loop
+mul-out-3 c = omega arith
+
+add-out : tie.Need-add-out Inv-loop μ-loop
+add-out c = omega arith
+
+mul-out-4 : tie.Need-mul-out-4 Inv-loop μ-loop
+mul-out-4 c = omega arith
+
+array-set-from-out-2 : tie.Need-array-set-from-out-2 Inv-loop μ-loop
+array-set-from-out-2 c = omega arith
+
+add-t : tie.Need-add-t Inv-loop μ-loop
+add-t c = omega arith
+
+loop-less : tie.Need-loop-less Inv-loop μ-loop
+loop-less c = omega arith
+
+loop-again : tie.Need-loop-again Inv-loop μ-loop
+loop-again c =
+    let inv = c .before .before .before .before .before .loop .inv in
+    let lower = c .before .before .before .lower-step .ensures in
+    let upper = c .before .before .upper-step .ensures in (
+      omega arith,
+      simp length-set (inv .1),
+      one-term-more _ _ _ _ _ (omega arith) (inv .2)
+          (lower-rate _ _ _ _ (c .before .rate-at .ensures) (lower .1) (lower .0))
+          (upper-rate _ _ _ _ (c .rate-at2 .ensures) (upper .1) (upper .0)),
+    )
+
+returns : tie.Need-returns Inv-loop μ-loop
+returns c =
+    let inv = c .before .loop .inv in
+    all-terms _ _ _ 120 (inv .1) (inv .0) (c .loop-test .left) (inv .2)
+
+pub zero-rates-spec : {M : Type 1} → statement M
+zero-rates-spec =
+    tie.close
+    (tie.spec
+    Inv-loop
+    μ-loop
+    loop-holds
+    add-lower-step
+    mul-lower-step
+    add-lower-step-2
+    mul-lower-step-2
+    array-read-lower-step
+    lower-step-requires
+    add-upper-step
+    mul-upper-step
+    mul-upper-step-2
+    array-read-upper-step
+    upper-step-requires
+    rate-at-requires
+    mul-out
+    mul-out-2
+    array-set-from-out
+    rate-at-requires-2
+    mul-out-3
+    add-out
+    mul-out-4
+    array-set-from-out-2
+    add-t
+    loop-less
+    loop-again
+    returns)

@@ -1,0 +1,9 @@
+// The rounded curve of a case: growths, discount factors and zero rates, at both ends of each
+// bracket.
+pub mod ends;
+pub mod factor;
+pub mod growth;
+pub mod rates;
+pub mod search;
+pub mod sums;
+pub mod weights;

@@ -1,0 +1,35 @@
+// The zero rates of the terms, from the factors.
+ghost use mathlib.Core.Path.{_≡_};
+ghost use Prim.Native.Nat.{_≤_};
+ghost use Rattle.model.specs.Rounded.{stepAt};
+ghost use Rattle.model.specs.Buffers.{byTerm, entryOf};
+ghost use Rattle.curve.specs.Rates.{rateBy};
+ghost use Rattle.curve.specs.Ranges.{RatesWithin};
+use super::search::lower_step;
+use super::search::upper_step;
+
+// The rate of a step.
+fn rate_at(step: u64) -> i64
+    requires { ⌜ step ≤ 22000 ⌝ }
+    ensures { λ r. ⌜ r ≡ stepAt step ⌝ }
+{
+    step as i64 - 2_000
+}
+
+// The zero rates of the terms 1 to 120: lower, upper, term by term. The lower rate goes by the
+// upper factor, and the upper rate by the lower.
+pub fn zero_rates(factors: [u64; 240]) -> [i64; 240]
+    requires { ⌜ RatesWithin factors ⌝ }
+    ensures { λ r. ⌜ r ≡ byTerm (rateBy (entryOf factors)) 120 ⌝ }
+{
+    let mut out = [0i64; 240];
+    let mut t: usize = 0;
+    while t < 120 {
+        let lower = lower_step(t + 1, factors[2 * t + 1]);
+        let upper = upper_step(t + 1, factors[2 * t]);
+        out[2 * t] = rate_at(lower);
+        out[2 * t + 1] = rate_at(upper);
+        t += 1;
+    }
+    out
+}

@@ -1,0 +1,39 @@
+-- `engine::value_case` meets its contract. Assumes nothing.
+use Rattle.engine.proofs.Valued.{valued-case}
+use borrow.Author.Needs.{needs}
+use Rattle.engine.proofs.value_case.Statement.{statement}
+use Rattle.engine.proofs.value_case.Tie as tie
+use Rattle.engine.proofs.value_case.Reads as reads
+use Rattle.engine.proofs.value_case.Lts as lts
+use Rattle.engine.proofs.fill.fill_factors.Reads as fill-factors-reads
+use Rattle.engine.proofs.fill.fill_rates.Reads as fill-rates-reads
+use Rattle.engine.proofs.working.work_out.Reads as work-out-reads
+
+work-out-requires : tie.Need-work-out-requires
+work-out-requires c κs = search needs
+
+fill-factors-requires : tie.Need-fill-factors-requires
+fill-factors-requires c κs = search needs
+
+fill-rates-requires : tie.Need-fill-rates-requires
+fill-rates-requires c κs = search needs
+
+same-length : tie.Need-same-length
+same-length c = search needs
+
+same-length-2 : tie.Need-same-length-2
+same-length-2 c = search needs
+
+returns : tie.Need-returns
+returns c = valued-case (c .before .before .before .before .before .before .before .before .before .before .before .before .args .case) (c .before .before .before .before .before .before .before .before .before .before .work-out .result) _ _ _ _ (c .before .before .before .before .before .before .before .before .before .before .work-out .ensures) (c .before .before .before .before .before .before .before .fill-factors .ensures) (c .before .before .fill-rates .ensures)
+
+pub value-case-spec : {M : Type 1} → statement M
+value-case-spec =
+    tie.close
+    (tie.spec
+    work-out-requires
+    fill-factors-requires
+    fill-rates-requires
+    same-length
+    same-length-2
+    returns)

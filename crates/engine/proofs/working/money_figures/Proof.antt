@@ -1,0 +1,36 @@
+-- `engine::working::money_figures` meets its contract. Assumes nothing.
+use Rattle.engine.proofs.Stands.{figures-within, verdict-within, money-from}
+use borrow.Author.Needs.{needs}
+use Rattle.engine.proofs.working.money_figures.Statement.{statement}
+use Rattle.engine.proofs.working.money_figures.Tie as tie
+use Rattle.engine.proofs.working.money_figures.Reads as reads
+use Rattle.engine.proofs.working.money_figures.Lts as lts
+use Rattle.engine.proofs.working.bond_worths.Reads as bond-worths-reads
+use Rattle.engine.proofs.working.pension_worths.Reads as pension-worths-reads
+use Rattle.solvency.proofs.buffer.figures.Reads as figures-reads
+use Rattle.solvency.proofs.buffer.verdict_of.Reads as verdict-of-reads
+
+pension-worths-requires : tie.Need-pension-worths-requires
+pension-worths-requires c κs = search needs
+
+bond-worths-requires : tie.Need-bond-worths-requires
+bond-worths-requires c κs = search needs
+
+figures-requires : tie.Need-figures-requires
+figures-requires c κs = figures-within (c .before .before .before .before .before .pre) _ _ (c .before .before .before .before .pension-worths .ensures) (c .before .before .before .bond-worths .ensures)
+
+verdict-of-requires : tie.Need-verdict-of-requires
+verdict-of-requires c κs = verdict-within (c .before .before .before .before .before .before .before .before .before .pre) _ _ (c .before .before .before .before .before .before .before .before .pension-worths .ensures) (c .before .before .before .before .before .before .before .bond-worths .ensures) (c .before .before .before .figures .result) (c .before .before .before .figures .ensures)
+
+returns : tie.Need-returns
+returns c = money-from (c .before .before .before .before .before .before .before .before .before .before .pre) _ _ (c .before .before .before .before .before .before .before .before .before .pension-worths .ensures) (c .before .before .before .before .before .before .before .before .bond-worths .ensures) (c .before .before .before .before .figures .result) (c .before .before .before .before .figures .ensures) (c .verdict-of .result) (c .verdict-of .ensures)
+
+pub money-figures-spec : {M : Type 1} → statement M
+money-figures-spec =
+    tie.close
+    (tie.spec
+    pension-worths-requires
+    bond-worths-requires
+    figures-requires
+    verdict-of-requires
+    returns)

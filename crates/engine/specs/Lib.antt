@@ -1,0 +1,2 @@
+-- What the inner contracts of `engine` cite. The contract of `value` cites the model alone.
+pub mod WorkedOut

@@ -1,0 +1,27 @@
+-- The parts join to the listing of `model`. Assumes nothing.
+use mathlib.Core.Path.{_≡_, ap, _∙_}
+use mathlib.Core.List.{List, _++_, append-assoc}
+use Prim.Native.Nat.{ℕ}
+use Prim.Native.String.{String}
+use native.Mathlib.Omega.{arith}
+use Rattle.model.specs.Listing.{ascii, line, listing}
+use Rattle.model.specs.declared.figures.Bracket.{Bracket}
+use Rattle.model.specs.declared.figures.Figures.{Figures}
+use Rattle.model.specs.declared.figures.Verdict.{Verdict}
+use Rattle.model.specs.declared.figures.Valuation.the-variants.{Valued}
+use Rattle.listing.specs.Wrote.{Wrote}
+use Rattle.listing.specs.Parts.{spaced, named, worths, firstMargins, lastMargins, judged}
+use Rattle.listing.proofs.Stores.{as-text}
+
+line-named : (name : String) (b : Bracket) → named (ascii name) b ≡ line name b
+unfolding spaced named line
+line-named name b = simp append-assoc
+
+-- a line by the bytes of its name, where they are those of the paper's
+pub as-line : {before : List ℕ} {at r : ℕ} {after : List ℕ} {bytes : List ℕ} (name : String) (b : Bracket) → bytes ≡ ascii name
+    → Wrote before at (named bytes b) 45 r after → Wrote before at (line name b) 45 r after
+as-line name b e p = as-text (ap (λ (n : List ℕ). named n b) e ∙ line-named name b) (omega arith) p
+
+pub joined : (f : Figures) (v : Verdict) → worths f ++ firstMargins f ++ lastMargins f ++ judged v ≡ listing (Valued f v)
+unfolding worths firstMargins lastMargins judged listing
+joined f v = simp append-assoc

@@ -1,0 +1,3 @@
+-- What the contracts of `listing` cite beside the definitions of `model`.
+pub mod Wrote
+pub mod Parts

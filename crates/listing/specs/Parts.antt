@@ -1,0 +1,28 @@
+-- The parts in which the listing of `model` is written. Assumes nothing: that they join to it is proved.
+use Prim.Native.Nat.{ℕ}
+use mathlib.Core.List.{List, _++_}
+use Rattle.model.specs.Listing.{ascii, decimal, line, word}
+use Rattle.model.specs.declared.figures.Bracket.{Bracket}
+use Rattle.model.specs.declared.figures.Figures.{Figures}
+use Rattle.model.specs.declared.figures.Verdict.{Verdict}
+
+-- a number with a space before it
+unfoldable pub spaced : ℕ → List ℕ
+spaced n = ascii " " ++ decimal n
+
+-- a line by the bytes of its name
+unfoldable pub named : List ℕ → Bracket → List ℕ
+named name b = name ++ spaced (b .lower) ++ spaced (b .upper) ++ ascii "\n"
+
+-- L B A, S1 S2 S3, S4 S5 S6 S, and V with the verdict
+unfoldable pub worths : Figures → List ℕ
+worths f = line "L" (f .l) ++ line "B" (f .b) ++ line "A" (f .a)
+
+unfoldable pub firstMargins : Figures → List ℕ
+firstMargins f = line "S1" (f .s1) ++ line "S2" (f .s2) ++ line "S3" (f .s3)
+
+unfoldable pub lastMargins : Figures → List ℕ
+lastMargins f = line "S4" (f .s4) ++ line "S5" (f .s5) ++ line "S6" (f .s6) ++ line "S" (f .s)
+
+unfoldable pub judged : Verdict → List ℕ
+judged v = ascii "V " ++ word v ++ ascii "\n"

@@ -1,0 +1,159 @@
+// The listing of a valuation: fixed byte strings and numbers in base ten, written into a lent buffer.
+use model::figures::Bracket;
+use model::figures::Figures;
+use model::figures::Valuation;
+use model::figures::Verdict;
+ghost use mathlib.Core.Path.{_≡_};
+ghost use Prim.Native.Nat.{_+_, _^_, _≤_, _<_};
+ghost use lib.ListN.{length, take};
+ghost use Rattle.model.specs.Listing.{digits, word, listing, listingAfter, listingLength};
+ghost use Rattle.listing.specs.Wrote.{Wrote};
+ghost use Rattle.listing.specs.Parts.{spaced, named, worths, firstMargins, lastMargins, judged};
+
+// Stores text from at on, and answers the place after it.
+fn put(buf: &mut [u8], at: usize, text: &[u8]) -> usize
+    requires { ⌜ at + length (now text) ≤ length (now buf) ⌝ }
+    ensures { λ r. ⌜ Wrote (now (buf .entry)) at (now (text .entry)) (length (now (text .entry))) r (now (buf .exit)) ⌝ }
+{
+    let mut i = 0;
+    while i < text.len() {
+        buf[at + i] = text[i];
+        i += 1;
+    }
+    at + i
+}
+
+// Stores the digits of n, at most k, from at on.
+fn put_digits(buf: &mut [u8], at: usize, k: u64, n: u64) -> usize
+    requires { ⌜ (at + k ≤ length (now buf)) × (n < 10 ^ k) × (0 < k) ⌝ }
+    ensures { λ r. ⌜ Wrote (now (buf .entry)) at (digits k n) k r (now (buf .exit)) ⌝ }
+{
+    if n < 10 {
+        buf[at] = 48 + n as u8;
+        return at + 1;
+    }
+    let at_last = put_digits(buf, at, k - 1, n / 10);
+    buf[at_last] = 48 + (n % 10) as u8;
+    at_last + 1
+}
+
+// A space and a number.
+fn put_number(buf: &mut [u8], at: usize, n: u64) -> usize
+    requires { ⌜ at + 21 ≤ length (now buf) ⌝ }
+    ensures { λ r. ⌜ Wrote (now (buf .entry)) at (spaced n) 21 r (now (buf .exit)) ⌝ }
+{
+    let at_first = put(buf, at, b" ");
+    put_digits(buf, at_first, 20, n)
+}
+
+// One line: name, lower, upper.
+fn put_line(buf: &mut [u8], at: usize, name: &[u8], b: Bracket) -> usize
+    requires { ⌜ (length (now name) ≤ 2) × (at + 45 ≤ length (now buf)) ⌝ }
+    ensures { λ r. ⌜ Wrote (now (buf .entry)) at (named (now (name .entry)) b) 45 r (now (buf .exit)) ⌝ }
+{
+    let at_lower = put(buf, at, name);
+    let at_upper = put_number(buf, at_lower, b.lower);
+    let at_end = put_number(buf, at_upper, b.upper);
+    put(buf, at_end, b"\n")
+}
+
+// The lines of L, B and A.
+fn put_worths(buf: &mut [u8], at: usize, f: Figures) -> usize
+    requires { ⌜ at + 135 ≤ length (now buf) ⌝ }
+    ensures { λ r. ⌜ Wrote (now (buf .entry)) at (worths f) 135 r (now (buf .exit)) ⌝ }
+{
+    let at_b = put_line(buf, at, b"L", f.l);
+    let at_a = put_line(buf, at_b, b"B", f.b);
+    put_line(buf, at_a, b"A", f.a)
+}
+
+// The lines of S1, S2 and S3.
+fn put_first_margins(buf: &mut [u8], at: usize, f: Figures) -> usize
+    requires { ⌜ at + 135 ≤ length (now buf) ⌝ }
+    ensures { λ r. ⌜ Wrote (now (buf .entry)) at (firstMargins f) 135 r (now (buf .exit)) ⌝ }
+{
+    let at_s2 = put_line(buf, at, b"S1", f.s1);
+    let at_s3 = put_line(buf, at_s2, b"S2", f.s2);
+    put_line(buf, at_s3, b"S3", f.s3)
+}
+
+// The lines of S4, S5, S6 and S.
+fn put_last_margins(buf: &mut [u8], at: usize, f: Figures) -> usize
+    requires { ⌜ at + 180 ≤ length (now buf) ⌝ }
+    ensures { λ r. ⌜ Wrote (now (buf .entry)) at (lastMargins f) 180 r (now (buf .exit)) ⌝ }
+{
+    let at_s5 = put_line(buf, at, b"S4", f.s4);
+    let at_s6 = put_line(buf, at_s5, b"S5", f.s5);
+    let at_s = put_line(buf, at_s6, b"S6", f.s6);
+    put_line(buf, at_s, b"S", f.s)
+}
+
+// The word of a verdict.
+fn put_word(buf: &mut [u8], at: usize, v: Verdict) -> usize
+    requires { ⌜ at + 14 ≤ length (now buf) ⌝ }
+    ensures { λ r. ⌜ Wrote (now (buf .entry)) at (word v) 14 r (now (buf .exit)) ⌝ }
+{
+    match v {
+        Verdict::Dekkingstekort => put(buf, at, b"DEKKINGSTEKORT"),
+        Verdict::Reservetekort => put(buf, at, b"RESERVETEKORT"),
+        Verdict::VrijVermogen => put(buf, at, b"VRIJ VERMOGEN"),
+        Verdict::Onbeslist => put(buf, at, b"ONBESLIST"),
+    }
+}
+
+// V and the verdict.
+fn put_verdict(buf: &mut [u8], at: usize, v: Verdict) -> usize
+    requires { ⌜ at + 17 ≤ length (now buf) ⌝ }
+    ensures { λ r. ⌜ Wrote (now (buf .entry)) at (judged v) 17 r (now (buf .exit)) ⌝ }
+{
+    let at_word = put(buf, at, b"V ");
+    let at_end = put_word(buf, at_word, v);
+    put(buf, at_end, b"\n")
+}
+
+// All lines of a case that was valued.
+fn put_valued(buf: &mut [u8], f: Figures, v: Verdict) -> usize
+    requires { ⌜ 512 ≤ length (now buf) ⌝ }
+    ensures { λ r. ⌜ Wrote (now (buf .entry)) 0 (listing (Valuation.Valued f v)) 512 r (now (buf .exit)) ⌝ }
+{
+    let at_s1 = put_worths(buf, 0, f);
+    let at_s4 = put_first_margins(buf, at_s1, f);
+    let at_verdict = put_last_margins(buf, at_s4, f);
+    put_verdict(buf, at_verdict, v)
+}
+
+// R and the number of a refusal, the only line of a file that was refused.
+fn put_refused(buf: &mut [u8], refusal: u8) -> usize
+    requires { ⌜ 512 ≤ length (now buf) ⌝ }
+    ensures { λ r. ⌜ Wrote (now (buf .entry)) 0 (listing (Valuation.Refused refusal)) 512 r (now (buf .exit)) ⌝ }
+{
+    let at_number = put(buf, 0, b"R ");
+    let at_end = put_digits(buf, at_number, 20, refusal as u64);
+    put(buf, at_end, b"\n")
+}
+
+// The text of a valuation, from the front.
+fn put_valuation(buf: &mut [u8], v: Valuation) -> usize
+    requires { ⌜ 512 ≤ length (now buf) ⌝ }
+    ensures { λ r. ⌜ Wrote (now (buf .entry)) 0 (listing v) 512 r (now (buf .exit)) ⌝ }
+{
+    match v {
+        Valuation::Refused(refusal) => put_refused(buf, refusal),
+        Valuation::Valued(f, verdict) => put_valued(buf, f, verdict),
+    }
+}
+
+// Writes the listing of a valuation to the front of a buffer, and answers its length. The text stands in
+// an array of its own first, so that a buffer that is too short is left alone; then the answer is 0.
+pub fn write_listing(v: Valuation, out: &mut [u8]) -> usize
+    ensures count { λ r. ⌜ r ≡ listingLength v (length (now (out .entry))) ⌝ }
+    ensures text { λ _. ⌜ now (out .exit) ≡ listingAfter v (now (out .entry)) ⌝ }
+    ensures part { λ r. ⌜ (r ≤ length (now (out .exit))) × (r ≡ length (take r (now (out .exit)))) ⌝ }
+{
+    let mut text = [0u8; 512];
+    let used = put_valuation(&mut text, v);
+    if out.len() < used {
+        return 0;
+    }
+    put(out, 0, &text[..used])
+}

@@ -1,0 +1,58 @@
+-- What one more turn of a loop adds: a digit, a test, an entry of a table.
+use mathlib.Core.Path.{_≡_, refl, subst}
+use mathlib.Core.List.{List}
+use mathlib.Core.Bool.{Bool, true, false, _&&_}
+use mathlib.Core.Logic.{⊎-elim}
+use Prim.Native.Nat.{ℕ, zero, suc, _+_, _*_, _^_, _<_, _≤_}
+use native.Mathlib.Nat.{mul-le-mul, not-suc-le-zero, le-of-suc-le-suc, eq-or-lt-of-le, pow-suc, pow-le-pow-right, lt-of-lt-of-le}
+use native.Mathlib.Numerals.{add-one}
+use native.Mathlib.Omega.{arith}
+use lib.Arith.{digits-lt}
+use lib.Dec.{lit<}
+use lib.ListN.{getD, length, set, take, List·getD-eq-default}
+use lib.Seq.{take-suc-set}
+use Rattle.model.specs.Numbers.{number, every, table}
+use Rattle.model.proofs.Lists.{length-table}
+
+pub number-next : (file : List ℕ) (at i : ℕ) → number file at (i + 1) ≡ number file at i * 256 + getD file (at + i) 0
+unfolding number
+number-next file at i = rw add-one
+
+-- one digit more
+pub digit : {q b : ℕ} (i : ℕ) → q < 256 ^ i → b < 256 → q * 256 + b < 256 ^ (i + 1)
+digit {q} {b} i h k = rw (add-one, pow-suc) (digits-lt h k)
+
+-- up to eight digits fit 64 bits
+pub digits-fit : {q : ℕ} (i : ℕ) → q < 256 ^ i → i ≤ 8 → q < 2 ^ 64
+digits-fit i h k = lt-of-lt-of-le h (pow-le-pow-right (lit< tt) k)
+
+-- a position in a run of numbers: up to eight bytes each, up to 5,000 of them
+pub run-most : (w i : ℕ) → w ≤ 8 → i ≤ 5000 → w * i ≤ 40000
+run-most w i h k = mul-le-mul h k
+
+-- a test that holds below i and at i holds below i + 1
+pub every-more : (test : ℕ → Bool) (i : ℕ) → every test i ≡ true → test i ≡ true → every test (i + 1) ≡ true
+unfolding every
+every-more test i h k = rw (add-one, h, k)
+
+and-false : (a b : Bool) → b ≡ false → (a && b) ≡ false
+and-false true b h = h
+and-false false b h = refl
+
+-- a test that fails at some i below n
+pub every-fails : (test : ℕ → Bool) (i n : ℕ) → i < n → test i ≡ false → every test n ≡ false
+unfolding every
+every-fails test i zero l h = absurd (not-suc-le-zero l)
+every-fails test i (suc n) l h =
+    ⊎-elim (λ e. and-false (every test n) (test n) (subst (λ (k : ℕ). test k ≡ false) e h))
+    (λ k. simp (every-fails test i n k h))
+    (eq-or-lt-of-le (le-of-suc-le-suc l))
+
+-- one entry more of a table
+pub table-more : (f : ℕ → ℕ) (l : List ℕ) (i v : ℕ) → i < length l → take i l ≡ table f i → v ≡ f i → take (i + 1) (set l i v) ≡ table f (i + 1)
+unfolding table
+table-more f l i v h e k = rw (add-one, take-suc-set, e, k)
+
+-- behind the last entry of a table
+pub table-behind : (f : ℕ → ℕ) (n i : ℕ) → n ≤ i → getD (table f n) i 0 ≡ 0
+table-behind f n i l = List·getD-eq-default (table f n) 0 (omega (arith, length-table f n))

@@ -1,0 +1,2 @@
+-- The rates of days that begin at a position.
+pub mod Rates

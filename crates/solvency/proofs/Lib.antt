@@ -1,0 +1,5 @@
+pub mod TwoEnds
+pub mod Flows
+pub mod Products
+pub mod Same
+pub mod CaseWorth

@@ -1,0 +1,37 @@
+-- `solvency::assets::fall` meets its contract. Assumes nothing.
+use Rattle.solvency.specs.Figures.{fallOf}
+use Rattle.solvency.proofs.TwoEnds.{bracket-is}
+use borrow.Author.Needs.{needs}
+use Rattle.solvency.proofs.assets.fall.Statement.{statement}
+use Rattle.solvency.proofs.assets.fall.Tie as tie
+use Rattle.solvency.proofs.assets.fall.Reads as reads
+use Rattle.solvency.proofs.assets.fall.Lts as lts
+use Rattle.solvency.proofs.assets.less.Reads as less-reads
+
+add-less : tie.Need-add-less
+add-less c = search needs
+
+add-less-2 : tie.Need-add-less-2
+add-less-2 c = search needs
+
+less-requires : tie.Need-less-requires
+less-requires c κs = search needs
+
+add-less-3 : tie.Need-add-less-3
+add-less-3 c = search needs
+
+add-less-4 : tie.Need-add-less-4
+add-less-4 c = search needs
+
+less-requires-2 : tie.Need-less-requires-2
+less-requires-2 c κs = search needs
+
+returns : tie.Need-returns
+returns c =
+    let s = c .before .before .before .before .before .before .before .before .before .before .args in
+    bracket-is _ _ (fallOf (s .b) (s .l) (s .bm) (s .lm)) (c .before .before .before .before .before .less .ensures) (c .less2 .ensures)
+
+pub fall-spec : {M : Type 1} → statement M
+fall-spec =
+    tie.close
+    (tie.spec add-less add-less-2 less-requires add-less-3 add-less-4 less-requires-2 returns)

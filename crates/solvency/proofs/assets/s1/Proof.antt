@@ -1,0 +1,47 @@
+-- `solvency::assets::s1` meets its contract. Assumes nothing.
+use Prim.Native.Nat.{_*_, _^_}
+use Rattle.model.specs.Curve.{up, down}
+use Rattle.solvency.specs.Figures.{fallBy, S1By}
+use Rattle.solvency.proofs.Products.{larger-end, larger-most, fall-most}
+use Rattle.solvency.proofs.TwoEnds.{bracket-is, lower-is, upper-is}
+use borrow.Author.Needs.{needs}
+use Rattle.solvency.proofs.assets.s1.Statement.{statement}
+use Rattle.solvency.proofs.assets.s1.Tie as tie
+use Rattle.solvency.proofs.assets.s1.Reads as reads
+use Rattle.solvency.proofs.assets.s1.Lts as lts
+use Rattle.solvency.proofs.assets.fall.Reads as fall-reads
+use Rattle.solvency.proofs.assets.larger.Reads as larger-reads
+
+fall-requires : tie.Need-fall-requires
+fall-requires c κs = search needs
+
+fall-requires-2 : tie.Need-fall-requires-2
+fall-requires-2 c κs = search needs
+
+larger-requires : tie.Need-larger-requires
+larger-requires c κs = search needs
+
+larger-requires-2 : tie.Need-larger-requires-2
+larger-requires-2 c κs = search needs
+
+returns : tie.Need-returns
+returns c =
+    let s = c .before .before .before .before in
+    let f1 = c .before .before .before .fall .ensures in
+    let f2 = c .before .before .fall2 .ensures in
+    let up1 = lower-is (fallBy (s .args .l) (s .args .b) up) f1 in
+    let up2 = upper-is (fallBy (s .args .l) (s .args .b) up) f1 in
+    let down1 = lower-is (fallBy (s .args .l) (s .args .b) down) f2 in
+    let down2 = upper-is (fallBy (s .args .l) (s .args .b) down) f2 in
+    let l = s .pre .0 in
+    let b = s .pre .1 in (
+      bracket-is _ _ (S1By (s .args .l) (s .args .b)) (larger-end _ _ _ _ _ (c .before .larger .ensures) up1 down1) (larger-end _ _ _ _ _ (c .larger2 .ensures) up2 down2),
+      record {
+        lower = larger-most _ _ _ (50 * 10 ^ 12) _ _ (c .before .larger .ensures) up1 down1 (fall-most _ _ _ _ (b .base .lower) (l .up .lower)) (fall-most _ _ _ _ (b .base .lower) (l .down .lower));
+        upper = larger-most _ _ _ (50 * 10 ^ 12) _ _ (c .larger2 .ensures) up2 down2 (fall-most _ _ _ _ (b .base .upper) (l .up .upper)) (fall-most _ _ _ _ (b .base .upper) (l .down .upper));
+      },
+    )
+
+pub s1-spec : {M : Type 1} → statement M
+s1-spec =
+    tie.close (tie.spec fall-requires fall-requires-2 larger-requires larger-requires-2 returns)

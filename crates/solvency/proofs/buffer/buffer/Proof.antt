@@ -1,0 +1,30 @@
+-- `solvency::buffer::buffer` meets its contract. Assumes nothing.
+use Rattle.solvency.specs.Figures.{SBy}
+use Rattle.solvency.proofs.TwoEnds.{bracket-is}
+use borrow.Author.Needs.{needs}
+use Rattle.solvency.proofs.buffer.buffer.Statement.{statement}
+use Rattle.solvency.proofs.buffer.buffer.Tie as tie
+use Rattle.solvency.proofs.buffer.buffer.Reads as reads
+use Rattle.solvency.proofs.buffer.buffer.Lts as lts
+use Rattle.solvency.proofs.buffer.squares.Reads as squares-reads
+use Rattle.solvency.proofs.roots.roots.Reads as roots-reads
+
+squares-requires : tie.Need-squares-requires
+squares-requires c κs = search needs
+
+squares-requires-2 : tie.Need-squares-requires-2
+squares-requires-2 c κs = search needs
+
+roots-requires : tie.Need-roots-requires
+roots-requires c κs = search needs
+
+returns : tie.Need-returns
+returns c =
+    let a = c .before .before .before .args in
+    let r = c .roots .ensures in (
+      bracket-is _ _ (SBy (a .c) (a .s1) (a .s2) (a .s3) (a .s4) (a .s5) (a .s6)) (rw (c .before .before .squares .ensures .0) at (r .lower)) (rw (c .before .squares2 .ensures .0) at (r .upper)),
+      record { lower = r .lowerMost; upper = r .upperMost },
+    )
+
+pub buffer-spec : {M : Type 1} → statement M
+buffer-spec = tie.close (tie.spec squares-requires squares-requires-2 roots-requires returns)

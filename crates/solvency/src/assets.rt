@@ -1,0 +1,60 @@
+// The assets, and S1: the larger fall of assets less liabilities from the base curve to another.
+ghost use mathlib.Core.Path.{_≡_};
+ghost use Prim.Native.Nat.{_-_, max};
+ghost use Rattle.model.specs.Limits.{AmountsWithin};
+ghost use Rattle.model.specs.Rounded.{bracket};
+ghost use Rattle.solvency.specs.Figures.{ABy, S1By, fallOf};
+ghost use Rattle.solvency.specs.Ranges.{WorthFits, WorthsFit, LossFits};
+use super::worth::Worths;
+use model::case::Amounts;
+use model::figures::Bracket;
+
+// A: the bonds and all amounts except currency exposure, which are whole cents.
+pub fn assets(bonds: Bracket, a: Amounts) -> Bracket
+    requires { ⌜ WorthFits bonds × AmountsWithin a ⌝ }
+    ensures { λ r. ⌜ r ≡ bracket (ABy bonds a) ⌝ }
+{
+    let euros = a.mature + a.emerging + a.private + a.property + a.commodities + a.credit + a.cash;
+    let cents = 100 * euros;
+    Bracket {
+        lower: bonds.lower + cents,
+        upper: bonds.upper + cents,
+    }
+}
+
+// a - b, or 0 where that is below 0.
+fn less(a: u64, b: u64) -> u64
+    ensures { λ r. ⌜ r ≡ a - b ⌝ }
+{
+    if b < a { a - b } else { 0 }
+}
+
+fn larger(a: u64, b: u64) -> u64
+    ensures { λ r. ⌜ r ≡ max a b ⌝ }
+{
+    if a < b { b } else { a }
+}
+
+// (B - L) - (Bm - Lm), or 0, where Bm and Lm are the worths on a moved curve: a lower end is taken from upper ones, and an
+// upper from lower.
+fn fall(b: Bracket, l: Bracket, bm: Bracket, lm: Bracket) -> Bracket
+    requires { ⌜ WorthFits b × WorthFits l × WorthFits bm × WorthFits lm ⌝ }
+    ensures { λ r. ⌜ r ≡ bracket (fallOf b l bm lm) ⌝ }
+{
+    let lower = less(b.lower + lm.lower, bm.upper + l.upper);
+    let upper = less(b.upper + lm.upper, bm.lower + l.lower);
+    Bracket { lower, upper }
+}
+
+// S1, of the pension flows and the bonds.
+pub fn s1(l: Worths, b: Worths) -> Bracket
+    requires { ⌜ WorthsFit l × WorthsFit b ⌝ }
+    ensures { λ r. ⌜ r ≡ bracket (S1By l b) ⌝ }
+    ensures bound { λ r. ⌜ LossFits r ⌝ }
+{
+    let rise = fall(b.base, l.base, b.up, l.up);
+    let drop = fall(b.base, l.base, b.down, l.down);
+    let lower = larger(rise.lower, drop.lower);
+    let upper = larger(rise.upper, drop.upper);
+    Bracket { lower, upper }
+}

@@ -1,0 +1,110 @@
+// S2 to S6: the losses on equity and property, currency, commodities and credit, and the mortality margin.
+ghost use mathlib.Core.Path.{_≡_};
+ghost use Prim.Native.Nat.{_+_, _-_, _*_, _^_, _≤_, _<_};
+ghost use Rattle.arith.specs.Rounding.{divide};
+ghost use Rattle.model.specs.Case.{ageGap};
+ghost use Rattle.model.specs.Limits.{AmountsWithin, ShocksWithin, PeopleWithin};
+ghost use Rattle.model.specs.Rounded.{bracket};
+ghost use Rattle.solvency.specs.Figures.{S2By, S3By, S4By, S5By, S6By};
+ghost use Rattle.solvency.specs.Ranges.{WorthFits, LossFits};
+use super::roots::roots;
+use arith::digits::product;
+use arith::halving::quotient_ceil;
+use arith::halving::quotient_floor;
+use model::case::Amounts;
+use model::case::People;
+use model::case::Shocks;
+use model::figures::Bracket;
+
+// n thousandths of a cent as cents, rounded at both ends.
+fn from_thousandths(n: u64) -> Bracket
+    requires { ⌜ n ≤ 5 * 10 ^ 16 ⌝ }
+    ensures { λ r. ⌜ r ≡ bracket (λ e. divide e n 1000) ⌝ }
+    ensures bound { λ r. ⌜ LossFits r ⌝ }
+{
+    Bracket {
+        lower: n / 1000,
+        upper: (n + 999) / 1000,
+    }
+}
+
+// The loss on an amount in euros, in thousandths of a euro.
+fn loss(euros: u64, thousandths: u64) -> u64
+    requires { ⌜ (euros ≤ 100000000000) × (thousandths ≤ 1000) ⌝ }
+    ensures { λ r. ⌜ (r ≡ euros * thousandths) × (r ≤ 10 ^ 14) ⌝ }
+{
+    euros * thousandths
+}
+
+// S2: the four equity and property amounts times their thousandths, summed and then rounded.
+pub fn s2(a: Amounts, x: Shocks) -> Bracket
+    requires { ⌜ AmountsWithin a × ShocksWithin x ⌝ }
+    ensures { λ r. ⌜ r ≡ bracket (S2By a x) ⌝ }
+    ensures bound { λ r. ⌜ LossFits r ⌝ }
+{
+    let mature = loss(a.mature, x.mature_fall);
+    let emerging = loss(a.emerging, x.emerging_fall);
+    let private = loss(a.private, x.private_fall);
+    let property = loss(a.property, x.property_fall);
+    from_thousandths(100 * (mature + emerging + private + property))
+}
+
+// S3: the currency exposure times its thousandths.
+pub fn s3(a: Amounts, x: Shocks) -> Bracket
+    requires { ⌜ AmountsWithin a × ShocksWithin x ⌝ }
+    ensures { λ r. ⌜ r ≡ bracket (S3By a x) ⌝ }
+    ensures bound { λ r. ⌜ LossFits r ⌝ }
+{
+    let currency = loss(a.currency, x.currency_fall);
+    from_thousandths(100 * currency)
+}
+
+// S4: commodities likewise.
+pub fn s4(a: Amounts, x: Shocks) -> Bracket
+    requires { ⌜ AmountsWithin a × ShocksWithin x ⌝ }
+    ensures { λ r. ⌜ r ≡ bracket (S4By a x) ⌝ }
+    ensures bound { λ r. ⌜ LossFits r ⌝ }
+{
+    let commodities = loss(a.commodities, x.commodities_fall);
+    from_thousandths(100 * commodities)
+}
+
+// S5: credit × duration × spread × spread rise. The product passes 64 bits.
+pub fn s5(a: Amounts, x: Shocks) -> Bracket
+    requires { ⌜ AmountsWithin a × ShocksWithin x ⌝ }
+    ensures { λ r. ⌜ r ≡ bracket (S5By a x) ⌝ }
+    ensures bound { λ r. ⌜ LossFits r ⌝ }
+{
+    let years = a.credit * x.duration;
+    let widened = x.spread * x.spread_rise;
+    let cents = product(years, widened, 100);
+    let lower = quotient_floor(cents, 1_000_000_000);
+    let upper = quotient_ceil(cents, 1_000_000_000);
+    Bracket { lower, upper }
+}
+
+// The months by which the pension age exceeds the mean age, or 0.
+fn age_gap(p: People) -> u64
+    ensures { λ r. ⌜ r ≡ ageGap p ⌝ }
+{
+    if p.mean_age < p.pension_age {
+        p.pension_age - p.mean_age
+    } else {
+        0
+    }
+}
+
+// S6: the liabilities times the root of TSO² + NSA², by document 01's fraction.
+pub fn s6(l: Bracket, p: People) -> Bracket
+    requires { ⌜ WorthFits l × PeopleWithin p ⌝ }
+    ensures { λ r. ⌜ r ≡ bracket (S6By l p) ⌝ }
+    ensures bound { λ r. ⌜ LossFits r ⌝ }
+{
+    let gap = age_gap(p);
+    let g = 320 + 3 * gap;
+    let k = p.heads * (g * g) + 92_160_000;
+    let d = 256_000_000 * p.heads;
+    let least = product(l.lower, l.lower, k);
+    let most = product(l.upper, l.upper, k);
+    roots(least, most, d)
+}

@@ -35,11 +35,11 @@ valued-case c w f₀ f z₀ z g p q = record {
 }
 
 -- one check in front of others
-fails : (b : Bool) (rest : List Check) → b ≡ false → firstOf ((b, 13) ∷ rest) ≡ 13
+pub fails : (b : Bool) (rest : List Check) → b ≡ false → firstOf ((b, 13) ∷ rest) ≡ 13
 unfolding firstOf
 fails b rest e = rw e
 
-passes : (b : Bool) (rest : List Check) → b ≡ true → firstOf ((b, 13) ∷ rest) ≡ firstOf rest
+pub passes : (b : Bool) (rest : List Check) → b ≡ true → firstOf ((b, 13) ∷ rest) ≡ firstOf rest
 unfolding firstOf
 passes b rest e = rw e
 

@@ -1,2 +1,3 @@
--- What the inner contracts of `engine` cite. The contract of `value` cites the model alone.
+-- Guarantee is what holds of every call of `value`. What the inner contracts cite is in WorkedOut.
+pub mod Guarantee
 pub mod WorkedOut

@@ -35,8 +35,8 @@ mul-t10 c = omega arith
 slice-set-from-out : tie.Need-slice-set-from-out Inv-loop μ-loop
 slice-set-from-out c = omega (arith, c .before .before .before .pre)
 
-add-i : tie.Need-add-i Inv-loop μ-loop
-add-i c = omega arith
+add-j : tie.Need-add-j Inv-loop μ-loop
+add-j c = omega arith
 
 loop-less : tie.Need-loop-less Inv-loop μ-loop
 loop-less c = omega arith
@@ -45,12 +45,12 @@ loop-again : tie.Need-loop-again Inv-loop μ-loop
 loop-again c =
     let s = c .before .before .before in
     let l = c .before .before .loop in
-    let h : l .i < length (s .args .t1) = omega arith in
-    let k : l .i < length (s .args .out .now) = omega (arith, s .pre) in
-    let z = getD (s .args .t1) (l .i) (pos 0) in
+    let h : l .j < length (s .args .t1) = omega arith in
+    let k : l .j < length (s .args .out .now) = omega (arith, s .pre) in
+    let z = getD (s .args .t1) (l .j) (pos 0) in
     let e : toZ w64 (ofZ w64 z) ≡ z = search needs in
     rw e
-    (omega arith, length-set (l .out) (l .i) z ∙ l .inv .1, l .inv .2, one-filled (s .args .t1) (s .args .out .now) (l .out) (l .i) (pos 0) h k (l .inv .3))
+    (omega arith, length-set (l .out) (l .j) z ∙ l .inv .1, l .inv .2, one-filled (s .args .t1) (s .args .out .now) (l .out) (l .j) (pos 0) h k (l .inv .3))
 
 same-length : tie.Need-same-length Inv-loop μ-loop
 same-length c = c .before .loop .inv .1
@@ -59,7 +59,7 @@ returns : tie.Need-returns Inv-loop μ-loop
 returns c =
     let s = c .before .before in
     let l = c .before .loop in
-    all-filled (s .args .t1) (s .args .out .now) (l .out) (l .i) 240 (l .inv .2) (omega arith) (l .inv .3)
+    all-filled (s .args .t1) (s .args .out .now) (l .out) (l .j) 240 (l .inv .2) (omega arith) (l .inv .3)
 
 pub fill-rates-spec : {M : Type 1} → statement M
 fill-rates-spec =
@@ -72,7 +72,7 @@ fill-rates-spec =
     array-copy-out-out
     mul-t10
     slice-set-from-out
-    add-i
+    add-j
     loop-less
     loop-again
     same-length

@@ -4,7 +4,7 @@ use mathlib.Core.Bool.{Bool, true, false, cond}
 use mathlib.Core.List.{List}
 use Prim.Native.Nat.{ℕ, suc, _+_, _*_}
 use lib.ListN.{length}
-use lib.IntN.{ℤ, pos, _+ℤ_, +ℤ-idr, *ℤ-zero}
+use lib.IntN.{pos, _+ℤ_, +ℤ-idr, *ℤ-zero}
 use Rattle.model.specs.Constants.{stepsPerOne}
 use Rattle.model.specs.Numbers.{entry, table}
 use Rattle.model.specs.Case.{noAmounts, s}

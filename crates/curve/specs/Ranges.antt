@@ -9,7 +9,7 @@ use Rattle.model.specs.declared.case.Case.{Case}
 use Rattle.model.specs.declared.figures.Bracket.{Bracket}
 use Rattle.model.specs.Rounded as Rounded
 use Rattle.model.specs.Rounded.{bracket, scaled, tested}
-use Rattle.model.proofs.CurveWithin.{CurveWithin}
+use Rattle.model.specs.CurveWithin.{CurveWithin}
 use Rattle.curve.specs.declared.sums.CurveSums.{CurveSums}
 use Rattle.curve.specs.Sums.{curveOf}
 

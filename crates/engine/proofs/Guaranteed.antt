@@ -1,7 +1,7 @@
 -- Every call of `value` is an accepted or a refused one, with all that specs/Guarantee.antt says.
 -- Assumes nothing.
-use Prim.Native.Nat.{ℕ, zero, suc, _+_, _*_, _≤_, _<_}
-use mathlib.Core.Path.{_≡_, refl, ap, sym, _∙_}
+use Prim.Native.Nat.{ℕ, suc, _+_, _*_, _≤_, _<_}
+use mathlib.Core.Path.{_≡_, refl, sym, _∙_}
 use mathlib.Core.Bool.{Bool, true, false, _&&_}
 use mathlib.Core.List.{List, _∷_, _++_}
 use native.Mathlib.Omega.{arith}
@@ -12,7 +12,6 @@ use lib.ListN.{length, getD, drop, List·getD-append}
 use lib.Seq.{drop-at}
 use Rattle.arith.specs.Rounding.{End, low, high}
 use Rattle.model.specs.Numbers.{Bytes}
-use Rattle.model.specs.Layout.{Keeps}
 use Rattle.model.specs.Reading.{caseOf}
 use Rattle.model.specs.Refusals.{Check, firstOf, checks, refusal}
 use Rattle.model.specs.Curve.{base, curve}

@@ -6,8 +6,8 @@ use mathlib.Core.List.{List}
 use lib.IntN.{ℤ}
 use lib.ListN.{take}
 use Rattle.model.specs.Case.{FileCase}
-use Rattle.model.specs.Limits.{WithinLimits, AmountsWithin, ShocksWithin, PeopleWithin}
-use Rattle.model.specs.Curve.{Move, base, up, down, curve}
+use Rattle.model.specs.Limits.{AmountsWithin, ShocksWithin, PeopleWithin}
+use Rattle.model.specs.Curve.{Move, base, up, down}
 use Rattle.model.specs.Held.{held}
 use Rattle.model.specs.Rounded as Rounded
 use Rattle.model.specs.Rounded.{bracket, worth, judge, endOf}
@@ -25,11 +25,11 @@ use Rattle.curve.proofs.RateEntries.{case-entries-within, case-rates}
 use Rattle.solvency.specs.declared.worth.Worths.{Worths}
 use Rattle.solvency.specs.Figures.{figuresBy}
 use Rattle.solvency.specs.Ranges.{FlowsFit, UpTo, WorthsFit}
-use Rattle.solvency.proofs.Same.{worths, model-figures}
+use Rattle.solvency.specs.Figures.{worths}
+use Rattle.solvency.proofs.Same.{model-figures}
 use Rattle.solvency.proofs.CaseWorth.{pension-worth, bonds-worth, pension-fits, bonds-fit, pension-worths-fit, bonds-worths-fit, verdict-fits}
-use Rattle.engine.specs.declared.working.Worked.{Worked}
 use Rattle.engine.specs.declared.working.Money.{Money}
-use Rattle.engine.specs.WorkedOut.{HeldAs, HeldCase, factorsOn, FactorsFor, FactorsHeld, FactorsFrom, PensionFrom, BondsFrom, MoneyFrom, WorkedFrom, moneyOf, workedOf}
+use Rattle.engine.specs.WorkedOut.{HeldAs, HeldCase, factorsOn, FactorsFor, FactorsHeld, FactorsFrom, PensionFrom, BondsFrom, MoneyFrom, WorkedFrom}
 
 -- ---- the curves
 pub case-within : {c : Case} → HeldCase c → CaseWithin c

@@ -9,16 +9,13 @@ use borrow.Author.Tests.{le-leb, lt-leb}
 use lib.Dec.{leb}
 use lib.IntN.{ℤ}
 use lib.ListN.{length, drop}
-use Rattle.model.specs.Case.{FileCase}
 use Rattle.model.specs.Reading.{caseOf}
 use Rattle.model.specs.Refusals.{Check, firstOf, checks, refusal}
-use Rattle.model.specs.Rounded as Rounded
-use Rattle.model.specs.Buffers.{valuationRefusal, factorEntries, rateEntries, written, factorsAfter, ratesAfter, answered, valuationOf}
+use Rattle.model.specs.Buffers.{valuationRefusal, factorsAfter, ratesAfter, valuationOf}
 use Rattle.model.specs.declared.case.Case.{Case}
 use Rattle.model.specs.declared.figures.Valuation.{Valuation}
 use Rattle.model.specs.declared.figures.Valuation.the-variants.{Refused, Valued}
 use Rattle.casefile.specs.Answers.{numberOf, answerOf, readingOf}
-use Rattle.casefile.specs.declared.Answer.{Answer}
 use Rattle.casefile.specs.declared.Answer.the-variants.{Accepted, Refused as RefusedFile}
 use Rattle.casefile.specs.declared.Reading.{Reading}
 use Rattle.casefile.proofs.AcceptedReading.{accepted-reading, reading-number}

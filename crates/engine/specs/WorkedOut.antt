@@ -14,7 +14,7 @@ use Rattle.model.specs.declared.case.Case.{Case}
 use Rattle.model.specs.declared.figures.Valuation.{Valuation}
 use Rattle.model.specs.declared.figures.Valuation.the-variants.{Valued}
 use Rattle.solvency.specs.declared.worth.Worths.{Worths}
-use Rattle.solvency.proofs.Same.{worths}
+use Rattle.solvency.specs.Figures.{worths}
 use Rattle.engine.specs.declared.working.Worked.{Worked}
 use Rattle.engine.specs.declared.working.Money.{Money}
 

@@ -1,6 +1,6 @@
 -- Demand 3, whole: of every case within the limits.
 -- Assumes nothing.
-use Prim.Native.Nat.{ℕ, _*_, _≤_, _<_}
+use Prim.Native.Nat.{ℕ, _<_}
 use native.Mathlib.Omega.{arith}
 use Rattle.arith.specs.Rounding.{End, low, high}
 use Rattle.model.specs.Constants.{unit}
@@ -9,10 +9,9 @@ use Rattle.model.specs.Case.{FileCase}
 use Rattle.model.specs.Limits.{WithinLimits}
 use Rattle.model.specs.Curve.{Curve, base, curve}
 use Rattle.model.specs.Exact as Exact
-use Rattle.model.specs.Rounded as Rounded
-use Rattle.model.specs.Demand3.{Bounds, In, Demand3}
+use Rattle.model.specs.Demand3.{Bounds, Demand3}
 use Rattle.model.proofs.Bracket.{Bounded}
-use Rattle.model.proofs.CurveWithin.{CurveWithin}
+use Rattle.model.specs.CurveWithin.{CurveWithin}
 use Rattle.model.proofs.CaseCurves.{curve-within, base-within}
 use Rattle.model.proofs.Factor.{factor-in, product-pos}
 use Rattle.model.proofs.Width.{factor-width}

@@ -1,56 +1,55 @@
 -- The factor of every term lies in its bracket.
 -- Assumes nothing.
-use Rattle.arith.proofs.Rounding.{divide-floor, divide-ceiling, divide-le, le-divide}
-use Prim.Native.Nat.{ℕ, zero, suc, _+_, _*_, _-_, _^_, _/_, _≤_, _<_}
-use mathlib.Core.Path.{_≡_, refl, sym, _∙_, ap}
-use mathlib.Core.Bool.{Bool, true, false, not}
-use lib.Dec.{T, leb, le→leb}
+use Rattle.arith.proofs.Rounding.{divide-floor}
+use Prim.Native.Nat.{ℕ, zero, suc, _+_, _*_, _-_, _^_, _≤_, _<_}
+use mathlib.Core.Path.{_≡_, _∙_, ap}
+use lib.Dec.{leb, le→leb}
 use lib.Arith.{lt→nleb}
 use native.Mathlib.Omega.{arith}
-use native.Mathlib.Nat.{mul-le-mul-left, mul-le-mul-right, le-of-mul-le-mul-right, pow-zero, pow-suc, le-dest, mul-pos, one-le-pow, le-div-iff-mul-le, eq-of-mul-eq-mul-right}
+use native.Mathlib.Nat.{mul-le-mul-left, pow-zero, mul-pos}
 use native.Mathlib.Decide.{decLe}
-use Rattle.model.specs.Fraction.{Fraction, _//_, _+ᶠ_, _*ᶠ_, _÷ᶠ_, _^ᶠ_, _≈_}
+use Rattle.model.specs.Fraction.{_÷ᶠ_, _^ᶠ_, _≈_}
 use Rattle.model.specs.Curve.{Curve, P}
 use Rattle.model.specs.Exact as Exact
-use Rattle.model.specs.Exact.{G, onePlusR, onePlusUfr, weight, weights}
+use Rattle.model.specs.Exact.{G, onePlusR, onePlusUfr, weight}
 use Rattle.arith.specs.Rounding.{End, low, high, other, divide}
 use Rattle.model.specs.Constants.{unit}
 use Rattle.model.specs.Rounded as Rounded
 use Rattle.model.specs.Rounded.{scaled, ufrGrowth}
 use Rattle.model.proofs.Bracket.{Bounded}
-use Rattle.model.proofs.CurveWithin.{CurveWithin}
+use Rattle.model.specs.CurveWithin.{CurveWithin}
 use Rattle.model.proofs.Conditions.{cond-yes, cond-no}
-use Rattle.model.proofs.Steps.{step, same, cross, weigh, ends, above, start, scaled-in}
-use Rattle.model.proofs.Growth.{growth-in, growth-width, growth-least, G-pos, G-suc, P-pos, N-pos, pow-pos}
+use Rattle.model.proofs.Steps.{same, cross, weigh, ends, above, start, scaled-in}
+use Rattle.model.proofs.Growth.{growth-in, growth-width, growth-least, G-pos, G-suc, P-pos, pow-pos}
 
 -- which growth, by the term
-pub adjusted-first : (c : Curve) (t : ℕ) → t ≤ 20 → Exact.growth c t ≡ G c t
+pub growth-to-20 : (c : Curve) (t : ℕ) → t ≤ 20 → Exact.growth c t ≡ G c t
 unfolding Exact.growth
-adjusted-first c t h = cond-yes (leb t 20) _ _ (le→leb t 20 h)
+growth-to-20 c t h = cond-yes (leb t 20) _ _ (le→leb t 20 h)
 
-pub adjusted-mixed : (c : Curve) (t : ℕ) → 20 < t → t ≤ 60 → Exact.growth c t ≡ Exact.weighed c t
+pub growth-to-60 : (c : Curve) (t : ℕ) → 20 < t → t ≤ 60 → Exact.growth c t ≡ Exact.weighed c t
 unfolding Exact.growth
-adjusted-mixed c t h k = cond-no (leb t 20) _ _ (lt→nleb t 20 h) ∙ cond-yes (leb t 60) _ _ (le→leb t 60 k)
+growth-to-60 c t h k = cond-no (leb t 20) _ _ (lt→nleb t 20 h) ∙ cond-yes (leb t 60) _ _ (le→leb t 60 k)
 
-pub adjusted-ufr : (c : Curve) (t : ℕ) → 60 < t → Exact.growth c t ≡ onePlusUfr c
+pub growth-from-61 : (c : Curve) (t : ℕ) → 60 < t → Exact.growth c t ≡ onePlusUfr c
 unfolding Exact.growth
-adjusted-ufr c t h = cond-no (leb t 20) _ _ (lt→nleb t 20 (omega arith)) ∙ cond-no (leb t 60) _ _ (lt→nleb t 60 h)
+growth-from-61 c t h = cond-no (leb t 20) _ _ (lt→nleb t 20 (omega arith)) ∙ cond-no (leb t 60) _ _ (lt→nleb t 60 h)
 
 -- to 20 the product of the growths is (1 + R(t))^t
 product-first : (c : Curve) → CurveWithin c → (t : ℕ) → t ≤ 20 → Exact.product c t ≈ onePlusR c t ^ᶠ t
 unfolding Exact.product
 product-first c f zero h = rw (pow-zero (P c 0), pow-zero (c .N))
-product-first c f (suc j) h = rw (adjusted-first c (suc j) h, G-suc c j)
+product-first c f (suc j) h = rw (growth-to-20 c (suc j) h, G-suc c j)
     (omega (arith, ap (λ m. m * (P c (suc j) ^ suc j * c .N ^ suc j)) (product-first c f j (omega arith))))
 
 -- the growth that is roundd by, from 21
-pub weighed-mixed : (c : Curve) (e : End) (t : ℕ) → t ≤ 60 → Rounded.weighed c e t ≡ divide e ((1000 - weight t) * Rounded.growth c e t + weight t * ufrGrowth c) 1000
+pub weighed-to-60 : (c : Curve) (e : End) (t : ℕ) → t ≤ 60 → Rounded.weighed c e t ≡ divide e ((1000 - weight t) * Rounded.growth c e t + weight t * ufrGrowth c) 1000
 unfolding Rounded.weighed
-weighed-mixed c e t h = cond-yes (leb t 60) _ _ (le→leb t 60 h)
+weighed-to-60 c e t h = cond-yes (leb t 60) _ _ (le→leb t 60 h)
 
-pub weighed-ufr : (c : Curve) (e : End) (t : ℕ) → 60 < t → Rounded.weighed c e t ≡ ufrGrowth c
+pub weighed-from-61 : (c : Curve) (e : End) (t : ℕ) → 60 < t → Rounded.weighed c e t ≡ ufrGrowth c
 unfolding Rounded.weighed
-weighed-ufr c e t h = cond-no (leb t 60) _ _ (lt→nleb t 60 h)
+weighed-from-61 c e t h = cond-no (leb t 60) _ _ (lt→nleb t 60 h)
 
 ufr-in : (c : Curve) (e : End) → Bounded e unit (ufrGrowth c) (onePlusUfr c)
 ufr-in c low = omega arith
@@ -62,33 +61,33 @@ weighed-in c f e j h = go (decLe (suc j) 60)
   where
     go : Dec (suc j ≤ 60) → Bounded e unit (Rounded.weighed c e (suc j)) (Exact.growth c (suc j))
     go (yes k) =
-        rw (weighed-mixed c e (suc j) k, adjusted-mixed c (suc j) h k)
+        rw (weighed-to-60 c e (suc j) k, growth-to-60 c (suc j) h k)
         (weigh (1000 - weight (suc j)) (weight (suc j)) (growth-in c f e j k) (ufr-in c e))
-    go (no k) = rw (weighed-ufr c e (suc j) (omega arith), adjusted-ufr c (suc j) (omega arith)) (ufr-in c e)
+    go (no k) = rw (weighed-from-61 c e (suc j) (omega arith), growth-from-61 c (suc j) (omega arith)) (ufr-in c e)
 
 -- the adjusted growth growth and the product are above zero
 sum-pos : (k v a b u : ℕ) → 1000 ≤ k + v → 0 < a → 0 < b → 0 < k * a * (1000 * 100000) + v * (100000 + u) * (1000 * b)
 sum-pos k v a b u h l m = omega (arith, mul-le-mul-left k l, mul-le-mul-left v m)
 
-mixed-pos : (c : Curve) → CurveWithin c → (j : ℕ) → suc j ≤ 60 → (0 < Exact.weighed c (suc j) .num) × (0 < Exact.weighed c (suc j) .den)
+weighed-fraction-pos : (c : Curve) → CurveWithin c → (j : ℕ) → suc j ≤ 60 → (0 < Exact.weighed c (suc j) .num) × (0 < Exact.weighed c (suc j) .den)
 unfolding Exact.weighed
-mixed-pos c f j h =
+weighed-fraction-pos c f j h =
     let p = G-pos c f j h in
     (sum-pos (1000 - weight (suc j)) (weight (suc j)) (G c (suc j) .num) (G c (suc j) .den) (c .ufr) (omega arith) (p .0) (p .1), omega (arith, p .1))
 
-pub adjusted-pos : (c : Curve) → CurveWithin c → (j : ℕ) → (0 < Exact.growth c (suc j) .num) × (0 < Exact.growth c (suc j) .den)
-adjusted-pos c f j = go (decLe (suc j) 20) (decLe (suc j) 60)
+pub growth-fraction-pos : (c : Curve) → CurveWithin c → (j : ℕ) → (0 < Exact.growth c (suc j) .num) × (0 < Exact.growth c (suc j) .den)
+growth-fraction-pos c f j = go (decLe (suc j) 20) (decLe (suc j) 60)
   where
     go : Dec (suc j ≤ 20) → Dec (suc j ≤ 60) → (0 < Exact.growth c (suc j) .num) × (0 < Exact.growth c (suc j) .den)
-    go (yes h) k = rw (adjusted-first c (suc j) h) (G-pos c f j (omega arith))
-    go (no h) (yes k) = rw (adjusted-mixed c (suc j) (omega arith) k) (mixed-pos c f j k)
-    go (no h) (no k) = rw (adjusted-ufr c (suc j) (omega arith)) (omega arith)
+    go (yes h) k = rw (growth-to-20 c (suc j) h) (G-pos c f j (omega arith))
+    go (no h) (yes k) = rw (growth-to-60 c (suc j) (omega arith) k) (weighed-fraction-pos c f j k)
+    go (no h) (no k) = rw (growth-from-61 c (suc j) (omega arith)) (omega arith)
 
 pub product-pos : (c : Curve) → CurveWithin c → (t : ℕ) → (0 < Exact.product c t .num) × (0 < Exact.product c t .den)
 unfolding Exact.product
 product-pos c f zero = (omega arith, omega arith)
 product-pos c f (suc t) =
-    (mul-pos (product-pos c f t .0) (adjusted-pos c f t .0), mul-pos (product-pos c f t .1) (adjusted-pos c f t .1))
+    (mul-pos (product-pos c f t .0) (growth-fraction-pos c f t .0), mul-pos (product-pos c f t .1) (growth-fraction-pos c f t .1))
 
 factor-first : (c : Curve) → CurveWithin c → (e : End) (t : ℕ) → t ≤ 20 → Bounded e unit (scaled e (c .N) (P c t) t) (Exact.factor c t)
 unfolding Exact.factor
@@ -96,13 +95,13 @@ factor-first c f e t h =
     let hp : 0 < P c t = P-pos c f t (omega arith) in
     same (Exact.factor c t) (pow-pos (P c t) t hp) (omega (arith, product-first c f t h)) (scaled-in e (c .N) (P c t) t hp)
 
-pub rfactor-first : (c : Curve) (e : End) (j : ℕ) → suc j ≤ 20 → Rounded.factor c e (suc j) ≡ scaled e (c .N) (P c (suc j)) (suc j)
+pub rounded-factor-first : (c : Curve) (e : End) (j : ℕ) → suc j ≤ 20 → Rounded.factor c e (suc j) ≡ scaled e (c .N) (P c (suc j)) (suc j)
 unfolding Rounded.factor
-rfactor-first c e j h = cond-yes (leb (suc j) 20) _ _ (le→leb (suc j) 20 h)
+rounded-factor-first c e j h = cond-yes (leb (suc j) 20) _ _ (le→leb (suc j) 20 h)
 
-pub rfactor-next : (c : Curve) (e : End) (j : ℕ) → 20 < suc j → Rounded.factor c e (suc j) ≡ divide e (Rounded.factor c e j * unit) (Rounded.weighed c (other e) (suc j))
+pub rounded-factor-next : (c : Curve) (e : End) (j : ℕ) → 20 < suc j → Rounded.factor c e (suc j) ≡ divide e (Rounded.factor c e j * unit) (Rounded.weighed c (other e) (suc j))
 unfolding Rounded.factor
-rfactor-next c e j h = cond-no (leb (suc j) 20) _ _ (lt→nleb (suc j) 20 h)
+rounded-factor-next c e j h = cond-no (leb (suc j) 20) _ _ (lt→nleb (suc j) 20 h)
 
 factor-next : (c : Curve) (t : ℕ) → Exact.factor c t ÷ᶠ Exact.growth c (suc t) ≈ Exact.factor c (suc t)
 unfolding Exact.factor Exact.product
@@ -125,7 +124,7 @@ mix-least k v g u h = omega (arith, mul-le-mul-left k h, divide-floor (k * g + v
 
 pub weighed-least : (c : Curve) → CurveWithin c → (j : ℕ) → suc j ≤ 60 → least (suc j) ≤ Rounded.weighed c low (suc j)
 weighed-least c f j h =
-    rw (weighed-mixed c low (suc j) h)
+    rw (weighed-to-60 c low (suc j) h)
     (mix-least (1000 - weight (suc j)) (weight (suc j)) (Rounded.growth c low (suc j)) (c .ufr) (growth-low c f j h))
 
 weighed-low-pos : (c : Curve) → CurveWithin c → (j : ℕ) → 0 < Rounded.weighed c low (suc j)
@@ -133,25 +132,25 @@ weighed-low-pos c f j = go (decLe (suc j) 60)
   where
     go : Dec (suc j ≤ 60) → 0 < Rounded.weighed c low (suc j)
     go (yes h) = omega (arith, weighed-least c f j h)
-    go (no h) = rw (weighed-ufr c low (suc j) (omega arith)) (omega arith)
+    go (no h) = rw (weighed-from-61 c low (suc j) (omega arith)) (omega arith)
 
 pub weighed-pos : (c : Curve) → CurveWithin c → (e : End) (j : ℕ) → 20 < suc j → 0 < Rounded.weighed c e (suc j)
 weighed-pos c f low j h = weighed-low-pos c f j
 weighed-pos c f high j h =
-    omega (arith, weighed-low-pos c f j, ends (adjusted-pos c f j .1) (weighed-in c f low j h) (weighed-in c f high j h))
+    omega (arith, weighed-low-pos c f j, ends (growth-fraction-pos c f j .1) (weighed-in c f low j h) (weighed-in c f high j h))
 
 quotient-pos : (c : Curve) → CurveWithin c → (j : ℕ) → 0 < (Exact.factor c j ÷ᶠ Exact.growth c (suc j)) .den
 unfolding Exact.factor
-quotient-pos c f j = mul-pos (mul-pos (omega arith) (product-pos c f j .0)) (adjusted-pos c f j .0)
+quotient-pos c f j = mul-pos (mul-pos (omega arith) (product-pos c f j .0)) (growth-fraction-pos c f j .0)
 
 pub factor-in : (c : Curve) → CurveWithin c → (e : End) (t : ℕ) → Bounded e unit (Rounded.factor c e t) (Exact.factor c t)
 factor-in c f e zero = unfold Exact.factor Exact.product Rounded.factor in (start e unit)
 factor-in c f e (suc j) = go (decLe (suc j) 20) (factor-in c f e j)
   where
     go : Dec (suc j ≤ 20) → Bounded e unit (Rounded.factor c e j) (Exact.factor c j) → Bounded e unit (Rounded.factor c e (suc j)) (Exact.factor c (suc j))
-    go (yes h) ih = rw (rfactor-first c e j h) (factor-first c f e (suc j) h)
+    go (yes h) ih = rw (rounded-factor-first c e j h) (factor-first c f e (suc j) h)
     go (no h) ih =
-        rw (rfactor-next c e j (omega arith))
+        rw (rounded-factor-next c e j (omega arith))
         (same (Exact.factor c (suc j)) (quotient-pos c f j) (factor-next c j)
         (cross e (omega arith)
         (weighed-pos c f (other e) j (omega arith)) ih (weighed-in c f (other e) j (omega arith))))

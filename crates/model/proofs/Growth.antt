@@ -1,21 +1,19 @@
 -- The growth of a term: in its bracket, its width, and its least value.
 -- Assumes nothing.
-use Rattle.arith.proofs.Rounding.{divide-floor, divide-ceiling, divide-le, le-divide}
-use Prim.Native.Nat.{ℕ, zero, suc, _+_, _*_, _-_, _^_, _/_, _≤_, _<_}
-use mathlib.Core.Path.{_≡_, refl, sym, _∙_, ap}
+use Prim.Native.Nat.{ℕ, zero, suc, _+_, _*_, _-_, _^_, _≤_, _<_}
+use mathlib.Core.Path.{_≡_}
 use native.Mathlib.Omega.{arith}
-use native.Mathlib.Nat.{mul-le-mul-left, mul-le-mul-right, le-of-mul-le-mul-right, pow-zero, pow-suc, le-dest, mul-pos, one-le-pow}
+use native.Mathlib.Nat.{mul-le-mul-left, mul-le-mul-right, pow-zero, pow-suc, le-dest, mul-pos, one-le-pow}
 use native.Mathlib.Decide.{decLe}
-use Rattle.model.specs.Fraction.{Fraction, _//_, _+ᶠ_, _*ᶠ_, _÷ᶠ_, _^ᶠ_, _≈_}
+use Rattle.model.specs.Fraction.{_//_, _*ᶠ_, _÷ᶠ_, _^ᶠ_, _≈_}
 use Rattle.model.specs.Curve.{Curve, P}
-use Rattle.model.specs.Exact as Exact
-use Rattle.model.specs.Exact.{G, onePlusR, onePlusUfr, weight, weights}
-use Rattle.arith.specs.Rounding.{End, low, high, other, divide}
+use Rattle.model.specs.Exact.{G, onePlusR}
+use Rattle.arith.specs.Rounding.{End, low, high, divide}
 use Rattle.model.specs.Constants.{unit}
 use Rattle.model.specs.Rounded as Rounded
-use Rattle.model.specs.Rounded.{scaled, ufrGrowth}
+use Rattle.model.specs.Rounded.{scaled}
 use Rattle.model.proofs.Bracket.{Bounded}
-use Rattle.model.proofs.CurveWithin.{CurveWithin}
+use Rattle.model.specs.CurveWithin.{CurveWithin}
 use Rattle.model.proofs.Steps.{step, same, scaled-in, scaled-width, wider}
 
 sub-one : (j : ℕ) → suc j - 1 ≡ j

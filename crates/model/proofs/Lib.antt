@@ -12,7 +12,6 @@ pub mod Written
 pub mod Read
 pub mod Acceptance
 pub mod Bracket
-pub mod CurveWithin
 pub mod CaseCurves
 pub mod Steps
 pub mod Growth

@@ -1,33 +1,31 @@
 -- Every money figure lies in its bracket.
 -- Assumes nothing.
-use Prim.Native.Nat.{ℕ, zero, suc, _+_, _*_, _-_, _^_, _≤_, _<_, max}
-use mathlib.Core.Path.{_≡_, refl, sym, ap}
-use mathlib.Core.Bool.{cond}
+use Prim.Native.Nat.{ℕ, suc, _+_, _*_, _^_, _≤_, _<_, max}
+use mathlib.Core.Path.{_≡_}
 use mathlib.Core.List.{List, [], _∷_}
-use lib.Dec.{leb}
 use lib.ListN.{length}
 use native.Mathlib.Omega.{arith}
-use native.Mathlib.Nat.{mul-le-mul, mul-le-mul-left, mul-le-mul-right, le-of-mul-le-mul-right, mul-pos, max-eq-left, max-eq-right, le-max-left, le-max-right}
+use native.Mathlib.Nat.{mul-le-mul-left, mul-le-mul-right, le-of-mul-le-mul-right, mul-pos, max-eq-left, max-eq-right, le-max-left, le-max-right}
 use native.Mathlib.Decide.{decLe}
 use Rattle.arith.specs.Rounding.{End, low, high, other, divide}
 use Rattle.arith.specs.Root.{root}
 use Rattle.arith.proofs.Rounding.{divide-floor, divide-ceiling}
 use Rattle.arith.proofs.Root.{root-floor, root-ceiling}
 use Rattle.model.specs.Constants.{unit}
-use Rattle.model.specs.Fraction.{Fraction, _//_, _+ᶠ_, _∸ᶠ_, _*ᶠ_, _÷ᶠ_, square, whole, larger, _≈_}
+use Rattle.model.specs.Fraction.{Fraction, _//_, _+ᶠ_, _*ᶠ_, square, whole, larger}
 use Rattle.model.specs.Case.{FileCase, allExceptCurrency, ageGap}
 use Rattle.model.specs.Limits.{WithinLimits}
-use Rattle.model.specs.Curve.{Curve, Move, base, up, down, curve, P}
+use Rattle.model.specs.Curve.{Curve, Move, base, up, down, curve}
 use Rattle.model.specs.Exact as Exact
-use Rattle.model.specs.Exact.{loss, S², S6², TSO, NSA²}
+use Rattle.model.specs.Exact.{loss, S², S6²}
 use Rattle.model.specs.Rounded as Rounded
-use Rattle.model.specs.Rounded.{mortality, buffer}
-use Rattle.model.specs.Margins.{weightedSum, Q, W}
+use Rattle.model.specs.Rounded.{mortality}
+use Rattle.model.specs.Margins.{weightedSum, W}
 use Rattle.model.proofs.Bracket.{Bounded}
-use Rattle.model.proofs.CurveWithin.{CurveWithin}
+use Rattle.model.specs.CurveWithin.{CurveWithin}
 use Rattle.model.proofs.CaseCurves.{curve-within}
 use Rattle.model.proofs.Conditions.{cond-le, cond-gt}
-use Rattle.model.proofs.Steps.{step, same, sum, minus, prod}
+use Rattle.model.proofs.Steps.{same, sum, minus, prod}
 use Rattle.model.proofs.Factor.{factor-in, product-pos}
 use Rattle.model.proofs.Width.{factor-width}
 

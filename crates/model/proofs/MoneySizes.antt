@@ -1,23 +1,20 @@
 -- How large the money figures become: every end lies below 2^53, so that a double holds it.
 -- Assumes nothing.
-use Prim.Native.Nat.{ℕ, zero, suc, _+_, _*_, _-_, _^_, _≤_, _<_, max}
-use mathlib.Core.Path.{_≡_}
+use Prim.Native.Nat.{ℕ, suc, _+_, _*_, _^_, _≤_, _<_, max}
 use mathlib.Core.List.{List, [], _∷_}
 use native.Mathlib.Omega.{arith}
 use native.Mathlib.Nat.{mul-le-mul, mul-le-mul-left, mul-le-mul-right, le-trans, le-refl}
 use lib.ListN.{length, getD}
-use Rattle.arith.specs.Rounding.{End, low, high, other, divide}
-use Rattle.arith.specs.Root.{root}
+use Rattle.arith.specs.Rounding.{End, low, high}
 use Rattle.arith.proofs.Rounding.{divide-le}
 use Rattle.arith.proofs.Root.{root-le}
-use Rattle.model.specs.Constants.{unit}
-use Rattle.model.specs.Case.{FileCase, allExceptCurrency, ageGap}
-use Rattle.model.specs.Limits.{FlowsWithin, WithinLimits}
+use Rattle.model.specs.Case.{FileCase, ageGap}
+use Rattle.model.specs.Limits.{WithinLimits}
 use Rattle.model.specs.Curve.{Curve, Move, base, up, down, curve}
 use Rattle.model.specs.Exact as Exact
 use Rattle.model.specs.Rounded as Rounded
 use Rattle.model.specs.Rounded.{mortality, buffer}
-use Rattle.model.proofs.CurveWithin.{CurveWithin}
+use Rattle.model.specs.CurveWithin.{CurveWithin}
 use Rattle.model.proofs.CaseCurves.{curve-within}
 use Rattle.model.proofs.Steps.{ends}
 use Rattle.model.proofs.Factor.{factor-in, product-pos}

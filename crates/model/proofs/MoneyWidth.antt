@@ -1,10 +1,9 @@
 -- The widths of the money figures: the root has slope at most 1 in each of its parts.
 -- Assumes nothing.
-use Prim.Native.Nat.{ℕ, zero, suc, _+_, _*_, _-_, _^_, _≤_, _<_, max}
-use mathlib.Core.Path.{_≡_, refl, sym, ap}
+use Prim.Native.Nat.{ℕ, _+_, _*_, _^_, _≤_, _<_, max}
 use native.Mathlib.Omega.{arith}
 use native.Mathlib.Nat.{mul-le-mul, mul-le-mul-left, mul-le-mul-right, mul-comm}
-use Rattle.arith.specs.Rounding.{End, low, high, other, divide}
+use Rattle.arith.specs.Rounding.{low, high}
 use Rattle.arith.specs.Root.{root}
 use Rattle.arith.proofs.Rounding.{divide-width}
 use Rattle.arith.proofs.Root.{unsquare, root-floor, root-le}

@@ -4,12 +4,12 @@ use Prim.Native.Nat.{ℕ, zero, suc, _+_, _*_, _^_, _≤_, _<_}
 use mathlib.Core.Path.{_≡_}
 use mathlib.Core.Bool.{Bool}
 use native.Mathlib.Omega.{arith}
-use native.Mathlib.Nat.{mul-le-mul, mul-le-mul-left, mul-le-mul-right, le-trans, le-antisymm}
+use native.Mathlib.Nat.{mul-le-mul-left, mul-le-mul-right, le-trans, le-antisymm}
 use native.Mathlib.Decide.{decLe}
 use lib.Dec.{T, leb, leb→le, le→leb}
 use Rattle.arith.specs.Rounding.{End, low, high, divide}
 use Rattle.arith.proofs.Rounding.{divide-floor, divide-ceiling, divide-le, le-divide, divide-mono, divide-ends}
-use Rattle.model.specs.Constants.{stepsPerOne, unit}
+use Rattle.model.specs.Constants.{stepsPerOne}
 use Rattle.model.specs.Curve.{Curve}
 use Rattle.model.specs.Rounded as Rounded
 use Rattle.model.specs.Rounded.{scaled, tested, lowerTest, upperTest, largest, smallest}

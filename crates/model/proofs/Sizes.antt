@@ -1,25 +1,24 @@
 -- How large the rounded numbers become on each of the three curves: what the code needs so that its products fit.
 -- Assumes nothing.
-use Prim.Native.Nat.{ℕ, zero, suc, _+_, _*_, _-_, _^_, _/_, _≤_, _<_}
-use mathlib.Core.Path.{_≡_, refl, sym, _∙_, ap}
+use Prim.Native.Nat.{ℕ, zero, suc, _+_, _*_, _^_, _≤_, _<_}
+use mathlib.Core.Path.{ap}
 use mathlib.Core.Bool.{Bool}
 use lib.Dec.{T, leb, leb→le}
 use native.Mathlib.Omega.{arith}
-use native.Mathlib.Nat.{mul-le-mul, mul-le-mul-left, mul-le-mul-right, le-of-mul-le-mul-right, pow-suc, le-dest, le-trans, add-suc}
+use native.Mathlib.Nat.{mul-le-mul-left, mul-le-mul-right, le-of-mul-le-mul-right, pow-suc, le-dest, le-trans, add-suc}
 use native.Mathlib.Decide.{decLe}
-use Rattle.arith.specs.Rounding.{End, low, high, other, divide}
-use Rattle.arith.proofs.Rounding.{divide-floor, divide-ceiling, divide-le, le-divide}
+use Rattle.arith.specs.Rounding.{low, high, divide}
+use Rattle.arith.proofs.Rounding.{divide-le}
 use Rattle.model.specs.Constants.{unit}
 use Rattle.model.specs.Curve.{Curve, P}
 use Rattle.model.specs.Exact.{weight, weights}
 use Rattle.model.specs.Rounded as Rounded
 use Rattle.model.specs.Rounded.{scaled, ufrGrowth}
-use Rattle.model.proofs.Bracket.{Bounded}
-use Rattle.model.proofs.CurveWithin.{CurveWithin}
+use Rattle.model.specs.CurveWithin.{CurveWithin}
 use Rattle.model.proofs.Conditions.{below, at}
 use Rattle.model.proofs.Steps.{scaled-in, scaled-width}
 use Rattle.model.proofs.Growth.{growth-suc, P-pos, N-pos, pow-pos}
-use Rattle.model.proofs.Factor.{rfactor-first, rfactor-next, weighed-mixed, weighed-ufr, weighed-pos, least}
+use Rattle.model.proofs.Factor.{rounded-factor-first, rounded-factor-next, weighed-from-61, least}
 use Rattle.model.proofs.Width.{scaled-most, factorMost, middle}
 use Rattle.model.proofs.ZeroRate.{backward}
 
@@ -90,7 +89,7 @@ first-size c f t i h k =
 late-size : (c : Curve) → CurveWithin c → (i : ℕ) → Rounded.factor c high (60 + i) ≤ 22 * 10 ^ 11
 late-size c f zero = le-trans (middle c f 40 (omega arith) .0) (leb→le (factorMost 40) (22 * 10 ^ 11) (at middles 41 all-middles 40 (omega arith)))
 late-size c f (suc i) =
-    rw (add-suc 60 i, rfactor-next c high (60 + i) (omega arith), weighed-ufr c low (suc (60 + i)) (omega arith))
+    rw (add-suc 60 i, rounded-factor-next c high (60 + i) (omega arith), weighed-from-61 c low (suc (60 + i)) (omega arith))
     (divide-le high (Rounded.factor c high (60 + i) * unit) (ufrGrowth c) (22 * 10 ^ 11) (omega arith) (omega (arith, late-size c f i)))
 
 pub factor-size : (c : Curve) → CurveWithin c → (t : ℕ) → Rounded.factor c high t ≤ 22 * 10 ^ 11
@@ -98,7 +97,7 @@ factor-size c f t = go (decLe t 20) (decLe t 60)
   where
     first : (t : ℕ) → t ≤ 20 → Rounded.factor c high t ≤ 22 * 10 ^ 11
     first zero h = unfold Rounded.factor in (omega arith)
-    first (suc j) h = rw (rfactor-first c high j h) (omega (arith, first-size c f (suc j) (suc j) (omega arith) h))
+    first (suc j) h = rw (rounded-factor-first c high j h) (omega (arith, first-size c f (suc j) (suc j) (omega arith) h))
 
     go : Dec (t ≤ 20) → Dec (t ≤ 60) → Rounded.factor c high t ≤ 22 * 10 ^ 11
     go (yes h) k = first t h

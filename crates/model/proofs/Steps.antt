@@ -1,16 +1,15 @@
 -- One step of the rounded working, at either end: what all steps cite.
 -- Assumes nothing.
-use Rattle.arith.proofs.Rounding.{divide-floor, divide-ceiling, divide-le, le-divide}
-use Prim.Native.Nat.{ℕ, zero, suc, _+_, _*_, _-_, _^_, _/_, _≤_, _<_}
-use mathlib.Core.Path.{_≡_, refl, sym, _∙_, ap}
+use Rattle.arith.proofs.Rounding.{divide-floor, divide-ceiling}
+use Prim.Native.Nat.{ℕ, zero, suc, _+_, _*_, _-_, _≤_, _<_}
+use mathlib.Core.Path.{ap}
 use native.Mathlib.Omega.{arith}
-use native.Mathlib.Nat.{mul-le-mul-left, mul-le-mul-right, le-of-mul-le-mul-right, div-mul-le-self, lt-div-mul-add, lt-of-mul-lt-mul-right, pow-zero, pow-suc, le-dest, mul-sub, mul-comm}
+use native.Mathlib.Nat.{mul-le-mul-left, mul-le-mul-right, le-of-mul-le-mul-right, lt-of-mul-lt-mul-right, pow-zero, pow-suc, le-dest, mul-sub, mul-comm}
 use native.Mathlib.Decide.{decLe}
 use Rattle.model.specs.Fraction.{Fraction, _//_, _+ᶠ_, _∸ᶠ_, _*ᶠ_, _÷ᶠ_, _^ᶠ_, _≈_}
 use Rattle.arith.specs.Rounding.{End, low, high, other, divide}
 use Rattle.model.specs.Constants.{unit}
-use Rattle.model.specs.Rounded as Rounded
-use Rattle.model.specs.Rounded.{scaled, ufrGrowth}
+use Rattle.model.specs.Rounded.{scaled}
 use Rattle.model.proofs.Bracket.{Bounded}
 
 -- × a ÷ b keeps the bracket

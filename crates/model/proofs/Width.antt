@@ -1,37 +1,22 @@
 -- The bracket of factor t is at most 4 × t × t units wide.
 -- Assumes nothing.
-use Rattle.arith.proofs.Rounding.{divide-floor, divide-ceiling, divide-le, le-divide}
-use Prim.Native.Nat.{ℕ, zero, suc, _+_, _*_, _-_, _^_, _/_, _≤_, _<_}
-use mathlib.Core.Path.{_≡_, refl, sym, _∙_, ap}
-use mathlib.Core.Bool.{Bool, true, false, not}
+use Rattle.arith.proofs.Rounding.{divide-floor, divide-ceiling, divide-le}
+use Prim.Native.Nat.{ℕ, zero, suc, _+_, _*_, _-_, _^_, _≤_, _<_}
+use mathlib.Core.Bool.{Bool}
 use lib.Dec.{T, leb, leb→le}
 use native.Mathlib.Omega.{arith}
-use native.Mathlib.Nat.{
-  add-suc,
-  le-trans,
-  le-dest,
-  mul-le-mul,
-  mul-le-mul-left,
-  mul-le-mul-right,
-  mul-lt-mul-of-pos-right,
-  le-of-mul-le-mul-right,
-  lt-of-mul-lt-mul-right,
-  mul-pos,
-}
+use native.Mathlib.Nat.{add-suc, le-dest, mul-le-mul, mul-le-mul-left, mul-le-mul-right, mul-lt-mul-of-pos-right, le-of-mul-le-mul-right, lt-of-mul-lt-mul-right}
 use native.Mathlib.Decide.{decLe}
-use Rattle.model.specs.Fraction.{Fraction, _//_, _+ᶠ_, _*ᶠ_, _÷ᶠ_, _^ᶠ_, _≈_}
 use Rattle.model.specs.Curve.{Curve, P}
-use Rattle.model.specs.Exact as Exact
-use Rattle.model.specs.Exact.{G, onePlusR, onePlusUfr, weight, weights}
-use Rattle.arith.specs.Rounding.{End, low, high, other, divide}
+use Rattle.model.specs.Exact.{weight, weights}
+use Rattle.arith.specs.Rounding.{low, high, divide}
 use Rattle.model.specs.Constants.{unit}
 use Rattle.model.specs.Rounded as Rounded
 use Rattle.model.specs.Rounded.{scaled, ufrGrowth}
-use Rattle.model.proofs.Bracket.{Bounded}
-use Rattle.model.proofs.CurveWithin.{CurveWithin}
+use Rattle.model.specs.CurveWithin.{CurveWithin}
 use Rattle.model.proofs.Steps.{wider, scaled-width, ends}
 use Rattle.model.proofs.Growth.{growth-width, P-pos}
-use Rattle.model.proofs.Factor.{least, weighed-least, weighed-mixed, weighed-ufr, weighed-pos, weighed-in, adjusted-pos, rfactor-first, rfactor-next}
+use Rattle.model.proofs.Factor.{least, weighed-least, weighed-to-60, weighed-from-61, weighed-in, growth-fraction-pos, rounded-factor-first, rounded-factor-next}
 use Rattle.model.proofs.Conditions.{below, at}
 
 -- to 20
@@ -91,7 +76,7 @@ narrow = tt
 
 pub weighed-width : (c : Curve) → CurveWithin c → (j : ℕ) → suc j ≤ 60 → Rounded.weighed c high (suc j) ≤ Rounded.weighed c low (suc j) + growthMost (suc j)
 unfolding growthMost
-weighed-width c f j h = rw (weighed-mixed c high (suc j) h, weighed-mixed c low (suc j) h)
+weighed-width c f j h = rw (weighed-to-60 c high (suc j) h, weighed-to-60 c low (suc j) h)
     (mix (1000 - weight (suc j)) (weight (suc j)) (Rounded.growth c low (suc j)) (Rounded.growth c high (suc j)) (c .ufr) (omega (arith, growth-width c f j h)))
   where
     mix : (k l x y u : ℕ) → y ≤ x + 4 * suc j
@@ -109,7 +94,7 @@ pub middle : (c : Curve) → CurveWithin c → (j : ℕ) → j ≤ 40
     → (Rounded.factor c high (20 + j) ≤ factorMost j) × (Rounded.factor c high (20 + j) ≤ Rounded.factor c low (20 + j) + widthMost j)
 unfolding factorMost widthMost
 middle c f zero h =
-    rw (rfactor-first c high 19 (omega arith), rfactor-first c low 19 (omega arith)) (
+    rw (rounded-factor-first c high 19 (omega arith), rounded-factor-first c low 19 (omega arith)) (
       scaled-most (c .N) (P c 20) 100 98 20 hp (omega arith) (omega (arith, hl)),
       scaled-width (c .N) (P c 20) 20 hp (omega (arith, hl)) 20 (omega arith),
     )
@@ -126,14 +111,14 @@ middle c f (suc j) h =
     let k : suc i ≤ 60 = omega arith in
     let A : ℕ = least (suc i) in
     let hA : 0 < A = omega arith in
-    rw (add-suc 20 j, rfactor-next c high i m, rfactor-next c low i m)
+    rw (add-suc 20 j, rounded-factor-next c high i m, rounded-factor-next c low i m)
     (crosswise (Rounded.factor c low i) (Rounded.factor c high i) (Rounded.weighed c low (suc i)) (Rounded.weighed c high (suc i))
     (widthMost j) (growthMost (suc i)) (factorMost j) A
     (divide high (factorMost j * unit) A)
     (divide high (widthMost j * unit) A)
     (divide high (divide high (factorMost j * unit) A * growthMost (suc i)) A)
     hA (weighed-least c f i k)
-    (ends (adjusted-pos c f i .1) (weighed-in c f low i m) (weighed-in c f high i m))
+    (ends (growth-fraction-pos c f i .1) (weighed-in c f low i m) (weighed-in c f high i m))
     (weighed-width c f i k) (ih .1) (ih .0)
     (divide-ceiling (widthMost j * unit) A hA .0) (divide-ceiling (factorMost j * unit) A hA .0)
     (divide-ceiling (divide high (factorMost j * unit) A * growthMost (suc i)) A hA .0))
@@ -144,7 +129,7 @@ late c f zero = omega (arith, middle c f 40 (omega arith) .1, leb→le (widthMos
 late c f (suc i) =
     let m : 20 < suc (60 + i) = omega arith in
     let k : 60 < suc (60 + i) = omega arith in
-    rw (add-suc 60 i, rfactor-next c high (60 + i) m, rfactor-next c low (60 + i) m, weighed-ufr c low (suc (60 + i)) k, weighed-ufr c high (suc (60 + i)) k)
+    rw (add-suc 60 i, rounded-factor-next c high (60 + i) m, rounded-factor-next c low (60 + i) m, weighed-from-61 c low (suc (60 + i)) k, weighed-from-61 c high (suc (60 + i)) k)
     (omega (
       arith,
       wider (Rounded.factor c low (60 + i)) (Rounded.factor c high (60 + i)) unit (ufrGrowth c) (14400 + i) (14400 + i) (omega arith) (late c f i)
@@ -159,7 +144,7 @@ factor-width c f t = go (decLe t 20) (decLe t 60)
     first (suc j) h =
         let hl : 98 * c .N ≤ 100 * P c (suc j) = f .least (suc j) (omega arith) in
         let x : ℕ = P c (suc j) in
-        rw (rfactor-first c high j h, rfactor-first c low j h)
+        rw (rounded-factor-first c high j h, rounded-factor-first c low j h)
         (omega (arith, scaled-width (c .N) x 20 (P-pos c f (suc j) (omega arith)) (omega (arith, hl)) (suc j) h))
 
     go : Dec (t ≤ 20) → Dec (t ≤ 60) → Rounded.factor c high t ≤ Rounded.factor c low t + 4 * t * t

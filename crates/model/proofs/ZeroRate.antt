@@ -1,54 +1,35 @@
 -- The zero rate of every term from 1 to 120 lies in its bracket, which is at most two steps wide.
 -- Assumes nothing.
 use Rattle.arith.proofs.Rounding.{divide-floor, divide-ceiling, divide-le, le-divide}
-use Prim.Native.Nat.{ℕ, zero, suc, _+_, _*_, _-_, _^_, _/_, _≤_, _<_}
+use Prim.Native.Nat.{ℕ, zero, suc, _+_, _*_, _-_, _^_, _≤_, _<_}
 use mathlib.Core.Path.{_≡_, refl, sym, _∙_, ap, subst}
-use mathlib.Core.Bool.{Bool, true, false, not, cond}
+use mathlib.Core.Bool.{Bool, true, false, cond}
 use lib.Dec.{T, leb, leb→le, le→leb, ltb, ltb→lt, lit<, lit≤}
 use native.Mathlib.Omega.{arith}
-use native.Mathlib.Nat.{
-  mul-le-mul,
-  mul-le-mul-left,
-  mul-le-mul-right,
-  le-of-mul-le-mul-right,
-  lt-of-mul-lt-mul-right,
-  pow-suc,
-  pow-zero,
-  mul-pos,
-  le-dest,
-  le-trans,
-  le-of-mul-le-mul-left,
-  add-zero,
-  add-suc,
-  suc-add,
-  lt-of-not-le,
-  not-suc-le-self,
-  not-suc-le-zero,
-}
+use native.Mathlib.Nat.{mul-le-mul, mul-le-mul-left, mul-le-mul-right, le-of-mul-le-mul-right, pow-suc, pow-zero, le-dest, le-trans, le-of-mul-le-mul-left, lt-of-not-le, not-suc-le-self, not-suc-le-zero}
 use native.Mathlib.Numerals.{add-one}
 use native.Mathlib.Decide.{decLe}
-use Rattle.model.specs.Fraction.{Fraction, _//_, _+ᶠ_, _*ᶠ_, _÷ᶠ_, _^ᶠ_, _≈_, _≤ᶠ_}
 use Rattle.model.specs.Curve.{Curve, P}
 use Rattle.model.specs.Exact as Exact
-use Rattle.model.specs.Exact.{G, onePlusR, onePlusUfr, weight, weights}
-use Rattle.arith.specs.Rounding.{End, low, high, other, divide}
+use Rattle.model.specs.Exact.{G, weight, weights}
+use Rattle.arith.specs.Rounding.{End, low, high, divide}
 use Rattle.model.specs.Constants.{unit}
 use Rattle.model.specs.Rounded as Rounded
-use Rattle.model.specs.Rounded.{scaled, ufrGrowth}
+use Rattle.model.specs.Rounded.{scaled}
 use Rattle.model.proofs.Bracket.{Bounded}
-use Rattle.model.proofs.CurveWithin.{CurveWithin, BaseWithin}
+use Rattle.model.specs.CurveWithin.{BaseWithin}
 use Rattle.model.specs.Constants.{stepsPerOne}
 use Rattle.model.specs.Limits.{Between}
 use Rattle.model.specs.Curve.{natural}
-use Rattle.model.specs.Rounded.{stepAt, tested, lowerTest, upperTest, largest, smallest}
+use Rattle.model.specs.Rounded.{stepAt, lowerTest, upperTest, largest, smallest}
 use Rattle.model.specs.Demand3.{RateBounds}
 use Rattle.model.proofs.Differences.{Diff, again, diff-pos, diff-sum, diff-neg, diff-minus, le-diff, lt-diff, natural-is}
-use lib.IntN.{ℤ, pos, negℤ, _+ℤ_}
+use lib.IntN.{pos, negℤ, _+ℤ_}
 use lib.Signed.{_≤ℤ_, _<ℤ_}
-use Rattle.model.proofs.Steps.{wider, ends, above, beneath, scaled-in}
-use Rattle.model.proofs.Growth.{growth-in, growth-width, G-pos, G-suc, P-pos, N-pos, pow-pos, forward, mean}
+use Rattle.model.proofs.Steps.{wider, above, beneath, scaled-in}
+use Rattle.model.proofs.Growth.{growth-in, growth-width, G-pos, G-suc, P-pos, pow-pos, forward, mean}
 use Rattle.model.proofs.Conditions.{cond-le, cond-gt}
-use Rattle.model.proofs.Factor.{factor-in, product-pos, weighed-mixed, weighed-ufr, weighed-pos, rfactor-first, rfactor-next}
+use Rattle.model.proofs.Factor.{factor-in, product-pos, weighed-to-60, weighed-from-61, weighed-pos, rounded-factor-first, rounded-factor-next}
 use Rattle.model.proofs.Width.{scaled-most, factor-width}
 use Rattle.model.proofs.Conditions.{below, at}
 
@@ -131,10 +112,10 @@ slow c b j = go (decLe (suc j) 60)
   where
     go : Dec (suc j ≤ 60) → slowest (suc j) ≤ Rounded.weighed c low (suc j)
     go (yes h) =
-        rw (weighed-mixed c low (suc j) h, cond-le (suc j) 60 ((1000 - weight (suc j)) * (979 * 10 ^ 6) + weight (suc j) * 10 ^ 9) unit h)
+        rw (weighed-to-60 c low (suc j) h, cond-le (suc j) 60 ((1000 - weight (suc j)) * (979 * 10 ^ 6) + weight (suc j) * 10 ^ 9) unit h)
         (mix-slow (1000 - weight (suc j)) (weight (suc j)) (Rounded.growth c low (suc j)) (c .ufr) (growth-least c b j h))
     go (no h) =
-        rw (weighed-ufr c low (suc j) (omega arith), cond-gt (suc j) 60 ((1000 - weight (suc j)) * (979 * 10 ^ 6) + weight (suc j) * 10 ^ 9) unit (omega arith))
+        rw (weighed-from-61 c low (suc j) (omega arith), cond-gt (suc j) 60 ((1000 - weight (suc j)) * (979 * 10 ^ 6) + weight (suc j) * 10 ^ 9) unit (omega arith))
         (omega arith)
 
 fast : (c : Curve) → BaseWithin c → (j : ℕ) → Rounded.weighed c high (suc j) ≤ fastest (suc j)
@@ -143,10 +124,10 @@ fast c b j = go (decLe (suc j) 60)
   where
     go : Dec (suc j ≤ 60) → Rounded.weighed c high (suc j) ≤ fastest (suc j)
     go (yes h) =
-        rw (weighed-mixed c high (suc j) h, cond-le (suc j) 60 ((1000 - weight (suc j)) * (1151 * 10 ^ 6) + weight (suc j) * (105 * 10 ^ 7)) (105 * 10 ^ 10) h)
+        rw (weighed-to-60 c high (suc j) h, cond-le (suc j) 60 ((1000 - weight (suc j)) * (1151 * 10 ^ 6) + weight (suc j) * (105 * 10 ^ 7)) (105 * 10 ^ 10) h)
         (mix-fast (1000 - weight (suc j)) (weight (suc j)) (Rounded.growth c high (suc j)) (c .ufr) (growth-most c b j h) (b .within .ufrMost))
     go (no h) =
-        rw (weighed-ufr c high (suc j) (omega arith), cond-gt (suc j) 60 ((1000 - weight (suc j)) * (1151 * 10 ^ 6) + weight (suc j) * (105 * 10 ^ 7)) (105 * 10 ^ 10) (omega arith))
+        rw (weighed-from-61 c high (suc j) (omega arith), cond-gt (suc j) 60 ((1000 - weight (suc j)) * (1151 * 10 ^ 6) + weight (suc j) * (105 * 10 ^ 7)) (105 * 10 ^ 10) (omega arith))
         (omega (arith, b .within .ufrMost))
 
 -- ---- the factor between closed numbers
@@ -185,13 +166,13 @@ under c b (suc j) = go (decLe (suc j) 20) (under c b j)
   where
     go : Dec (suc j ≤ 20) → Rounded.factor c high j ≤ ceiling j → Rounded.factor c high (suc j) ≤ ceiling (suc j)
     go (yes h) ih =
-        rw (rfactor-first c high j h, cond-le (suc j) 20 (scaled high 100 99 (suc j)) (divide high (ceiling j * unit) (slowest (suc j))) h)
+        rw (rounded-factor-first c high j h, cond-le (suc j) 20 (scaled high 100 99 (suc j)) (divide high (ceiling j * unit) (slowest (suc j))) h)
         (scaled-most (c .N) (P c (suc j)) 100 99 (suc j) (P-pos c (b .within) (suc j) (omega arith)) (omega arith)
         (omega (arith, b .baseLeast (suc j) (omega arith))))
     go (no h) ih =
         let g : ℕ = Rounded.weighed c low (suc j) in
         let r : ℕ = divide high (ceiling j * unit) (slowest (suc j)) in
-        rw (rfactor-next c high j (omega arith), cond-gt (suc j) 20 (scaled high 100 99 (suc j)) (divide high (ceiling j * unit) (slowest (suc j))) (omega arith))
+        rw (rounded-factor-next c high j (omega arith), cond-gt (suc j) 20 (scaled high 100 99 (suc j)) (divide high (ceiling j * unit) (slowest (suc j))) (omega arith))
         (divide-le high (Rounded.factor c high j * unit) g r (weighed-pos c (b .within) low j (omega arith))
         (omega (arith, divide-ceiling (ceiling j * unit) (slowest (suc j)) (slowest-pos (suc j)) .0, mul-le-mul-left r (slow c b j))))
 
@@ -202,14 +183,14 @@ over c b (suc j) = go (decLe (suc j) 20) (over c b j)
   where
     go : Dec (suc j ≤ 20) → floor j ≤ Rounded.factor c low j → floor (suc j) ≤ Rounded.factor c low (suc j)
     go (yes h) ih =
-        rw (rfactor-first c low j h, cond-le (suc j) 20 (scaled low 100 110 (suc j)) (divide low (floor j * unit) (fastest (suc j))) h)
+        rw (rounded-factor-first c low j h, cond-le (suc j) 20 (scaled low 100 110 (suc j)) (divide low (floor j * unit) (fastest (suc j))) h)
         (scaled-least (c .N) (P c (suc j)) 100 110 (suc j) (P-pos c (b .within) (suc j) (omega arith)) (omega arith)
         (omega (arith, b .baseMost (suc j) (omega arith))))
     go (no h) ih =
         let g : ℕ = Rounded.weighed c high (suc j) in
         let hg : 0 < g = weighed-pos c (b .within) high j (omega arith) in
         let r : ℕ = divide low (floor j * unit) (fastest (suc j)) in
-        rw (rfactor-next c low j (omega arith), cond-gt (suc j) 20 (scaled low 100 110 (suc j)) (divide low (floor j * unit) (fastest (suc j))) (omega arith))
+        rw (rounded-factor-next c low j (omega arith), cond-gt (suc j) 20 (scaled low 100 110 (suc j)) (divide low (floor j * unit) (fastest (suc j))) (omega arith))
         (le-divide low (Rounded.factor c low j * unit) g r hg
         (omega (arith, divide-floor (floor j * unit) (fastest (suc j)) (omega (arith, fast c b j)) .0, mul-le-mul-left r (fast c b j))))
 

@@ -8,6 +8,7 @@ pub mod Reading
 pub mod Refusals
 pub mod Fraction
 pub mod Curve
+pub mod CurveWithin
 pub mod Held
 pub mod Exact
 pub mod Rounded

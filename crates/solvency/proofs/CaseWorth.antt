@@ -1,7 +1,7 @@
 -- Of a case within the limits: its held flows at the entries of its factors are worth what the model says, and every range holds.
 -- Assumes nothing.
-use Prim.Native.Nat.{ℕ, zero, suc, _+_, _*_, _-_, _/_, _^_, _≤_, _<_}
-use mathlib.Core.Path.{_≡_, refl, ap, sym, _∙_, subst}
+use Prim.Native.Nat.{ℕ, suc, _+_, _*_, _/_, _^_, _≤_, _<_}
+use mathlib.Core.Path.{_≡_, refl, ap, _∙_}
 use mathlib.Core.List.{List, [], _∷_}
 use native.Mathlib.Omega.{arith}
 use native.Mathlib.Nat.{le-trans}
@@ -9,10 +9,9 @@ use native.Mathlib.Decide.{decLe}
 use lib.Dec.{lit≤}
 use lib.ListN.{length, getD, take, List·getD-eq-default}
 use lib.Seq.{ext-getD, getD-take, length-take-le}
-use Rattle.arith.specs.Rounding.{End, low, high, divide}
-use Rattle.model.specs.Numbers.{table}
+use Rattle.arith.specs.Rounding.{End, low, high}
 use Rattle.model.specs.Case.{FileCase}
-use Rattle.model.specs.Limits.{WithinLimits, FlowsWithin}
+use Rattle.model.specs.Limits.{WithinLimits}
 use Rattle.model.specs.Curve.{Move, base, up, down, curve}
 use Rattle.model.specs.Held.{padded, held}
 use Rattle.model.specs.Buffers.{byTerm, entryOf}
@@ -25,7 +24,7 @@ use Rattle.model.proofs.Lists.{length-table, getD-table}
 use Rattle.model.proofs.MoneySizes.{factor-most, L-most, B-most, A-most, S-most}
 use Rattle.solvency.specs.Ranges.{FlowsFit, UpTo, WorthsFit}
 use Rattle.solvency.proofs.Flows.{factor-low, factor-high}
-use Rattle.solvency.proofs.Same.{worths}
+use Rattle.solvency.specs.Figures.{worths}
 
 -- factors that agree give the same worth
 worth-same : (e : End) (f g : ℕ → ℕ) (t : ℕ) (xs : List ℕ) → ((i : ℕ) → i < length xs → f (t + i) ≡ g (t + i)) → worth e f t xs ≡ worth e g t xs

@@ -1,11 +1,11 @@
 -- Products of numbers in their ranges, and the quotients and roots of such products.
 -- Assumes nothing.
 use Prim.Native.Nat.{ℕ, _+_, _*_, _-_, _^_, _≤_, _<_, max}
-use mathlib.Core.Path.{_≡_, refl, ap, sym, _∙_}
+use mathlib.Core.Path.{_≡_, _∙_}
 use native.Mathlib.Omega.{arith}
-use native.Mathlib.Nat.{mul-le-mul, mul-le-mul-left, mul-le-mul-right, le-trans, lt-of-le-of-lt, lt-of-lt-of-le, le-refl}
+use native.Mathlib.Nat.{mul-le-mul, mul-le-mul-left, le-trans, lt-of-le-of-lt, lt-of-lt-of-le, le-refl}
 use lib.Dec.{lit≤, lit<}
-use Rattle.arith.specs.Rounding.{End, low, high, divide}
+use Rattle.arith.specs.Rounding.{End, divide}
 use Rattle.arith.specs.Root.{root}
 use Rattle.arith.proofs.Rounding.{divide-le}
 use Rattle.arith.proofs.Root.{root-le}

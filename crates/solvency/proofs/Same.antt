@@ -1,10 +1,8 @@
 -- The figures by the worth of the flows: put together from their parts, and for a case's own flows the model's figures.
 -- Assumes nothing.
-use Prim.Native.Nat.{ℕ}
 use mathlib.Core.Path.{_≡_, refl}
-use Rattle.arith.specs.Rounding.{End, low, high}
 use Rattle.model.specs.Case.{FileCase}
-use Rattle.model.specs.Curve.{Move, base, up, down}
+use Rattle.model.specs.Curve.{base}
 use Rattle.model.specs.Rounded as Rounded
 use Rattle.model.specs.Rounded.{bracket}
 use Rattle.model.specs.declared.case.Amounts.{Amounts}
@@ -12,7 +10,7 @@ use Rattle.model.specs.declared.case.Shocks.{Shocks}
 use Rattle.model.specs.declared.case.People.{People}
 use Rattle.model.specs.declared.figures.Bracket.{Bracket}
 use Rattle.model.specs.declared.figures.Figures.{Figures}
-use Rattle.solvency.specs.Figures.{ABy, S1By, S2By, S3By, S4By, S5By, S6By, SBy, figuresBy}
+use Rattle.solvency.specs.Figures.{ABy, S1By, S2By, S3By, S4By, S5By, S6By, SBy, figuresBy, worths}
 use Rattle.solvency.specs.declared.worth.Worths.{Worths}
 
 pub figures-are : (l b : Worths) (a : Amounts) (x : Shocks) (p : People) (assets s1 s2 s3 s4 s5 s6 s : Bracket)
@@ -27,10 +25,6 @@ pub figures-are : (l b : Worths) (a : Amounts) (x : Shocks) (p : People) (assets
     → _≡_ {A = Figures} (record { l = l .base; b = b .base; a = assets; s1 = s1; s2 = s2; s3 = s3; s4 = s4; s5 = s5; s6 = s6; s = s }) (figuresBy l b a x p)
 unfolding figuresBy
 figures-are l b a x p assets s1 s2 s3 s4 s5 s6 s ea e1 e2 e3 e4 e5 e6 es = rw (es, ea, e1, e2, e3, e4, e5, e6)
-
--- what pension flows, or bonds, are worth on the three curves
-abbrev pub worths : (Move → End → ℕ) → Worths
-worths f = record { base = bracket (f base); up = bracket (f up); down = bracket (f down) }
 
 pub model-figures : (k : FileCase) → figuresBy (worths (Rounded.L k)) (worths (Rounded.B k)) (k .amounts) (k .shocks) (k .people) ≡ Rounded.figures k
 unfolding figuresBy

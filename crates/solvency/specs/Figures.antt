@@ -18,6 +18,10 @@ on w base = w .base
 on w up = w .up
 on w down = w .down
 
+-- what pension flows, or bonds, are worth on the three curves
+abbrev pub worths : (Move → End → ℕ) → Worths
+worths f = record { base = bracket (f base); up = bracket (f up); down = bracket (f down) }
+
 -- (B - L) - (Bm - Lm), lower ends with upper ones, and 0 where that is below 0
 abbrev pub fallOf : Bracket → Bracket → Bracket → Bracket → End → ℕ
 fallOf b l bm lm e = (endOf b e + endOf lm e) - (endOf bm (other e) + endOf l (other e))

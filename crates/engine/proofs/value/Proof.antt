@@ -4,10 +4,6 @@ use Rattle.engine.proofs.Valued.{short-factors, short-rates, refused-fi
 use borrow.Author.Needs.{needs}
 use Rattle.engine.proofs.value.Statement.{statement}
 use Rattle.engine.proofs.value.Tie as tie
-use Rattle.engine.proofs.value.Reads as reads
-use Rattle.engine.proofs.value.Lts as lts
-use Rattle.casefile.proofs.read.Reads as read-reads
-use Rattle.engine.proofs.value_case.Reads as value-case-reads
 
 returns : tie.Need-returns
 returns c = short-factors (c .before .before .before .args .file .now) (c .before .before .before .args .factors .now) (c .before .before .before .args .rates .now) (omega arith)

@@ -3,11 +3,6 @@ use Rattle.engine.proofs.Valued.{valued-case}
 use borrow.Author.Needs.{needs}
 use Rattle.engine.proofs.value_case.Statement.{statement}
 use Rattle.engine.proofs.value_case.Tie as tie
-use Rattle.engine.proofs.value_case.Reads as reads
-use Rattle.engine.proofs.value_case.Lts as lts
-use Rattle.engine.proofs.fill.fill_factors.Reads as fill-factors-reads
-use Rattle.engine.proofs.fill.fill_rates.Reads as fill-rates-reads
-use Rattle.engine.proofs.working.work_out.Reads as work-out-reads
 
 work-out-requires : tie.Need-work-out-requires
 work-out-requires c κs = search needs

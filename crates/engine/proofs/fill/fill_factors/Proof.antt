@@ -5,11 +5,9 @@ use mathlib.Core.List.{_++_}
 use native.Mathlib.Omega.{arith}
 use lib.ListN.{length, getD, take, drop, length-set}
 use borrow.Author.Needs.{needs}
-use Rattle.engine.proofs.Filled.{none-filled, one-filled, all-filled}
+use Rattle.engine.proofs.Filled.{one-filled, all-filled}
 use Rattle.engine.proofs.fill.fill_factors.Statement.{statement}
 use Rattle.engine.proofs.fill.fill_factors.Tie as tie
-use Rattle.engine.proofs.fill.fill_factors.Reads as reads
-use Rattle.engine.proofs.fill.fill_factors.Lts as lts
 
 abbrev Inv-loop : tie.InvT-loop
 Inv-loop out₀ entries i₀ out i = (i ≤ 240) × (length out ≡ length out₀) × (length entries ≡ 240) × (out ≡ take i entries ++ drop i out₀)

@@ -3,10 +3,6 @@ use Rattle.model.specs.Curve.{base}
 use Rattle.engine.proofs.Stands.{case-within, sums-within, factors-from}
 use Rattle.engine.proofs.working.base_factors.Statement.{statement}
 use Rattle.engine.proofs.working.base_factors.Tie as tie
-use Rattle.engine.proofs.working.base_factors.Reads as reads
-use Rattle.engine.proofs.working.base_factors.Lts as lts
-use Rattle.curve.proofs.factor.factors.Reads as factors-reads
-use Rattle.curve.proofs.sums.base_curve.Reads as base-curve-reads
 
 base-curve-requires : tie.Need-base-curve-requires
 base-curve-requires c κs = case-within (c .pre)

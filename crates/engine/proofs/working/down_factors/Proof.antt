@@ -3,10 +3,6 @@ use Rattle.model.specs.Curve.{down}
 use Rattle.engine.proofs.Stands.{case-within, sums-within, factors-from}
 use Rattle.engine.proofs.working.down_factors.Statement.{statement}
 use Rattle.engine.proofs.working.down_factors.Tie as tie
-use Rattle.engine.proofs.working.down_factors.Reads as reads
-use Rattle.engine.proofs.working.down_factors.Lts as lts
-use Rattle.curve.proofs.factor.factors.Reads as factors-reads
-use Rattle.curve.proofs.sums.down_curve.Reads as down-curve-reads
 
 down-curve-requires : tie.Need-down-curve-requires
 down-curve-requires c κs = case-within (c .pre)

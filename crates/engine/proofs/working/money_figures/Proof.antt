@@ -3,12 +3,6 @@ use Rattle.engine.proofs.Stands.{figures-within, verdict-within, money-
 use borrow.Author.Needs.{needs}
 use Rattle.engine.proofs.working.money_figures.Statement.{statement}
 use Rattle.engine.proofs.working.money_figures.Tie as tie
-use Rattle.engine.proofs.working.money_figures.Reads as reads
-use Rattle.engine.proofs.working.money_figures.Lts as lts
-use Rattle.engine.proofs.working.bond_worths.Reads as bond-worths-reads
-use Rattle.engine.proofs.working.pension_worths.Reads as pension-worths-reads
-use Rattle.solvency.proofs.buffer.figures.Reads as figures-reads
-use Rattle.solvency.proofs.buffer.verdict_of.Reads as verdict-of-reads
 
 pension-worths-requires : tie.Need-pension-worths-requires
 pension-worths-requires c κs = search needs

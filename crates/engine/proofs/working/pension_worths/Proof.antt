@@ -4,9 +4,6 @@ use Rattle.engine.proofs.Stands.{pension-on, pension-from}
 use borrow.Author.Needs.{needs}
 use Rattle.engine.proofs.working.pension_worths.Statement.{statement}
 use Rattle.engine.proofs.working.pension_worths.Tie as tie
-use Rattle.engine.proofs.working.pension_worths.Reads as reads
-use Rattle.engine.proofs.working.pension_worths.Lts as lts
-use Rattle.solvency.proofs.worth.worth_of.Reads as worth-of-reads
 
 slice-aggregate-worth-of : tie.Need-slice-aggregate-worth-of
 slice-aggregate-worth-of c = search needs

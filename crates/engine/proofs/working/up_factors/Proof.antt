@@ -3,10 +3,6 @@ use Rattle.model.specs.Curve.{up}
 use Rattle.engine.proofs.Stands.{case-within, sums-within, factors-from}
 use Rattle.engine.proofs.working.up_factors.Statement.{statement}
 use Rattle.engine.proofs.working.up_factors.Tie as tie
-use Rattle.engine.proofs.working.up_factors.Reads as reads
-use Rattle.engine.proofs.working.up_factors.Lts as lts
-use Rattle.curve.proofs.factor.factors.Reads as factors-reads
-use Rattle.curve.proofs.sums.up_curve.Reads as up-curve-reads
 
 up-curve-requires : tie.Need-up-curve-requires
 up-curve-requires c κs = case-within (c .pre)

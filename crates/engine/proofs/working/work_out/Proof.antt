@@ -3,13 +3,6 @@ use Rattle.engine.proofs.Stands.{rates-within, factors-held, worked-fro
 use borrow.Author.Needs.{needs}
 use Rattle.engine.proofs.working.work_out.Statement.{statement}
 use Rattle.engine.proofs.working.work_out.Tie as tie
-use Rattle.engine.proofs.working.work_out.Reads as reads
-use Rattle.engine.proofs.working.work_out.Lts as lts
-use Rattle.curve.proofs.rates.zero_rates.Reads as zero-rates-reads
-use Rattle.engine.proofs.working.base_factors.Reads as base-factors-reads
-use Rattle.engine.proofs.working.down_factors.Reads as down-factors-reads
-use Rattle.engine.proofs.working.money_figures.Reads as money-figures-reads
-use Rattle.engine.proofs.working.up_factors.Reads as up-factors-reads
 
 base-factors-requires : tie.Need-base-factors-requires
 base-factors-requires c κs = search needs

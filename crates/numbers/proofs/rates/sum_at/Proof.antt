@@ -1,6 +1,6 @@
 -- `numbers::rates::sum_at` meets its contract: after d turns the sum is that over the first d days. Assumes nothing.
 use mathlib.Core.Path.{_≡_, ap, _∙_}
-use Prim.Native.Nat.{_≤_, _-_, _*_, _+_}
+use Prim.Native.Nat.{_≤_, _-_, _*_}
 use borrow.Author.Needs.{needs}
 use native.Mathlib.Omega.{arith}
 use lib.IntN.{pos, _+ℤ_}

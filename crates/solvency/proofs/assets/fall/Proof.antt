@@ -4,9 +4,6 @@ use Rattle.solvency.proofs.TwoEnds.{bracket-is}
 use borrow.Author.Needs.{needs}
 use Rattle.solvency.proofs.assets.fall.Statement.{statement}
 use Rattle.solvency.proofs.assets.fall.Tie as tie
-use Rattle.solvency.proofs.assets.fall.Reads as reads
-use Rattle.solvency.proofs.assets.fall.Lts as lts
-use Rattle.solvency.proofs.assets.less.Reads as less-reads
 
 add-less : tie.Need-add-less
 add-less c = search needs

@@ -7,10 +7,6 @@ use Rattle.solvency.proofs.TwoEnds.{bracket-is, lower-is, upper-is}
 use borrow.Author.Needs.{needs}
 use Rattle.solvency.proofs.assets.s1.Statement.{statement}
 use Rattle.solvency.proofs.assets.s1.Tie as tie
-use Rattle.solvency.proofs.assets.s1.Reads as reads
-use Rattle.solvency.proofs.assets.s1.Lts as lts
-use Rattle.solvency.proofs.assets.fall.Reads as fall-reads
-use Rattle.solvency.proofs.assets.larger.Reads as larger-reads
 
 fall-requires : tie.Need-fall-requires
 fall-requires c κs = search needs

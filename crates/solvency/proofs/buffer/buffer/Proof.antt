@@ -4,10 +4,6 @@ use Rattle.solvency.proofs.TwoEnds.{bracket-is}
 use borrow.Author.Needs.{needs}
 use Rattle.solvency.proofs.buffer.buffer.Statement.{statement}
 use Rattle.solvency.proofs.buffer.buffer.Tie as tie
-use Rattle.solvency.proofs.buffer.buffer.Reads as reads
-use Rattle.solvency.proofs.buffer.buffer.Lts as lts
-use Rattle.solvency.proofs.buffer.squares.Reads as squares-reads
-use Rattle.solvency.proofs.roots.roots.Reads as roots-reads
 
 squares-requires : tie.Need-squares-requires
 squares-requires c κs = search needs

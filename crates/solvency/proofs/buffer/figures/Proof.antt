@@ -3,16 +3,6 @@ use Rattle.solvency.proofs.Same.{figures-are}
 use borrow.Author.Needs.{needs}
 use Rattle.solvency.proofs.buffer.figures.Statement.{statement}
 use Rattle.solvency.proofs.buffer.figures.Tie as tie
-use Rattle.solvency.proofs.buffer.figures.Reads as reads
-use Rattle.solvency.proofs.buffer.figures.Lts as lts
-use Rattle.solvency.proofs.assets.assets.Reads as assets-reads
-use Rattle.solvency.proofs.assets.s1.Reads as s1-reads
-use Rattle.solvency.proofs.buffer.buffer.Reads as buffer-reads
-use Rattle.solvency.proofs.losses.s2.Reads as s2-reads
-use Rattle.solvency.proofs.losses.s3.Reads as s3-reads
-use Rattle.solvency.proofs.losses.s4.Reads as s4-reads
-use Rattle.solvency.proofs.losses.s5.Reads as s5-reads
-use Rattle.solvency.proofs.losses.s6.Reads as s6-reads
 
 assets-requires : tie.Need-assets-requires
 assets-requires c κs = search needs

@@ -6,11 +6,6 @@ use Rattle.solvency.proofs.Products.{pair-most, correlated-most, sum-mo
 use borrow.Author.Needs.{needs}
 use Rattle.solvency.proofs.buffer.squares.Statement.{statement}
 use Rattle.solvency.proofs.buffer.squares.Tie as tie
-use Rattle.solvency.proofs.buffer.squares.Reads as reads
-use Rattle.solvency.proofs.buffer.squares.Lts as lts
-use Rattle.arith.proofs.digits.product.Reads as product-reads
-use Rattle.arith.proofs.digits.sum.Reads as sum-reads
-use Rattle.solvency.proofs.buffer.two_squares.Reads as two-squares-reads
 
 mul-twice : tie.Need-mul-twice
 mul-twice c = search needs

@@ -3,10 +3,6 @@ use Rattle.solvency.proofs.Products.{pair-fits}
 use borrow.Author.Needs.{needs}
 use Rattle.solvency.proofs.buffer.two_squares.Statement.{statement}
 use Rattle.solvency.proofs.buffer.two_squares.Tie as tie
-use Rattle.solvency.proofs.buffer.two_squares.Reads as reads
-use Rattle.solvency.proofs.buffer.two_squares.Lts as lts
-use Rattle.arith.proofs.digits.product.Reads as product-reads
-use Rattle.arith.proofs.digits.sum.Reads as sum-reads
 
 product-requires : tie.Need-product-requires
 product-requires c κs = search needs

@@ -6,8 +6,6 @@ use Rattle.model.proofs.Verdicts.{judge-d, judge-first, judge-r, judge-v, judge
 use borrow.Author.Needs.{needs}
 use Rattle.solvency.proofs.buffer.verdict_of.Statement.{statement}
 use Rattle.solvency.proofs.buffer.verdict_of.Tie as tie
-use Rattle.solvency.proofs.buffer.verdict_of.Reads as reads
-use Rattle.solvency.proofs.buffer.verdict_of.Lts as lts
 
 mul-if1 : tie.Need-mul-if1
 mul-if1 c = search needs

@@ -5,8 +5,6 @@ use Rattle.arith.specs.Rounding.{divide}
 use borrow.Author.Needs.{needs}
 use Rattle.solvency.proofs.losses.from_thousandths.Statement.{statement}
 use Rattle.solvency.proofs.losses.from_thousandths.Tie as tie
-use Rattle.solvency.proofs.losses.from_thousandths.Reads as reads
-use Rattle.solvency.proofs.losses.from_thousandths.Lts as lts
 
 add-t3 : tie.Need-add-t3
 add-t3 c = search needs

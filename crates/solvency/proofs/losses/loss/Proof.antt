@@ -4,8 +4,6 @@ use native.Mathlib.Omega.{arith}
 use Rattle.solvency.proofs.Products.{loss-most}
 use Rattle.solvency.proofs.losses.loss.Statement.{statement}
 use Rattle.solvency.proofs.losses.loss.Tie as tie
-use Rattle.solvency.proofs.losses.loss.Reads as reads
-use Rattle.solvency.proofs.losses.loss.Lts as lts
 
 mul-result : tie.Need-mul-result
 mul-result c = omega (arith, loss-most _ _ (c .pre .0) (c .pre .1))

@@ -2,10 +2,6 @@
 use borrow.Author.Needs.{needs}
 use Rattle.solvency.proofs.losses.s2.Statement.{statement}
 use Rattle.solvency.proofs.losses.s2.Tie as tie
-use Rattle.solvency.proofs.losses.s2.Reads as reads
-use Rattle.solvency.proofs.losses.s2.Lts as lts
-use Rattle.solvency.proofs.losses.from_thousandths.Reads as from-thousandths-reads
-use Rattle.solvency.proofs.losses.loss.Reads as loss-reads
 
 loss-requires : tie.Need-loss-requires
 loss-requires c κs = search needs

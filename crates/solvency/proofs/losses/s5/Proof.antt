@@ -7,11 +7,6 @@ use Rattle.solvency.proofs.TwoEnds.{bracket-is}
 use borrow.Author.Needs.{needs}
 use Rattle.solvency.proofs.losses.s5.Statement.{statement}
 use Rattle.solvency.proofs.losses.s5.Tie as tie
-use Rattle.solvency.proofs.losses.s5.Reads as reads
-use Rattle.solvency.proofs.losses.s5.Lts as lts
-use Rattle.arith.proofs.digits.product.Reads as product-reads
-use Rattle.arith.proofs.halving.quotient_ceil.Reads as quotient-ceil-reads
-use Rattle.arith.proofs.halving.quotient_floor.Reads as quotient-floor-reads
 
 mul-years : tie.Need-mul-years
 mul-years c = omega (arith, years-most _ _ _ _ (c .before .before .pre .0 .credit) (c .before .before .pre .1 .duration) (c .before .before .pre .1 .spread) (c .before .before .pre .1 .spreadRise))

@@ -9,11 +9,6 @@ use Rattle.solvency.proofs.TwoEnds.{bracket-is}
 use borrow.Author.Needs.{needs}
 use Rattle.solvency.proofs.losses.s6.Statement.{statement}
 use Rattle.solvency.proofs.losses.s6.Tie as tie
-use Rattle.solvency.proofs.losses.s6.Reads as reads
-use Rattle.solvency.proofs.losses.s6.Lts as lts
-use Rattle.arith.proofs.digits.product.Reads as product-reads
-use Rattle.solvency.proofs.losses.age_gap.Reads as age-gap-reads
-use Rattle.solvency.proofs.roots.roots.Reads as roots-reads
 
 age-gap-requires : tie.Need-age-gap-requires
 age-gap-requires c κs = search needs

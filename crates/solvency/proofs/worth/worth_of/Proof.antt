@@ -1,19 +1,14 @@
 -- `solvency::worth::worth_of` meets its contract. Assumes nothing.
 use Rattle.model.specs.Buffers.{entryOf}
 use Prim.Native.Nat.{_≤_, _<_, _+_, _*_, _-_, _^_}
-use mathlib.Core.Path.{_≡_, refl, sym}
+use mathlib.Core.Path.{_≡_, sym}
 use native.Mathlib.Omega.{arith}
-use borrow.Author.Needs.{needs}
 use lib.ListN.{length, take}
 use Rattle.arith.specs.Rounding.{low, high}
 use Rattle.model.specs.Rounded.{worth}
 use Rattle.solvency.proofs.Flows.{no-worth, worth-next, factor-low, factor-high, flow-range, flow-most, worth-done}
 use Rattle.solvency.proofs.worth.worth_of.Statement.{statement}
 use Rattle.solvency.proofs.worth.worth_of.Tie as tie
-use Rattle.solvency.proofs.worth.worth_of.Reads as reads
-use Rattle.solvency.proofs.worth.worth_of.Lts as lts
-use Rattle.arith.proofs.scale.mul_div_ceil.Reads as mul-div-ceil-reads
-use Rattle.arith.proofs.scale.mul_div_floor.Reads as mul-div-floor-reads
 
 abbrev Inv-loop : tie.InvT-loop
 Inv-loop flows count factors lower₀ upper₀ i₀ lower upper i =

@@ -1,5 +1,4 @@
 -- What the checks of a file leave true of a curve, relative to N: of all three curves, and more of the base curve.
--- Assumes nothing.
 use Prim.Native.Nat.{ℕ, suc, _+_, _*_, _≤_, _<_}
 use Rattle.model.specs.Curve.{Curve, P}
 

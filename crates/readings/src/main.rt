@@ -1,0 +1,121 @@
+// Reads many files (crate batch), and prints one line for each: R and the number of its refusal; or C and every field of its case in
+// the order of the struct, the arrays whole, and behind them the length of the part that holds the rates and a hash of its bytes.
+use batch::print_number;
+use batch::print_numbers;
+use casefile::Answer;
+use libc::STDOUT_FILENO;
+use model::case::Amounts;
+use model::case::Case;
+use model::case::People;
+use model::case::Shocks;
+
+fn print_amounts(a: Amounts) {
+    print_number(a.mature);
+    print_number(a.emerging);
+    print_number(a.private);
+    print_number(a.property);
+    print_number(a.commodities);
+    print_number(a.credit);
+    print_number(a.cash);
+    print_number(a.currency);
+}
+
+fn print_shocks(s: Shocks) {
+    print_number(s.up_shift);
+    print_number(s.down_shift);
+    print_number(s.mature_fall);
+    print_number(s.emerging_fall);
+    print_number(s.private_fall);
+    print_number(s.property_fall);
+    print_number(s.currency_fall);
+    print_number(s.commodities_fall);
+    print_number(s.spread_rise);
+    print_number(s.correlation);
+    print_number(s.spread);
+    print_number(s.duration);
+}
+
+fn print_people(p: People) {
+    print_number(p.heads);
+    print_number(p.pension_age);
+    print_number(p.mean_age);
+}
+
+fn print_case(c: Case) {
+    let sums = c.sums;
+    let pension = c.pension;
+    let bonds = c.bonds;
+    let amounts = c.amounts;
+    let shocks = c.shocks;
+    let people = c.people;
+    print_number(c.ufr);
+    print_number(c.days);
+    print_numbers(&sums);
+    print_number(c.pension_count as u64);
+    print_numbers(&pension);
+    print_number(c.bond_count as u64);
+    print_numbers(&bonds);
+    print_amounts(amounts);
+    print_shocks(shocks);
+    print_people(people);
+}
+
+// Takes in one byte more. The place of each byte counts.
+fn hashed(hash: u64, byte: u8) -> u64 {
+    (hash % 1_000_003) * 257 + byte as u64
+}
+
+fn hash_of(part: &[u8]) -> u64 {
+    let mut hash = 0;
+    let mut i = 0;
+    while i < part.len() {
+        hash = hashed(hash, part[i]);
+        i += 1;
+    }
+    hash
+}
+
+// A refused file has an empty part, whose length is printed as well.
+fn print_part(file: &[u8]) {
+    let part = casefile::rates_part(file);
+    print_number(part.len() as u64);
+    print_number(hash_of(part));
+    io::write_all(STDOUT_FILENO, b"\n");
+}
+
+fn print_reading(file: &[u8]) {
+    let reading = casefile::read(file);
+    let answer = reading.answer;
+    let case = reading.case;
+    match answer {
+        Answer::Refused(number) => {
+            io::write_all(STDOUT_FILENO, b"R");
+            print_number(number as u64);
+        }
+        Answer::Accepted => {
+            io::write_all(STDOUT_FILENO, b"C");
+            print_case(case);
+        }
+    }
+    print_part(file);
+}
+
+// Takes the next file, and answers whether there was one of at most 100,000 bytes.
+fn print_next() -> bool {
+    let mut buf = [0u8; 100000];
+    let length = batch::next_length();
+    if buf.len() < length {
+        return false;
+    }
+    let n = batch::read_file(length, &mut buf);
+    print_reading(&buf[..n]);
+    true
+}
+
+// A proved loop has to end, and nothing says that the input does. No run uses up the turns.
+fn main() {
+    let mut turns = u64::MAX;
+    while turns > 0 && print_next() {
+        turns -= 1;
+    }
+}

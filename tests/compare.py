@@ -1,0 +1,174 @@
+"""Runs the engine beside the reference: python3 tests/compare.py [--quick]
+
+Listings of thousands of files; factors and zero rates at all 120 terms; demand 3 of the engine's own brackets
+against the exact figures over fractions; the program itself on inputs of odd kinds. Ends with 1 on any difference,
+or if a refusal from 1 to 12 or a verdict was not seen.
+"""
+
+import os
+import random
+import subprocess
+import sys
+import tempfile
+from collections import Counter
+from types import SimpleNamespace
+
+import examples
+import files
+import programs
+import reference
+from reference import MONEY, STEPS, Exact, allowed_width, demand3, encode
+
+SEED = 2013
+
+
+class Comparison:
+    """Counts what was seen and what differs."""
+
+    def __init__(self):
+        self.outcomes, self.different = Counter(), 0
+
+    def report(self, kind, count, wrong):
+        self.different += len(wrong)
+        for data, message in wrong[:5]:
+            print(f"DIFFERENT, {kind}: {message}\n  file {data.hex()}")
+        print(f"{kind}: {count} files, {len(wrong)} different", flush=True)
+
+    def same(self, kind, batch, found, expected):
+        """Reports the files whose answers are not the expected ones."""
+        self.report(kind, len(batch), [(data, f"engine {answer}, reference {right}")
+                                       for data, answer, right in zip(batch, found, expected) if answer != right])
+
+
+# ---------------------------------------------------------------- listings
+
+def kinds(rng, quick):
+    """Files by kind."""
+    some = lambda count: count // 10 if quick else count
+    in_bytes = lambda cases: [files.file_of(rng, case) for case in cases]
+    yield "random", files.random_files(rng, some(3_000))
+    yield "ends of the limits", in_bytes([*files.ends(), *(files.extreme_case(rng) for _ in range(some(1_000)))])
+    yield "near the borders", in_bytes(files.border_cases(rng, some(2_000)))
+    yield "wide brackets", in_bytes(case for aim in files.WIDTHS for _ in range(some(20))
+                                    for case in files.climbed(rng, aim, 60))
+    yield "70 days, 120 and 60 flows", in_bytes(files.full_case(rng) for _ in range(some(100)))
+    damaged = [bad for data in (files.all_fields(), files.all_fields(3)) for bad in files.damaged_once(data)]
+    yield "damaged", damaged + [data[:-1] for data in damaged] + [data + b"\0" for data in damaged]
+
+
+def compare_listings(comparison, kind, batch):
+    found, expected = programs.listings(batch), [reference.listing(data) for data in batch]
+    comparison.outcomes.update(map(programs.outcome, expected))
+    comparison.same(kind, batch, found, expected)
+
+
+# ---------------------------------------------------------------- curves
+
+def curve_files(rng, count):
+    """Files for a comparison of the buffers, one of them refused."""
+    cases = [examples.bent(), *files.ends(), files.full_case(rng)]
+    cases += [make(rng) for make in (examples.random_case, files.extreme_case) for _ in range(count // 2)]
+    return [files.file_of(rng, case) for case in cases] + [b""]
+
+
+def compare_curves(comparison, batch):
+    comparison.same("factors and zero rates", batch, programs.curves(batch), map(programs.curve, batch))
+
+
+# ---------------------------------------------------------------- demand 3
+
+def exact_cases(rng, count):
+    """Mostly of few days, since exact fractions of many are long; a twelfth is as large as can be."""
+    few = lambda: rng.choice([1, 1, 1, 2, 2, 3])
+    cases = [examples.bent(), examples.up(), examples.down()]
+    cases += [examples.random_case(rng, few()) for _ in range(count // 2)]
+    cases += [files.extreme_case(rng, few()) for _ in range(count // 8)]
+    cases += files.border_cases(rng, count // 4)
+    return cases + [files.full_case(rng) for _ in range(count // 12)]
+
+
+def brackets(numbers):
+    """Pairs of numbers at the places 1, 2, ..."""
+    return [None] + list(zip(numbers[::2], numbers[1::2]))
+
+
+def engine_figures(case, listing, curve):
+    """What the engine printed, in the shape of the reference's Rounded."""
+    *money, verdict = listing.decode().splitlines()
+    figures = {name: (int(lower), int(upper)) for name, lower, upper in map(str.split, money)}
+    factors, rates = ([int(word) for word in line.split()[1:]] for line in curve.splitlines())
+    return SimpleNamespace(**{name: figures[name] for name in MONEY}, verdict=verdict[2:],
+                           factors=brackets(factors[:240]),
+                           zero_rates=brackets([rate - STEPS for rate in rates[:240]]),
+                           WL=allowed_width(case.pension), WB=allowed_width(case.bonds))
+
+
+def compare_exactly(comparison, rng, count):
+    """Demand 3 of the engine's brackets: the exact figures in them, their widths, the verdict."""
+    cases = exact_cases(rng, count)
+    batch = [files.file_of(rng, case) for case in cases]
+    listings, wrong = programs.listings(batch), []
+    for case, data, listing, curve in zip(cases, batch, listings, programs.curves(batch)):
+        broken = demand3(case, Exact(case), engine_figures(case, listing, curve))
+        if broken:
+            wrong.append((data, "broken: " + "; ".join(broken)))
+    comparison.report("demand 3, exactly", len(batch), wrong)
+    print(f"  {counts(Counter(map(programs.outcome, listings)))}")
+
+
+# ---------------------------------------------------------------- the program
+
+def valuation(**standard_input):
+    return subprocess.run([programs.program("valuation")], capture_output=True, check=True, **standard_input).stdout
+
+
+def in_pieces(data):
+    """The listing of a file that arrives in pieces through a pipe."""
+    with subprocess.Popen([programs.program("valuation")], stdin=subprocess.PIPE, stdout=subprocess.PIPE) as run:
+        for at in range(0, len(data), 37):
+            run.stdin.write(data[at:at + 37])
+            run.stdin.flush()
+        run.stdin.close()
+        return run.stdout.read()
+
+
+def failing():
+    """The listing of an input whose reading fails: a folder."""
+    with tempfile.TemporaryDirectory() as folder:
+        descriptor = os.open(folder, os.O_RDONLY)
+        try:
+            return valuation(stdin=descriptor)
+        finally:
+            os.close(descriptor)
+
+
+def compare_program(comparison, rng, quick):
+    batch = files.random_files(rng, 20 if quick else 100) + files.damaged_once(files.all_fields())
+    batch += [encode(files.full_case(rng), True, True, True), *files.long_files(rng)]
+    comparison.same("the program", batch, (valuation(input=data) for data in batch), map(reference.listing, batch))
+    few = batch[:5]
+    comparison.same("the program, in pieces", few, map(in_pieces, few), map(reference.listing, few))
+    comparison.same("the program, a failing read", [b""], [failing()], [reference.listing(b"")])
+
+
+# ---------------------------------------------------------------- all of it
+
+def counts(seen):
+    return ", ".join(f"{outcome}: {seen[outcome]}" for outcome in programs.OUTCOMES if seen[outcome])
+
+
+def main(quick):
+    rng, comparison = random.Random(SEED), Comparison()
+    for kind, batch in kinds(rng, quick):
+        compare_listings(comparison, kind, batch)
+    compare_curves(comparison, curve_files(rng, 20 if quick else 200))
+    compare_exactly(comparison, rng, 72 if quick else 600)
+    compare_program(comparison, rng, quick)
+    unseen = [outcome for outcome in programs.OUTCOMES if not comparison.outcomes[outcome]]
+    print(f"listings: {counts(comparison.outcomes)}; not seen: {unseen or 'none'}")
+    print(f"{comparison.different} different")
+    sys.exit(1 if comparison.different or unseen else 0)
+
+
+if __name__ == "__main__":
+    main(programs.asked("--quick"))

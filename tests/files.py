@@ -1,0 +1,213 @@
+"""Case files for the comparisons: random, damaged, at the ends of the limits, near the borders, with wide brackets."""
+
+from dataclasses import replace
+from itertools import combinations
+
+import examples
+import reference
+from reference import AMOUNTS, LOWER, SHOCK_LIMITS, SHOCKS, UPPER, Case, Rounded, encode
+
+
+def file_of(rng, case):
+    return encode(case, *examples.presence(rng, case))
+
+
+def random_files(rng, count):
+    return [file_of(rng, examples.random_case(rng)) for _ in range(count)]
+
+
+# ---------------------------------------------------------------- damage
+
+def fewest_fields():
+    """The shortest acceptable file, of 160 bytes."""
+    return encode(examples.c1(amounts=dict.fromkeys(AMOUNTS, 0)), False, False, False)
+
+
+def all_fields(days=1):
+    """A file in which every field stands, and every number is another."""
+    return encode(replace(examples.up(), days=examples.up().days[:days]), True, True, True)
+
+
+def places(data):
+    """Where the fields of a file begin in which all stand: n, rates, m, pension, k, bonds, amounts, shocks, people."""
+    n_at = 4
+    m_at = n_at + 1 + 120 * data[n_at]
+    k_at = m_at + 1 + 4 * data[m_at]
+    amounts_at = k_at + 1 + 4 * data[k_at]
+    return n_at, n_at + 1, m_at, m_at + 1, k_at, k_at + 1, amounts_at, amounts_at + 64, amounts_at + 88
+
+
+def patches(data):
+    """Changes (offset, bytes) of a file in which all fields stand; nearly every one breaks one rule of the paper."""
+    n_at, rates, m_at, pension, k_at, bonds, amounts, shocks, people = places(data)
+    number = lambda value, length: value.to_bytes(length, "big")
+    bits = [0x7F ^ 1 << bit for bit in (1, 2, 5, 6)] + [0x7F | 1 << bit for bit in range(7, 16)] + [0x66]
+    changed = [(0, number(value, 2)) for value in bits]
+    changed += [(2, number(ufr, 2)) for ufr in (5_000, 5_001, 0xFFFF)]
+    changed += [(n_at, number(n, 1)) for n in (0, 2, 70, 71, 255)]
+    changed += [(at, number(rate % 0x10000, 2)) for at in (rates, rates + 58, m_at - 2)
+                for rate in (-1_001, 10_001, 0x7FFF, -0x8000)]
+    changed += [(rates, b"\0\0" + number(rate, 2) * 59) for rate in (6_000, 6_001)]
+    changed += [(m_at, number(m, 1)) for m in (0, 120, 121, 255)]
+    changed += [(k_at, number(k, 1)) for k in (0, 60, 61, 255)]
+    changed += [(at, number(flow, 4)) for at in (pension, k_at - 4, bonds, amounts - 4)
+                for flow in (100_000_000, 100_000_001, 0xFFFFFFFF)]
+    changed += [(amounts + 8 * i, number(amount, 8)) for i in range(8)
+                for amount in (10 ** 11, 10 ** 11 + 1, 1 << 63, (1 << 64) - 1)]
+    changed += [(shocks + 2 * i, number(SHOCK_LIMITS[name] + more, 2)) for i, name in enumerate(SHOCKS)
+                for more in (0, 1)]
+    changed += [(people, number(heads, 4)) for heads in (0, 1, 1_000_000, 1_000_001, 0xFFFFFFFF)]
+    return changed + [(people + at, number(age, 2)) for at in (4, 6) for age in (1_200, 1_201, 0xFFFF)]
+
+
+def patched(data, *changes):
+    data = bytearray(data)
+    for offset, written in changes:
+        data[offset:offset + len(written)] = written
+    return bytes(data)
+
+
+def damaged_once(data):
+    return [patched(data, patch) for patch in patches(data)]
+
+
+def damaged_twice(rng, data):
+    """Every pair of changes: as it is, cut somewhere, or with bytes behind it."""
+    for pair in combinations(patches(data), 2):
+        twice = patched(data, *pair)
+        yield rng.choice([twice, twice[:rng.randrange(len(twice))], twice + rng.randbytes(rng.randint(1, 9))])
+
+
+def truncations(data):
+    return [data[:length] for length in range(len(data))]
+
+
+def other_bytes(data, values):
+    """Each byte of the file replaced by each other value."""
+    return [patched(data, (at, bytes([value]))) for at in range(len(data)) for value in values if value != data[at]]
+
+
+def long_files(rng):
+    """Files of up to 100,000 bytes, refused for their first fault and not for their length."""
+    full = encode(full_case(rng), True, True, True)
+    assert len(full) == 9_223
+    for length in (1, 2, 777, 100_000 - 9_223):
+        for data in (full, full[:-1], patched(full, (2, b"\xff\xff")), patched(full, (9_221, b"\xff\xff"))):
+            yield data + bytes(length)
+    for length in (9_222, 9_223, 9_224, 20_000, 65_535, 65_536, 99_999, 100_000):
+        for start in (b"", b"\x00\x76", b"\x00\x7f\x00\x00\x46", b"\x00\x66\x01"):
+            yield start + bytes(length - len(start))
+            yield start + rng.randbytes(length - len(start))
+
+
+# ---------------------------------------------------------------- the ends of the limits
+
+def zigzag(period, upwards):
+    """One day whose growths are at the ends of refusal 6: so many terms up, so many down."""
+    rates, rate = [], 0
+    for t in range(1, 61):
+        if upwards == ((t - 1) // period % 2 == 0):
+            rate = min(10_000, (12_000 + (t - 1) * rate) // t)
+        else:
+            rate = max(-1_000, -((2_000 - (t - 1) * rate) // t))
+        rates.append(rate)
+    return rates
+
+
+EXTREME_DAYS = [[-1_000] * 60, [10_000] * 60, [0] * 60] + [
+    zigzag(period, upwards) for period in (1, 2, 5, 20, 30, 60) for upwards in (True, False)]
+
+
+def extreme_case(rng, days=None):
+    """Every field at one of its ends."""
+    end = lambda most, least=0: rng.choice([least, most])
+    day = rng.choice(EXTREME_DAYS)
+    flow = end(100_000_000)
+    return Case(ufr=end(5_000), days=[day] * (days or rng.choice([1, 1, 1, 2])),
+                pension=[flow] * end(120, 1), bonds=[end(100_000_000)] * rng.choice([0, 1, 60]),
+                amounts={name: end(10 ** 11) for name in AMOUNTS},
+                shocks={name: end(SHOCK_LIMITS[name]) for name in SHOCKS},
+                heads=end(1_000_000, 1), pension_age=end(1_200), mean_age=end(1_200))
+
+
+def full_case(rng):
+    """70 days, 120 pension flows and 60 bond flows."""
+    flows = lambda count: [rng.randint(1, 100_000_000) for _ in range(count)]
+    return replace(examples.random_case(rng, days=70), pension=flows(120), bonds=flows(60))
+
+
+def ends():
+    """All fields at their lower ends, and all at their upper ones."""
+    least = Case(ufr=0, days=examples.flat(-1_000), pension=[0], bonds=[], amounts=dict.fromkeys(AMOUNTS, 0),
+                 shocks=dict.fromkeys(SHOCKS, 0), heads=1, pension_age=0, mean_age=0)
+    most = Case(ufr=5_000, days=examples.flat(10_000) * 70, pension=[100_000_000] * 120, bonds=[100_000_000] * 60,
+                amounts=dict.fromkeys(AMOUNTS, 10 ** 11), shocks=dict(SHOCK_LIMITS), heads=1_000_000,
+                pension_age=1_200, mean_age=1_200)
+    return least, most
+
+
+# ---------------------------------------------------------------- near the borders
+
+def at_borders(case):
+    """The case with the cash amounts on both sides of each change of the rounded verdict."""
+    poor = replace(case, amounts=case.amounts | {"cash": 0})
+    rounded = Rounded(poor)
+    A, L, S = rounded.A, rounded.L, rounded.S
+    ceiling = lambda a, b: -(-a // b)
+    changes = {ceiling(21 * L[LOWER] - 20 * A[UPPER], 2_000), ceiling(21 * L[UPPER] - 20 * A[LOWER], 2_000),
+               ceiling(L[LOWER] + S[LOWER] - A[UPPER], 100), ceiling(L[UPPER] + S[UPPER] - A[LOWER], 100)}
+    return [replace(case, amounts=case.amounts | {"cash": cash})
+            for change in sorted(changes) for cash in (change - 1, change) if 0 <= cash <= 10 ** 11]
+
+
+def border_cases(rng, count):
+    """Cases of random funds that hold little, at their borders."""
+    cases = []
+    while len(cases) < count:
+        case = examples.random_case(rng)
+        cases += at_borders(replace(case, amounts={name: amount // 1_000 for name, amount in case.amounts.items()}))
+    return cases[:count]
+
+
+# ---------------------------------------------------------------- wide brackets
+
+def width(bracket):
+    return bracket[UPPER] - bracket[LOWER]
+
+
+WIDTHS = {  # each in parts of the width that demand 3 allows
+    "factor": lambda r: max(width(r.factors[t]) / (4 * t * t) for t in range(21, 121)),
+    "L": lambda r: width(r.L) / r.WL,
+    "S": lambda r: width(r.S) / (3 * r.WL + 2 * r.WB + 8),
+}
+
+
+def moved(rng, days):
+    """The days with the rates of some terms in a row moved, where refusals 5 and 6 allow it."""
+    first, last = sorted(rng.sample(range(61), 2))
+    move = rng.choice([-1, 1]) * 10 ** rng.randint(0, 3)
+    within = lambda rate: min(max(rate, -1_000), 10_000)
+    tried = [day[:first] + [within(rate + move) for rate in day[first:last]] + day[last:] for day in days]
+    return tried if reference.growths_within_limits(tried) else days
+
+
+def changed(rng, case):
+    """The case with some of its rates moved, or one of its fields drawn anew."""
+    if rng.random() < 0.5:
+        return replace(case, days=moved(rng, case.days))
+    other = rng.choice([examples.random_case, extreme_case])(rng, days=len(case.days))
+    name = rng.choice(["ufr", "days", "pension", "bonds", "shocks", "heads"])
+    return replace(case, **{name: getattr(other, name)})
+
+
+def climbed(rng, aim, steps):
+    """The cases on a climb towards a wide bracket."""
+    case = extreme_case(rng)
+    best, path = WIDTHS[aim](Rounded(case)), [case]
+    for _ in range(steps):
+        tried = changed(rng, case)
+        found = WIDTHS[aim](Rounded(tried))
+        if found > best:
+            case, best = tried, found
+            path.append(case)
+    return path

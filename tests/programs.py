@@ -1,0 +1,117 @@
+"""The programs that take many files at once, and what the reference says that they write.
+
+Their input (crates/batch): the files one after the other, each behind its length in four bytes.
+"""
+
+import os
+import re
+import subprocess
+import sys
+
+import reference
+from reference import STEPS, Refusal
+
+ROOT = os.path.join(os.path.dirname(os.path.abspath(__file__)), "..")
+
+
+def asked(word):
+    """Whether the command line has the word; it may have no other."""
+    if sys.argv[1:] not in ([], [word]):
+        raise SystemExit(f"usage: python3 {sys.argv[0]} [{word}]")
+    return len(sys.argv) == 2
+
+
+def program(name):
+    path = os.path.join(ROOT, "target", "bin", name)
+    if not os.path.exists(path):
+        raise SystemExit(f"target/bin/{name} is missing: run rt check {name}")
+    return path
+
+
+def framed(files):
+    return b"".join(len(data).to_bytes(4, "big") + data for data in files)
+
+
+def answers(name, files, pattern):
+    """What a program writes, cut into one answer for each file."""
+    text = subprocess.run([program(name)], input=framed(files), capture_output=True, check=True).stdout
+    found = [match.group() for match in re.finditer(pattern, text)]
+    if b"".join(found) != text or len(found) != len(files):
+        raise SystemExit(f"{name} answered {len(found)} of {len(files)} files, or wrote something else")
+    return found
+
+
+# ---------------------------------------------------------------- vectors
+
+# What the last line of a listing can be.
+OUTCOMES = [f"R {number}" for number in range(1, 13)] + [f"V {word}" for word in reference.VERDICTS]
+
+
+def listings(files):
+    return answers("vectors", files, rb"R \d+\n|(?:[LBAS]\d? \d+ \d+\n)+V [A-Z ]+\n")
+
+
+def outcome(listing):
+    return listing.splitlines()[-1].decode()
+
+
+# ---------------------------------------------------------------- readings
+
+def readings(files):
+    return answers("readings", files, rb"[RC] .*\n")
+
+
+def hash_of(part):
+    """A number that tells parts of the same length apart."""
+    total = 0
+    for byte in part:
+        total = total % 1_000_003 * 257 + byte
+    return total
+
+
+def fields(case):
+    """The fields of a case in the order of the engine's struct, its arrays filled up with 0."""
+    padded = lambda flows, length: flows + [0] * (length - len(flows))
+    return [case.ufr, len(case.days), *reference.points(case)[1][1:], len(case.pension), *padded(case.pension, 120),
+            len(case.bonds), *padded(case.bonds, 60), *case.amounts.values(), *case.shocks.values(),
+            case.heads, case.pension_age, case.mean_age]
+
+
+def reading(data):
+    answer, (offset, length) = reference.read_with_part(data)
+    said = ["R", answer.number] if isinstance(answer, Refusal) else ["C", *fields(answer)]
+    return row([*said, length, hash_of(data[offset:offset + length])])
+
+
+def row(words):
+    return " ".join(map(str, words)).encode() + b"\n"
+
+
+# ---------------------------------------------------------------- curves
+
+def curves(files):
+    return answers("curves", files, rb"F .*\nZ .*\n")
+
+
+def curve(data):
+    """Both buffers of 242 entries, all 7 beforehand; 100,000 steps are added to each zero rate."""
+    factors, rates = [7] * 242, [7] * 242
+    reference.fill(data, factors, rates)
+    return row(["F", *factors]) + row(["Z", *(STEPS + rate for rate in rates)])
+
+
+# ---------------------------------------------------------------- files in the tree that a script writes
+
+def write_or_check(contents, check):
+    """Writes each content to its path in the tree; with check, ends with 1 where the tree has another."""
+    other = []
+    for path, content in contents.items():
+        place = os.path.join(ROOT, path)
+        if not check:
+            os.makedirs(os.path.dirname(place), exist_ok=True)
+            with open(place, "wb") as file:
+                file.write(content)
+        elif not os.path.exists(place) or open(place, "rb").read() != content:
+            other.append(path)
+    if other:
+        sys.exit(f"not what its script writes: {', '.join(other)}")

@@ -1,0 +1,63 @@
+"""Writes the input and the expected output of the programs vectors, readings and curves, both from the reference alone.
+
+Command line: python3 tests/vectors.py           writes crates/{vectors,readings,curves}/{stdin,stdout}
+              python3 tests/vectors.py --check   ends with 1 if one of them is another
+"""
+
+import random
+from dataclasses import replace
+
+import examples
+import files
+import programs
+import reference
+from examples import c1, flat
+from reference import encode
+
+SEED = 2012
+
+
+def worked():
+    """The files among C1 to C12."""
+    days = [flat(0), flat(-500), flat(-1_000), flat(-1_001), flat(100, 101), flat(5_000),
+            [[0] + [6_000] * 59], [[0] + [6_001] * 59]]
+    cases = [c1(days=rates) for rates in days]
+    cases += [c1(amounts=c1().amounts | {"cash": 1_099_999}), c1(mean_age=540), c1(mean_age=781)]
+    return [encode(case, False, False, True) for case in cases] + [b""]
+
+
+def limits():
+    """A fund with another number in every field, one of them at a time at an end of its limits."""
+    changes = [{"ufr": 0}, {"ufr": 5_000}, {"heads": 1}, {"heads": 1_000_000}, {"pension_age": 1_200, "mean_age": 0},
+               {"pension_age": 0, "mean_age": 1_200}, {"pension": [0]}, {"pension": [100_000_000] * 120}]
+    changes += [{"days": [day]} for day in files.EXTREME_DAYS]
+    changes += [{"shocks": examples.up().shocks | {"correlation": part}} for part in (0, 1_000)]
+    return [replace(examples.up(), **change) for change in changes]
+
+
+def vector_files():
+    rng = random.Random(SEED)
+    cases = [examples.bent(), examples.up(), examples.down(), *files.ends(), *limits()]
+    cases += [files.full_case(rng) for _ in range(4)] + [files.extreme_case(rng) for _ in range(12)]
+    cases += [examples.random_case(rng) for _ in range(24)] + files.border_cases(rng, 28)
+    rich = files.all_fields()
+    damaged = rng.sample(files.damaged_once(rich), 24) + [rich[:-1], rich + b"\0", rich[:1]]
+    return worked() + [files.file_of(rng, case) for case in cases] + damaged + list(files.long_files(rng))[:3]
+
+
+def wanted():
+    """Every file that this script writes, by its path."""
+    stored = vector_files()
+    assert {programs.outcome(reference.listing(data)) for data in stored} == set(programs.OUTCOMES)
+    curves = stored[:12] + stored[12:75:5] + stored[-4:]
+    runs = {"vectors": (stored, reference.listing), "readings": (stored[::3], programs.reading),
+            "curves": (curves, programs.curve)}
+    texts = {}
+    for name, (batch, answer) in runs.items():
+        texts[f"crates/{name}/stdin"] = programs.framed(batch)
+        texts[f"crates/{name}/stdout"] = b"".join(map(answer, batch))
+    return texts
+
+
+if __name__ == "__main__":
+    programs.write_or_check(wanted(), programs.asked("--check"))

@@ -1,30 +1,21 @@
--- What one more turn of a loop adds: a digit, a test, an entry of a table.
-use mathlib.Core.Path.{_≡_, refl, subst}
+-- What one more turn of a loop adds: a test, an entry of a table.
+use mathlib.Core.Path.{_≡_, refl, subst, ap, _∙_}
 use mathlib.Core.List.{List}
 use mathlib.Core.Bool.{Bool, true, false, _&&_}
 use mathlib.Core.Logic.{⊎-elim}
-use Prim.Native.Nat.{ℕ, zero, suc, _+_, _*_, _^_, _<_, _≤_}
-use native.Mathlib.Nat.{mul-le-mul, not-suc-le-zero, le-of-suc-le-suc, eq-or-lt-of-le, pow-suc, pow-le-pow-right, lt-of-lt-of-le}
+use Prim.Native.Nat.{ℕ, zero, suc, _+_, _*_, _<_, _≤_}
+use native.Mathlib.Nat.{add-zero, zero-add, mul-le-mul, not-suc-le-zero, le-of-suc-le-suc, eq-or-lt-of-le}
 use native.Mathlib.Numerals.{add-one}
 use native.Mathlib.Omega.{arith}
-use lib.Arith.{digits-lt}
-use lib.Dec.{lit<}
 use lib.ListN.{getD, length, set, take, List·getD-eq-default}
 use lib.Seq.{take-suc-set}
 use Rattle.model.specs.Numbers.{number, every, table}
 use Rattle.model.proofs.Lists.{length-table}
 
-pub number-next : (file : List ℕ) (at i : ℕ) → number file at (i + 1) ≡ number file at i * 256 + getD file (at + i) 0
+-- a number of one byte is that byte
+pub one-byte : (file : List ℕ) (at : ℕ) → number file at 1 ≡ getD file at 0
 unfolding number
-number-next file at i = rw add-one
-
--- one digit more
-pub digit : {q b : ℕ} (i : ℕ) → q < 256 ^ i → b < 256 → q * 256 + b < 256 ^ (i + 1)
-digit {q} {b} i h k = rw (add-one, pow-suc) (digits-lt h k)
-
--- up to eight digits fit 64 bits
-pub digits-fit : {q : ℕ} (i : ℕ) → q < 256 ^ i → i ≤ 8 → q < 2 ^ 64
-digits-fit i h k = lt-of-lt-of-le h (pow-le-pow-right (lit< tt) k)
+one-byte file at = ap (λ (k : ℕ). 0 * 256 + getD file k 0) (add-zero at) ∙ zero-add (getD file at 0)
 
 -- a position in a run of numbers: up to eight bytes each, up to 5,000 of them
 pub run-most : (w i : ℕ) → w ≤ 8 → i ≤ 5000 → w * i ≤ 40000

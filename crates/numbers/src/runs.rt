@@ -7,31 +7,23 @@ ghost use lib.ListN.{getD, length};
 ghost use Rattle.model.specs.Numbers.{number, entry, every, table};
 ghost use Rattle.model.specs.Held.{padded};
 
-fn wide(byte: u8) -> u64
-    ensures { λ r. ⌜ r ≡ byte ⌝ }
-{
-    byte as u64
-}
-
-// The byte at a position.
+// The byte at a position: a number of one byte.
 pub fn byte_at(file: &[u8], at: usize) -> u64
     ensures { λ r. ⌜ (r ≡ getD (now (file .entry)) at 0) × (r < 256) ⌝ }
 {
-    if at < file.len() { wide(file[at]) } else { 0 }
+    if at < file.len() {
+        cursor::number_at(file, at, 1)
+    } else {
+        0
+    }
 }
 
-// The number of `width` bytes at a position.
+// The number of `width` bytes at a position, read by a cursor that moves over them.
 pub fn number_at(file: &[u8], at: usize, width: usize) -> u64
     requires { ⌜ (at ≤ 100000) × (width ≤ 8) ⌝ }
     ensures { λ r. ⌜ (r ≡ number (now (file .entry)) at width) × (r < 256 ^ width) ⌝ }
 {
-    let mut r: u64 = 0;
-    let mut i: usize = 0;
-    while i < width {
-        r = r * 256 + byte_at(file, at + i);
-        i += 1;
-    }
-    r
+    cursor::number_at(file, at, width)
 }
 
 // Whether each of `count` numbers is at most `limit`.

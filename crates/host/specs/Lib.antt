@@ -1,0 +1,2 @@
+-- What the contracts of `host` cite beside the definitions of `model`.
+pub mod Flat

@@ -1,0 +1,98 @@
+// The functions that hosts in C, Rust and Python call. Each takes any bytes, any lengths and any
+// numbers: none has a `requires`. include/ginghamowl.h declares them.
+mod flat;
+
+use casefile::rates_part;
+use casefile::refusal_of;
+use engine::value;
+use flat::HostFigures;
+use flat::HostPart;
+use flat::HostPoint;
+use flat::HostValuation;
+use flat::figures_from;
+use flat::flat_point;
+use flat::flat_valuation;
+use flat::valuation_from;
+use listing::write_listing;
+use numbers::positions::days_at;
+use window::window_point;
+ghost use mathlib.Core.Path.{_≡_};
+ghost use lib.ListN.{length, take, drop};
+ghost use Rattle.model.specs.Buffers.{valuationOf, factorsAfter, ratesAfter};
+ghost use Rattle.model.specs.Refusals.{refusal, ratesPart};
+ghost use Rattle.model.specs.Window.{windowPoint};
+ghost use Rattle.model.specs.Listing.{listingAfter, listingLength};
+ghost use Rattle.host.specs.Flat.{hostValuation, hostPart, hostPoint, figuresFrom, valuationFrom};
+
+// Values a case file into two lent buffers, as `engine::value` does.
+#[no_mangle]
+pub extern "C" fn ginghamowl_value(
+    file: &[u8],
+    factors: &mut [u64],
+    rates: &mut [i64],
+) -> HostValuation
+    ensures { λ r. ⌜
+        r ≡ hostValuation (valuationOf (length (now (factors .entry))) (length (now (rates .entry))) (now (file .entry)))
+        ⌝ }
+    ensures factors { λ _. ⌜
+        now (factors .exit) ≡ factorsAfter (now (file .entry)) (now (factors .entry)) (now (rates .entry))
+        ⌝ }
+    ensures rates { λ _. ⌜
+        now (rates .exit) ≡ ratesAfter (now (file .entry)) (now (factors .entry)) (now (rates .entry))
+        ⌝ }
+{
+    let valuation = value(file, factors, rates);
+    flat_valuation(valuation)
+}
+
+// The number that a file is refused with; 0 where it is accepted. No buffers are lent, so never 13.
+#[no_mangle]
+pub extern "C" fn ginghamowl_refusal(file: &[u8]) -> u8
+    ensures { λ r. ⌜ r ≡ refusal (now (file .entry)) ⌝ }
+{
+    refusal_of(file)
+}
+
+// Where the rates stand in the file: n × 120 bytes; 0 and 0 where the file is refused.
+#[no_mangle]
+pub extern "C" fn ginghamowl_rates_part(file: &[u8]) -> HostPart
+    ensures { λ r. ⌜ r ≡ hostPart (now (file .entry)) ⌝ }
+    ensures part { λ r. ⌜ take (r .length) (drop (r .offset) (now (file .entry))) ≡ ratesPart (now (file .entry)) ⌝ }
+{
+    if refusal_of(file) != 0 {
+        return HostPart {
+            offset: 0,
+            length: 0,
+        };
+    }
+    let part = rates_part(file);
+    HostPart {
+        offset: days_at(file) + 1,
+        length: part.len(),
+    }
+}
+
+// A point of the window, over the factors that a valuation wrote and the figures that it gave.
+#[no_mangle]
+pub extern "C" fn ginghamowl_window_point(
+    point: u64,
+    factors: &[u64],
+    figures: HostFigures,
+) -> HostPoint
+    ensures { λ r. ⌜ r ≡ hostPoint (windowPoint point (now (factors .entry)) (figuresFrom figures)) ⌝ }
+{
+    let held = figures_from(figures);
+    let shown = window_point(point, factors, held);
+    flat_point(shown)
+}
+
+// Writes the listing to the front of a lent buffer, and answers its length. A buffer that is too short
+// is left alone, and the answer is 0.
+#[no_mangle]
+pub extern "C" fn ginghamowl_listing(valuation: HostValuation, out: &mut [u8]) -> usize
+    ensures { λ r. ⌜ r ≡ listingLength (valuationFrom valuation) (length (now (out .entry))) ⌝ }
+    ensures text { λ _. ⌜ now (out .exit) ≡ listingAfter (valuationFrom valuation) (now (out .entry)) ⌝ }
+{
+    let v = valuation_from(valuation);
+    write_listing(v, out)
+}

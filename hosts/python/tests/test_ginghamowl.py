@@ -1,0 +1,149 @@
+"""The Python package beside the reference in tests/: python3 -m unittest discover -s hosts/python/tests."""
+
+import pickle
+import random
+import subprocess
+import sys
+import tempfile
+import unittest
+from concurrent.futures import ThreadPoolExecutor
+from pathlib import Path
+
+HERE = Path(__file__).resolve()
+sys.path[:0] = [str(HERE.parents[1]), str(HERE.parents[3] / "tests")]
+import examples
+import ginghamowl
+import reference
+from ginghamowl import Bracket, Figures, Kind, Point, Refused, Verdict
+
+C1 = reference.encode(examples.c1(), False, False, True)
+
+
+def seeded_files(seed, count):
+    """Files that are accepted, with the cases that they hold."""
+    rng = random.Random(seed)
+    for _ in range(count):
+        case = examples.random_case(rng)
+        yield reference.encode(case, *examples.presence(rng, case)), case
+
+
+def damaged_files(seed, count):
+    """Files with a few bytes changed, cut or added."""
+    rng = random.Random(seed)
+    good = [C1, reference.encode(examples.up(), True, True, True)] + [data for data, _ in seeded_files(seed, 4)]
+    for _ in range(count):
+        data = bytearray(rng.choice(good))
+        for _ in range(rng.randint(0, 2)):
+            data[rng.choice([rng.randrange(len(data)), rng.randrange(5)])] = rng.choice([0, 1, 127, 128, 255, rng.randrange(256)])
+        yield bytes(data[:rng.choice([None, None, None, rng.randrange(len(data))])]) + bytes(rng.choice([0, 0, 0, 1]))
+
+
+def brackets(pairs):
+    return tuple(Bracket(*pair) for pair in pairs)
+
+
+class BesideTheReference(unittest.TestCase):
+    def test_accepted_files(self):
+        fixed = [(C1, examples.c1())] + [(reference.encode(case, True, bool(case.bonds), True), case)
+                                         for case in (examples.up(), examples.down(), examples.bent())]
+        verdicts = set()
+        for data, case in [*fixed, *seeded_files(1, 40)]:
+            rounded = reference.Rounded(case)
+            valuation = ginghamowl.value(data)
+            self.assertEqual(valuation.factors, brackets(rounded.factors[1:]))
+            self.assertEqual(valuation.zero_rates, brackets(rounded.zero_rates[1:]))
+            self.assertEqual(valuation.figures, Figures(*brackets(getattr(rounded, name) for name in reference.MONEY)))
+            self.assertEqual(valuation.verdict.word, rounded.verdict)
+            self.assertEqual(valuation.listing().encode(), reference.listing(data))
+            offset, length = reference.rates_part(data)
+            self.assertEqual(ginghamowl.rates_part(data), data[offset:offset + length])
+            self.assertEqual(ginghamowl.refusal(data), 0)
+            verdicts.add(valuation.verdict)
+        self.assertEqual(verdicts, set(Verdict))
+
+    def test_damaged_files(self):
+        seen = set()
+        for data in damaged_files(2, 3_000):
+            answer = reference.read(data)
+            number = answer.number if isinstance(answer, reference.Refusal) else 0
+            self.assertEqual(ginghamowl.refusal(data), number)
+            if number:
+                for function in (ginghamowl.value, ginghamowl.rates_part):
+                    with self.assertRaises(Refused) as caught:
+                        function(data)
+                    self.assertEqual(caught.exception.number, number)
+            seen.add(number)
+        self.assertEqual(seen, set(range(13)))
+
+
+class Package(unittest.TestCase):
+    def test_c1(self):
+        valuation = ginghamowl.value(C1)
+        self.assertEqual(valuation.figures.l, Bracket(100_000_000, 100_000_000))
+        self.assertEqual(valuation.figures.s6.width, 0)
+        self.assertIs(valuation.verdict, Verdict.VRIJ_VERMOGEN)
+        self.assertEqual(valuation.factor(1), Bracket(10 ** 12, 10 ** 12))
+        self.assertEqual(valuation.zero_rate(20), Bracket(0, 0))
+        for term in (0, 121, -1):
+            with self.assertRaises(ValueError):
+                valuation.factor(term)
+
+    def test_window(self):
+        valuation = ginghamowl.value(reference.encode(examples.up(), True, True, True))
+        for term in range(1, 121):
+            factor = valuation.factor(term)
+            self.assertEqual(valuation.window_point(term), Point(Kind.FACTOR, factor.lower, factor.upper))
+        for number, name in enumerate(Figures.__dataclass_fields__, 121):
+            figure = getattr(valuation.figures, name)
+            self.assertEqual(valuation.window_point(number), Point(Kind.MONEY, figure.lower, figure.upper))
+        for number in (0, 131, 2 ** 64 - 1, 2 ** 64, -1):
+            self.assertEqual(valuation.window_point(number), Point(Kind.BLANK, 0.0, 0.0))
+
+    def test_refused(self):
+        with self.assertRaisesRegex(Refused, "^refused, 1: the file ends inside the map") as caught:
+            ginghamowl.value(b"")
+        self.assertEqual(pickle.loads(pickle.dumps(caught.exception)).number, 1)
+        self.assertEqual(list(ginghamowl.SENTENCES), list(range(1, 14)))
+
+    def test_what_a_file_may_be(self):
+        for data in (C1, bytearray(C1), memoryview(C1)):
+            self.assertEqual(ginghamowl.value(data), ginghamowl.value(C1))
+        for data in ("00 76", 7, None, [0, 118]):
+            with self.assertRaises(TypeError):
+                ginghamowl.value(data)
+
+    def test_threads(self):
+        files = [C1, reference.encode(examples.up(), True, True, True), reference.encode(examples.down(), True, True, True)]
+        alone = [ginghamowl.value(data) for data in files]
+        with ThreadPoolExecutor(8) as pool:
+            self.assertEqual(list(pool.map(ginghamowl.value, files * 100)), alone * 100)
+
+
+class CommandLine(unittest.TestCase):
+    def run_on(self, data, *options):
+        with tempfile.NamedTemporaryFile(suffix=".case") as file:
+            file.write(data)
+            file.flush()
+            run = subprocess.run([sys.executable, "-m", "ginghamowl", *options, file.name], cwd=HERE.parents[1],
+                                 capture_output=True, text=True)
+        return run.returncode, run.stdout
+
+    def test_valued(self):
+        status, out = self.run_on(C1)
+        self.assertEqual((status, out.splitlines()[-1]), (0, "VRIJ VERMOGEN"))
+        self.assertIn("\n   1   1.000000000000   1.000000000000      0.000 %      0.000 %\n", out)
+        self.assertIn("\nL         1,000,000.00         1,000,000.00\n", out)
+        self.assertEqual(self.run_on(C1, "--listing"), (0, reference.listing(C1).decode()))
+
+    def test_refused(self):
+        self.assertEqual(self.run_on(b"", "--listing"), (1, "R 1\n"))
+        status, out = self.run_on(C1 + b"\0")
+        self.assertEqual((status, out), (1, f"refused, 2: {ginghamowl.SENTENCES[2]}\n"))
+
+    def test_no_file(self):
+        run = subprocess.run([sys.executable, "-m", "ginghamowl", "no such file"], cwd=HERE.parents[1], capture_output=True)
+        self.assertEqual((run.returncode, run.stdout), (2, b""))
+
+
+if __name__ == "__main__":
+    unittest.main()

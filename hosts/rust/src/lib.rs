@@ -1,0 +1,289 @@
+//! The valuation of one pension fund from one case file, every figure proved.
+//!
+//! "Document 01" is "The UFR curve and the solvency verdict of one fund": it says what a case file is, what each figure
+//! means and what each refusal is. This crate wraps the functions of `include/ginghamowl.h`; it is safe to call with any
+//! bytes, and depends on nothing but the standard library and the engine's archive.
+//!
+//! ```
+//! match ginghamowl::value(b"") {
+//!     Ok(valuation) => println!("{} at {:?} cents", valuation.verdict, valuation.figures.l),
+//!     Err(refusal) => println!("{refusal}"),
+//! }
+//! ```
+
+use std::error::Error;
+use std::fmt;
+
+mod raw;
+
+/// The terms of the curve, in years, are 1 to this.
+pub const TERMS: usize = 120;
+
+/// A lent buffer of factors or rates has at least so many entries.
+pub const ENTRIES: usize = 2 * TERMS;
+
+/// Two whole numbers; the exact figure, in the same units, is at least the lower and at most the upper.
+#[derive(Clone, Copy, Debug, PartialEq, Eq)]
+pub struct Bracket<N> {
+    pub lower: N,
+    pub upper: N,
+}
+
+/// The money figures in cents: liabilities L, bonds B, assets A, the losses S1 to S6, the root buffer S.
+#[derive(Clone, Copy, Debug, PartialEq, Eq)]
+pub struct Figures {
+    pub l: Bracket<u64>,
+    pub b: Bracket<u64>,
+    pub a: Bracket<u64>,
+    pub s1: Bracket<u64>,
+    pub s2: Bracket<u64>,
+    pub s3: Bracket<u64>,
+    pub s4: Bracket<u64>,
+    pub s5: Bracket<u64>,
+    pub s6: Bracket<u64>,
+    pub s: Bracket<u64>,
+}
+
+/// The verdict on a fund. `Onbeslist` is undecided: a border lies inside a bracket.
+#[derive(Clone, Copy, Debug, PartialEq, Eq)]
+pub enum Verdict {
+    Dekkingstekort,
+    Reservetekort,
+    VrijVermogen,
+    Onbeslist,
+}
+
+/// Why a file is refused, by document 01's numbers.
+#[derive(Clone, Copy, Debug, PartialEq, Eq)]
+#[repr(u8)]
+pub enum Refusal {
+    EndsEarly = 1,
+    BytesFollow = 2,
+    Map = 3,
+    DayCount = 4,
+    Rate = 5,
+    Growth = 6,
+    FlowCount = 7,
+    Flow = 8,
+    Ufr = 9,
+    Amount = 10,
+    Shock = 11,
+    People = 12,
+    Buffer = 13,
+}
+
+/// The money figures and the verdict of an accepted file.
+#[derive(Clone, Copy, Debug, PartialEq, Eq)]
+pub struct Judged {
+    pub figures: Figures,
+    pub verdict: Verdict,
+}
+
+/// What an accepted file is worth. Factors count 10^-12 and zero rates steps of 0.00001; term t stands at t - 1.
+#[derive(Clone, Debug, PartialEq, Eq)]
+pub struct Valuation {
+    pub factors: [Bracket<u64>; TERMS],
+    pub zero_rates: [Bracket<i64>; TERMS],
+    pub figures: Figures,
+    pub verdict: Verdict,
+}
+
+/// A point of the window: doubles that hold the whole numbers of a bracket.
+#[derive(Clone, Copy, Debug, PartialEq)]
+pub enum Point {
+    Factor(f64, f64),
+    Money(f64, f64),
+    Blank,
+}
+
+/// The valuation of a case file.
+pub fn value(file: &[u8]) -> Result<Valuation, Refusal> {
+    let mut factors = [0; ENTRIES];
+    let mut rates = [0; ENTRIES];
+    let Judged { figures, verdict } = value_into(file, &mut factors, &mut rates)?;
+    Ok(Valuation {
+        factors: std::array::from_fn(|i| Bracket { lower: factors[2 * i], upper: factors[2 * i + 1] }),
+        zero_rates: std::array::from_fn(|i| Bracket { lower: rates[2 * i], upper: rates[2 * i + 1] }),
+        figures,
+        verdict,
+    })
+}
+
+/// The valuation of a case file into buffers of the caller: lower and upper, term by term, into the entries 0 to 239.
+/// Later entries keep their content, and a refusal changes neither buffer.
+pub fn value_into(file: &[u8], factors: &mut [u64], rates: &mut [i64]) -> Result<Judged, Refusal> {
+    // SAFETY: the pointers and lengths are those of slices that live through the call; the two that are written are
+    // borrowed alone.
+    let answer = unsafe {
+        raw::ginghamowl_value(
+            file.as_ptr(),
+            file.len(),
+            factors.as_mut_ptr(),
+            factors.len(),
+            rates.as_mut_ptr(),
+            rates.len(),
+        )
+    };
+    match Refusal::numbered(answer.refusal) {
+        Some(refusal) => Err(refusal),
+        None => Ok(Judged { figures: answer.figures.into(), verdict: Verdict::numbered(answer.verdict) }),
+    }
+}
+
+/// Why a file is refused, without valuing it; `None` where it is accepted. Never `Refusal::Buffer`.
+pub fn refusal(file: &[u8]) -> Option<Refusal> {
+    // SAFETY: the pointer and the length are those of a slice.
+    Refusal::numbered(unsafe { raw::ginghamowl_refusal(file.as_ptr(), file.len()) })
+}
+
+/// The part of the file that holds the zero rates, 120 bytes for each day; empty where the file is refused.
+pub fn rates_part(file: &[u8]) -> &[u8] {
+    // SAFETY: the pointer and the length are those of a slice.
+    let part = unsafe { raw::ginghamowl_rates_part(file.as_ptr(), file.len()) };
+    &file[part.offset..part.offset + part.length]
+}
+
+/// Point 1 to 120 is a factor, 121 to 130 a money figure (L B A S1 S2 S3 S4 S5 S6 S), any other is blank. A point is blank
+/// also where fewer than 240 factors are lent, or where an end is above 2^53: after a valuation neither occurs.
+pub fn window_point(point: u64, factors: &[u64], figures: &Figures) -> Point {
+    // SAFETY: the pointer and the length are those of a slice.
+    let shown = unsafe { raw::ginghamowl_window_point(point, factors.as_ptr(), factors.len(), (*figures).into()) };
+    match shown.kind {
+        1 => Point::Factor(shown.lower, shown.upper),
+        2 => Point::Money(shown.lower, shown.upper),
+        _ => Point::Blank,
+    }
+}
+
+/// Document 01's listing of an answer: a line for each figure and one for the verdict, or R and the refusal.
+pub fn listing(answer: Result<Judged, Refusal>) -> String {
+    let mut out = [0; raw::LISTING_BYTES];
+    // SAFETY: the pointer and the length are those of an array that only this call has.
+    let length = unsafe { raw::ginghamowl_listing(answer.into(), out.as_mut_ptr(), out.len()) };
+    out[..length].iter().map(|&byte| char::from(byte)).collect()
+}
+
+impl Valuation {
+    /// The figures and the verdict, without the curve.
+    pub fn judged(&self) -> Judged {
+        Judged { figures: self.figures, verdict: self.verdict }
+    }
+
+    /// The factors as `window_point` and the other functions of the engine take them.
+    pub fn factor_entries(&self) -> [u64; ENTRIES] {
+        std::array::from_fn(|i| {
+            let factor = self.factors[i / 2];
+            if i % 2 == 0 {
+                factor.lower
+            } else {
+                factor.upper
+            }
+        })
+    }
+}
+
+impl Figures {
+    /// The figures by document 01's names and in its order.
+    pub fn named(&self) -> [(&'static str, Bracket<u64>); 10] {
+        [
+            ("L", self.l),
+            ("B", self.b),
+            ("A", self.a),
+            ("S1", self.s1),
+            ("S2", self.s2),
+            ("S3", self.s3),
+            ("S4", self.s4),
+            ("S5", self.s5),
+            ("S6", self.s6),
+            ("S", self.s),
+        ]
+    }
+}
+
+impl Verdict {
+    fn numbered(number: u8) -> Verdict {
+        match number {
+            1 => Verdict::Dekkingstekort,
+            2 => Verdict::Reservetekort,
+            3 => Verdict::VrijVermogen,
+            _ => Verdict::Onbeslist,
+        }
+    }
+
+    fn number(self) -> u8 {
+        match self {
+            Verdict::Dekkingstekort => 1,
+            Verdict::Reservetekort => 2,
+            Verdict::VrijVermogen => 3,
+            Verdict::Onbeslist => 4,
+        }
+    }
+}
+
+/// The verdict as document 01 writes it.
+impl fmt::Display for Verdict {
+    fn fmt(&self, f: &mut fmt::Formatter<'_>) -> fmt::Result {
+        f.write_str(match self {
+            Verdict::Dekkingstekort => "DEKKINGSTEKORT",
+            Verdict::Reservetekort => "RESERVETEKORT",
+            Verdict::VrijVermogen => "VRIJ VERMOGEN",
+            Verdict::Onbeslist => "ONBESLIST",
+        })
+    }
+}
+
+impl Refusal {
+    /// Every refusal, by its number from 1 on.
+    pub const ALL: [Refusal; 13] = [
+        Refusal::EndsEarly,
+        Refusal::BytesFollow,
+        Refusal::Map,
+        Refusal::DayCount,
+        Refusal::Rate,
+        Refusal::Growth,
+        Refusal::FlowCount,
+        Refusal::Flow,
+        Refusal::Ufr,
+        Refusal::Amount,
+        Refusal::Shock,
+        Refusal::People,
+        Refusal::Buffer,
+    ];
+
+    /// Document 01's number.
+    pub fn number(self) -> u8 {
+        self as u8
+    }
+
+    fn numbered(number: u8) -> Option<Refusal> {
+        Refusal::ALL.into_iter().find(|refusal| refusal.number() == number)
+    }
+}
+
+/// The number, what is wrong, and document 01's limit.
+impl fmt::Display for Refusal {
+    fn fmt(&self, f: &mut fmt::Formatter<'_>) -> fmt::Result {
+        let sentence = match self {
+            Refusal::EndsEarly => "the file ends inside the map or inside a field whose bit stands",
+            Refusal::BytesFollow => "bytes follow the last field",
+            Refusal::Map => "bits 1, 2, 5 and 6 of the map must stand, and bits 7 to 15 must not",
+            Refusal::DayCount => "the number of days must be 1 to 70",
+            Refusal::Rate => "a zero rate must be -1,000 to 10,000 steps of 0.00001",
+            Refusal::Growth => {
+                "t × s(t) - (t - 1) × s(t-1) must be -2,000 to 12,000 times the number of days at each term"
+            }
+            Refusal::FlowCount => "there must be 1 to 120 pension flows, and 1 to 60 bond flows where their bit stands",
+            Refusal::Flow => "a flow must be at most 100,000,000 euros",
+            Refusal::Ufr => "the UFR must be at most 5,000 steps of 0.00001",
+            Refusal::Amount => "an amount must be at most 100,000,000,000 euros",
+            Refusal::Shock => {
+                "a shock must be at most 1,000, the credit spread at most 10,000 and the duration at most 500"
+            }
+            Refusal::People => "the head count must be 1 to 1,000,000, and an age at most 1,200 months",
+            Refusal::Buffer => "the buffers for factors and for rates must have at least 240 entries",
+        };
+        write!(f, "refused, {}: {sentence}", self.number())
+    }
+}
+
+impl Error for Refusal {}

@@ -1,0 +1,124 @@
+//! include/ginghamowl.h for Rust.
+use crate::{Bracket, Figures, Judged, Refusal};
+
+pub const LISTING_BYTES: usize = 512;
+
+#[derive(Clone, Copy, Default)]
+#[repr(C)]
+pub struct HostBracket {
+    pub lower: u64,
+    pub upper: u64,
+}
+
+#[derive(Clone, Copy, Default)]
+#[repr(C)]
+pub struct HostFigures {
+    pub l: HostBracket,
+    pub b: HostBracket,
+    pub a: HostBracket,
+    pub s1: HostBracket,
+    pub s2: HostBracket,
+    pub s3: HostBracket,
+    pub s4: HostBracket,
+    pub s5: HostBracket,
+    pub s6: HostBracket,
+    pub s: HostBracket,
+}
+
+#[derive(Clone, Copy, Default)]
+#[repr(C)]
+pub struct HostValuation {
+    pub refusal: u8,
+    pub verdict: u8,
+    pub figures: HostFigures,
+}
+
+#[repr(C)]
+pub struct HostPart {
+    pub offset: usize,
+    pub length: usize,
+}
+
+#[repr(C)]
+pub struct HostPoint {
+    pub kind: u8,
+    pub lower: f64,
+    pub upper: f64,
+}
+
+extern "C" {
+    pub fn ginghamowl_value(
+        file: *const u8,
+        file_length: usize,
+        factors: *mut u64,
+        factors_length: usize,
+        rates: *mut i64,
+        rates_length: usize,
+    ) -> HostValuation;
+    pub fn ginghamowl_refusal(file: *const u8, file_length: usize) -> u8;
+    pub fn ginghamowl_rates_part(file: *const u8, file_length: usize) -> HostPart;
+    pub fn ginghamowl_window_point(
+        point: u64,
+        factors: *const u64,
+        factors_length: usize,
+        figures: HostFigures,
+    ) -> HostPoint;
+    pub fn ginghamowl_listing(valuation: HostValuation, out: *mut u8, out_length: usize) -> usize;
+}
+
+impl From<HostBracket> for Bracket<u64> {
+    fn from(b: HostBracket) -> Self {
+        Bracket { lower: b.lower, upper: b.upper }
+    }
+}
+
+impl From<Bracket<u64>> for HostBracket {
+    fn from(b: Bracket<u64>) -> Self {
+        HostBracket { lower: b.lower, upper: b.upper }
+    }
+}
+
+impl From<HostFigures> for Figures {
+    fn from(f: HostFigures) -> Self {
+        Figures {
+            l: f.l.into(),
+            b: f.b.into(),
+            a: f.a.into(),
+            s1: f.s1.into(),
+            s2: f.s2.into(),
+            s3: f.s3.into(),
+            s4: f.s4.into(),
+            s5: f.s5.into(),
+            s6: f.s6.into(),
+            s: f.s.into(),
+        }
+    }
+}
+
+impl From<Figures> for HostFigures {
+    fn from(f: Figures) -> Self {
+        HostFigures {
+            l: f.l.into(),
+            b: f.b.into(),
+            a: f.a.into(),
+            s1: f.s1.into(),
+            s2: f.s2.into(),
+            s3: f.s3.into(),
+            s4: f.s4.into(),
+            s5: f.s5.into(),
+            s6: f.s6.into(),
+            s: f.s.into(),
+        }
+    }
+}
+
+impl From<Result<Judged, Refusal>> for HostValuation {
+    fn from(answer: Result<Judged, Refusal>) -> Self {
+        match answer {
+            Ok(judged) => {
+                HostValuation { refusal: 0, verdict: judged.verdict.number(), figures: judged.figures.into() }
+            }
+            Err(refusal) => HostValuation { refusal: refusal.number(), ..HostValuation::default() },
+        }
+    }
+}

@@ -1,7 +1,7 @@
 """Runs the engine's reader beside the reference's: python3 tests/compare_reader.py [--quick]
 
 For each file both say the refusal, or every field of the case, and which part of the file holds the rates
-(its length and a hash of its bytes). Ends with 1 on any difference, or if a refusal from 1 to 12 was not seen.
+(its place, and a hash of its bytes). Ends with 1 on any difference, or if a refusal from 1 to 12 was not seen.
 """
 
 import random

@@ -80,7 +80,7 @@ def fields(case):
 def reading(data):
     answer, (offset, length) = reference.read_with_part(data)
     said = ["R", answer.number] if isinstance(answer, Refusal) else ["C", *fields(answer)]
-    return row([*said, length, hash_of(data[offset:offset + length])])
+    return row([*said, offset, length, hash_of(data[offset:offset + length])])
 
 
 def row(words):

@@ -1,5 +1,6 @@
 // Reads many files (crate batch), and prints one line for each: R and the number of its refusal; or C and every field of its case in
-// the order of the struct, the arrays whole, and behind them the length of the part that holds the rates and a hash of its bytes.
+// the order of the struct, the arrays whole; and behind them where the part that holds the rates begins, its length and a hash of
+// its bytes.
 use batch::print_number;
 use batch::print_numbers;
 use casefile::Answer;
@@ -75,9 +76,11 @@ fn hash_of(part: &[u8]) -> u64 {
     hash
 }
 
-// A refused file has an empty part, whose length is printed as well.
+// Where the part begins is what a host is told, its bytes are those of the slice. A refused file has an empty part at 0.
 fn print_part(file: &[u8]) {
     let part = casefile::rates_part(file);
+    let place = host::ginghamowl_rates_part(file);
+    print_number(place.offset as u64);
     print_number(part.len() as u64);
     print_number(hash_of(part));
     io::write_all(STDOUT_FILENO, b"\n");

@@ -1,0 +1,290 @@
+/* Times the engine beside plain C, GMP and Arb.
+ *
+ *   bench time FILE..                 checks each file, then prints the table
+ *   bench check FILE..                only checks
+ *   bench parts FILE                  times parts of a valuation
+ *   bench count engine|plain FILE R   values the file R times and prints nothing, for callgrind
+ *   bench stack FILE                  prints the bytes of stack that one engine valuation touches
+ *
+ * No time is asserted. The exit status is 1 where any result differs. */
+#define _XOPEN_SOURCE 700 /* clock_gettime and makecontext */
+
+#include "bench.h"
+
+#include <stdio.h>
+#include <stdlib.h>
+#include <string.h>
+#include <time.h>
+#include <ucontext.h>
+
+struct input {
+    const char *name;
+    uint8_t bytes[16384];
+    size_t length;
+};
+
+static struct input loaded;
+
+struct result {
+    uint64_t factors[GINGHAMOWL_ENTRIES];
+    int64_t rates[GINGHAMOWL_ENTRIES];
+    ginghamowl_valuation valuation;
+};
+
+static void load(const char *path)
+{
+    FILE *file = fopen(path, "rb");
+    if (!file) {
+        perror(path);
+        exit(2);
+    }
+    loaded.name = path;
+    loaded.length = fread(loaded.bytes, 1, sizeof loaded.bytes, file);
+    fclose(file);
+}
+
+/* ---------------------------------------------------------------- what is timed */
+
+static struct result latest;
+static struct fund latest_fund;
+
+static void engine(const struct input *input)
+{
+    latest.valuation = ginghamowl_value(input->bytes, input->length, latest.factors, GINGHAMOWL_ENTRIES, latest.rates,
+                                        GINGHAMOWL_ENTRIES);
+}
+
+static void plain(const struct input *input)
+{
+    latest.valuation = plain_value(input->bytes, latest.factors, latest.rates);
+}
+
+static void gmp(const struct input *input) { gmp_run(input->bytes); }
+static void arb(const struct input *input) { arb_run(input->bytes); }
+
+/* Parts of a valuation. The engine's other parts have no function of their own that a host can call. */
+static void engine_checks(const struct input *input)
+{
+    latest.valuation.refusal = ginghamowl_refusal(input->bytes, input->length);
+}
+
+static void plain_reading(const struct input *input) { read_fund(input->bytes, &latest_fund); }
+
+static void plain_curves(const struct input *input)
+{
+    uint64_t factors[GINGHAMOWL_ENTRIES];
+    plain_reading(input);
+    for (int curve = DOWN; curve > BASE; curve--)
+        plain_factors(&latest_fund, shift_of(&latest_fund, curve), factors);
+    plain_factors(&latest_fund, 0, latest.factors);
+}
+
+static void plain_curves_and_rates(const struct input *input)
+{
+    plain_curves(input);
+    plain_rates(latest.factors, latest.rates);
+}
+
+struct work {
+    const char *name;
+    void (*once)(const struct input *);
+    const char *remark;
+};
+
+enum { PLAIN = 1, PROGRAMS = 4, PARTS = 6 };
+static const struct work programs[PROGRAMS] = {
+    {"engine", engine, "whole valuation, with the checks of the file; proved"},
+    {"plain C", plain, "whole valuation, without the checks of the file"},
+    {"GMP", gmp, "only the exact factors of 3 curves"},
+    {"Arb", arb, "only the factors of 3 curves and the zero rates"}};
+static const struct work parts[PARTS] = {
+    {"engine: whole valuation", engine, ""},
+    {"plain C: whole valuation", plain, ""},
+    {"engine: the checks of the file alone", engine_checks, ""},
+    {"plain C: reading", plain_reading, ""},
+    {"plain C: reading, 3 curves", plain_curves, ""},
+    {"plain C: reading, 3 curves, zero rates", plain_curves_and_rates, ""}};
+
+static void run(const struct work *work, const struct input *input, long repetitions)
+{
+    for (long i = 0; i < repetitions; i++)
+        work->once(input);
+}
+
+/* ---------------------------------------------------------------- equality */
+
+static bool same_valuation(const ginghamowl_valuation *a, const ginghamowl_valuation *b)
+{
+    return a->refusal == b->refusal && a->verdict == b->verdict &&
+           memcmp(&a->figures, &b->figures, sizeof a->figures) == 0;
+}
+
+static bool demand(bool holds, const char *what, const struct input *input)
+{
+    if (!holds)
+        printf("DIFFERENCE: %s: %s\n", input->name, what);
+    return holds;
+}
+
+/* The engine gives the factors of the base curve; those of the other two are plain C's, which L, B and S1 hold
+ * to the engine's. */
+static bool check(const struct input *input)
+{
+    uint64_t brackets[CURVES][GINGHAMOWL_ENTRIES];
+    struct fund fund;
+    engine(input);
+    struct result ours = latest;
+    if (!demand(ours.valuation.refusal == GINGHAMOWL_ACCEPTED, "the engine refuses the file", input))
+        return false;
+    memset(&latest, 0, sizeof latest);
+    plain(input);
+    read_fund(input->bytes, &fund);
+    memcpy(brackets[BASE], ours.factors, sizeof ours.factors);
+    plain_factors(&fund, shift_of(&fund, UP), brackets[UP]);
+    plain_factors(&fund, shift_of(&fund, DOWN), brackets[DOWN]);
+    bool same = demand(memcmp(ours.factors, latest.factors, sizeof ours.factors) == 0, "factors", input);
+    same &= demand(memcmp(ours.rates, latest.rates, sizeof ours.rates) == 0, "zero rates", input);
+    same &= demand(same_valuation(&ours.valuation, &latest.valuation), "figures or verdict", input);
+    same &= demand(gmp_meets(input->bytes, brackets), "an exact factor is outside its bracket", input);
+    same &= demand(arb_meets(input->bytes, brackets, ours.rates), "a ball misses its bracket", input);
+    return same;
+}
+
+/* ---------------------------------------------------------------- time */
+
+enum { RUNS = 21 };
+
+/* Processor time, which other programs on the machine disturb less than the clock on the wall. */
+static double seconds(void)
+{
+    struct timespec now;
+    clock_gettime(CLOCK_PROCESS_CPUTIME_ID, &now);
+    return (double)now.tv_sec + (double)now.tv_nsec / 1e9;
+}
+
+static double timed(const struct work *work, const struct input *input, long repetitions)
+{
+    double began = seconds();
+    run(work, input, repetitions);
+    return seconds() - began;
+}
+
+/* So many repetitions that one run takes at least 20 ms. */
+static long repetitions_of(const struct work *work, const struct input *input)
+{
+    long repetitions = 1;
+    while (timed(work, input, repetitions) < 0.02)
+        repetitions *= 2;
+    return repetitions;
+}
+
+static int compare(const void *a, const void *b)
+{
+    double x = *(const double *)a, y = *(const double *)b;
+    return (x > y) - (x < y);
+}
+
+/* The works take turns, so that a slow moment of the machine meets all of them. */
+static void take_medians(const struct work *works, int count, const struct input *input, double *medians)
+{
+    long repetitions[PARTS];
+    double each[PARTS][RUNS];
+    for (int w = 0; w < count; w++)
+        repetitions[w] = repetitions_of(&works[w], input);
+    for (int i = 0; i < RUNS; i++)
+        for (int w = 0; w < count; w++)
+            each[w][i] = timed(&works[w], input, repetitions[w]) / (double)repetitions[w];
+    for (int w = 0; w < count; w++) {
+        qsort(each[w], RUNS, sizeof(double), compare);
+        medians[w] = each[w][RUNS / 2];
+    }
+}
+
+static void print_programs(const struct input *input)
+{
+    double medians[PROGRAMS];
+    const char *slash = strrchr(input->name, '/');
+    take_medians(programs, PROGRAMS, input, medians);
+    printf("%s\n", slash ? slash + 1 : input->name);
+    for (int p = 0; p < PROGRAMS; p++)
+        printf("  %-8s %8.1f per second %6.2f x plain C's time   %s\n", programs[p].name, 1 / medians[p],
+               medians[p] / medians[PLAIN], programs[p].remark);
+}
+
+static void print_parts(const struct input *input)
+{
+    double medians[PARTS];
+    take_medians(parts, PARTS, input, medians);
+    for (int p = 0; p < PARTS; p++)
+        printf("  %-40s %8.1f microseconds\n", parts[p].name, 1e6 * medians[p]);
+}
+
+/* ---------------------------------------------------------------- stack */
+
+enum { STACK_BYTES = 1 << 18, PAINT = 0xA5 };
+static unsigned char painted[STACK_BYTES];
+static ucontext_t back, there;
+
+static void value_there(void) { run(&programs[0], &loaded, 1); }
+static void nothing_there(void) { run(&programs[0], &loaded, 0); }
+
+/* The stack grows downwards: the lowest byte that lost its paint tells how deep the call went. */
+static size_t depth_of(void (*call)(void))
+{
+    memset(painted, PAINT, sizeof painted);
+    getcontext(&there);
+    there.uc_stack.ss_sp = painted;
+    there.uc_stack.ss_size = sizeof painted;
+    there.uc_link = &back;
+    makecontext(&there, call, 0);
+    swapcontext(&back, &there);
+    size_t untouched = 0;
+    while (untouched < sizeof painted && painted[untouched] == PAINT)
+        untouched++;
+    return sizeof painted - untouched;
+}
+
+/* ---------------------------------------------------------------- commands */
+
+static int check_all(int count, char **paths, bool times)
+{
+    bool all_same = true;
+    for (int i = 0; i < count; i++) {
+        load(paths[i]);
+        bool same = check(&loaded);
+        all_same = all_same && same;
+        if (same && times)
+            print_programs(&loaded);
+    }
+    if (all_same)
+        printf("%d files: engine and plain C equal; GMP and Arb meet every bracket\n", count);
+    return all_same ? 0 : 1;
+}
+
+static int on_one_file(const char *command)
+{
+    if (strcmp(command, "parts") == 0) {
+        print_parts(&loaded);
+    } else {
+        size_t empty = depth_of(nothing_there);
+        printf("%zu\n", depth_of(value_there) - empty);
+    }
+    return 0;
+}
+
+int main(int argc, char **argv)
+{
+    if (argc >= 3 && (strcmp(argv[1], "time") == 0 || strcmp(argv[1], "check") == 0))
+        return check_all(argc - 2, argv + 2, argv[1][0] == 't');
+    if (argc == 3 && (strcmp(argv[1], "parts") == 0 || strcmp(argv[1], "stack") == 0)) {
+        load(argv[2]);
+        return on_one_file(argv[1]);
+    }
+    if (argc == 5 && strcmp(argv[1], "count") == 0) {
+        load(argv[3]);
+        run(&programs[strcmp(argv[2], "plain") == 0 ? PLAIN : 0], &loaded, atol(argv[4]));
+        return 0;
+    }
+    fprintf(stderr, "usage: bench time FILE.. | check FILE.. | parts FILE | stack FILE | count engine|plain FILE R\n");
+    return 2;
+}

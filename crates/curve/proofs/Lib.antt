@@ -7,6 +7,8 @@ pub mod Moving
 pub mod Growths
 pub mod Discounts
 pub mod Terms
+pub mod Tested
+pub mod Kept
 pub mod Halved
 pub mod Signed
 pub mod Rated

@@ -1,14 +1,14 @@
--- From 10^12, j times × a ÷ b: one time more, the order of the ends, and that the products fit. Assumes nothing.
+-- From 10^12, j times × a ÷ b: one time more, and that the products fit. Assumes nothing.
 use Prim.Native.Nat.{ℕ, zero, suc, _+_, _*_, _-_, _^_, _≤_, _<_}
 use mathlib.Core.Path.{_≡_, refl, sym, _∙_}
 use native.Mathlib.Omega.{arith}
 use native.Mathlib.Numerals.{add-one}
-use native.Mathlib.Nat.{mul-le-mul, mul-le-mul-right, le-trans}
+use native.Mathlib.Nat.{mul-le-mul}
 use Rattle.arith.specs.Rounding.{End, low, high, divide}
-use Rattle.arith.proofs.Rounding.{divide-mono, divide-ends}
 use Rattle.model.specs.Constants.{unit}
 use Rattle.model.specs.Rounded.{bracket, scaled, endOf}
 use Rattle.model.specs.declared.figures.Bracket.{Bracket}
+use Rattle.model.proofs.Search.{scaled-ends}
 use Rattle.curve.specs.Ranges.{SmallEnds, YearsWithin, GrowthWithin, FirstWithin}
 use Rattle.curve.proofs.ByEnds.{by-ends, end-is}
 
@@ -23,13 +23,6 @@ scaled-suc e a b j = refl
 pub scaled-once : (e : End) (a b j : ℕ) → 0 < j → scaled e a b j ≡ divide e (scaled e a b (j - 1) * a) b
 scaled-once e a b zero h = absurd (let z : ⊥ = omega arith in z)
 scaled-once e a b (suc j) h = let k : suc j - 1 ≡ j = omega arith in rw k (scaled-suc e a b j)
-
-pub scaled-ends : (a b j : ℕ) → 0 < b → scaled low a b j ≤ scaled high a b j
-unfolding scaled
-scaled-ends a b zero h = omega arith
-scaled-ends a b (suc j) h =
-    le-trans (divide-mono low (scaled low a b j * a) (scaled high a b j * a) b h (mul-le-mul-right a (scaled-ends a b j h)))
-    (divide-ends (scaled high a b j * a) b h)
 
 -- both ends below a bound have a product that fits
 pub small-ends : (x : Bracket) (f : End → ℕ) (a b m k : ℕ) → x ≡ bracket f → 0 < b → f low ≤ f high → f high ≤ m → a ≤ k → m * k + b ≤ 2 ^ 64 → SmallEnds x a b

@@ -2,3 +2,4 @@
 pub mod Sums
 pub mod Rates
 pub mod Ranges
+pub mod Kept

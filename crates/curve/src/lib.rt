@@ -4,6 +4,7 @@ pub mod ends;
 pub mod factor;
 pub mod growth;
 pub mod rates;
+pub mod results;
 pub mod search;
 pub mod sums;
 pub mod weights;

@@ -7,6 +7,7 @@ ghost use Rattle.curve.specs.Rates.{rateBy};
 ghost use Rattle.curve.specs.Ranges.{RatesWithin};
 use super::search::lower_step;
 use super::search::upper_step;
+use model::case::Case;
 
 // The rate of a step.
 fn rate_at(step: u64) -> i64
@@ -23,10 +24,19 @@ pub fn zero_rates(factors: [u64; 240]) -> [i64; 240]
     ensures { λ r. ⌜ r ≡ byTerm (rateBy (entryOf factors)) 120 ⌝ }
 {
     let mut out = [0i64; 240];
+    let mut steps = [0u64; 15];
+    let mut results = [Case::UNIT; 15];
+    let mut terms = [0usize; 15];
     let mut t: usize = 0;
     while t < 120 {
-        let lower = lower_step(t + 1, factors[2 * t + 1]);
-        let upper = upper_step(t + 1, factors[2 * t]);
+        let lower = lower_step(
+            t + 1,
+            factors[2 * t + 1],
+            &mut steps,
+            &mut results,
+            &mut terms,
+        );
+        let upper = upper_step(t + 1, factors[2 * t], &mut steps, &mut results, &mut terms);
         out[2 * t] = rate_at(lower);
         out[2 * t + 1] = rate_at(upper);
         t += 1;

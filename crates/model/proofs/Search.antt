@@ -73,7 +73,8 @@ all-small : T (below small 121)
 unfolding below scaled divide
 all-small = tt
 
-scaled-ends : (a b j : ℕ) → 0 < b → scaled low a b j ≤ scaled high a b j
+-- the ends of a result are in order
+pub scaled-ends : (a b j : ℕ) → 0 < b → scaled low a b j ≤ scaled high a b j
 unfolding scaled
 scaled-ends a b zero h = omega arith
 scaled-ends a b (suc j) h =

@@ -5,20 +5,23 @@ use native.Mathlib.Omega.{arith}
 use lib.ListN.{length, take, length-set}
 use Rattle.model.specs.Buffers.{byTerm, entryOf}
 use Rattle.curve.specs.Rates.{rateBy}
+use Rattle.curve.specs.Kept.{Kept}
+use Rattle.curve.proofs.Kept.{none-kept, keep-on}
 use Rattle.curve.proofs.Terms.{one-term-more, all-terms}
 use Rattle.curve.proofs.Rated.{lower-within, upper-within, lower-rate, upper-rate}
 use Rattle.curve.proofs.rates.zero_rates.Statement.{statement}
 use Rattle.curve.proofs.rates.zero_rates.Tie as tie
 
 abbrev Inv-loop : tie.InvT-loop
-Inv-loop factors out₀ t₀ out t = (t ≤ 120) × (length out ≡ 240) × (take (2 * t) out ≡ byTerm (rateBy (entryOf factors)) t)
+Inv-loop factors out₀ steps₀ results₀ terms₀ t₀ out steps results terms t =
+    (t ≤ 120) × (length out ≡ 240) × (take (2 * t) out ≡ byTerm (rateBy (entryOf factors)) t) × Kept t steps results terms
 
 abbrev μ-loop : tie.MeasureT-loop
-μ-loop factors out₀ t₀ out t = 120 - t
+μ-loop factors out₀ steps₀ results₀ terms₀ t₀ out steps results terms t = 120 - t
 
 loop-holds : tie.Need-loop-holds Inv-loop μ-loop
 unfolding byTerm
-loop-holds c = (omega arith, refl, refl)
+loop-holds c = (omega arith, refl, refl, none-kept 0)
 
 add-lower-step : tie.Need-add-lower-step Inv-loop μ-loop
 add-lower-step c = omega arith
@@ -36,7 +39,7 @@ array-read-lower-step : tie.Need-array-read-lower-step Inv-loop μ-loop
 array-read-lower-step c = omega arith
 
 lower-step-requires : tie.Need-lower-step-requires Inv-loop μ-loop
-lower-step-requires c κs = lower-within _ _ (c .before .before .pre) (omega arith)
+lower-step-requires c κs = (lower-within _ _ (c .before .before .before .before .before .pre) (omega arith), keep-on _ _ _ _ (c .before .before .before .before .loop .inv .3))
 
 add-upper-step : tie.Need-add-upper-step Inv-loop μ-loop
 add-upper-step c = omega arith
@@ -51,10 +54,10 @@ array-read-upper-step : tie.Need-array-read-upper-step Inv-loop μ-loop
 array-read-upper-step c = omega arith
 
 upper-step-requires : tie.Need-upper-step-requires Inv-loop μ-loop
-upper-step-requires c κs = upper-within _ _ (c .before .before .before .pre) (omega arith)
+upper-step-requires c κs = (upper-within _ _ (c .before .before .before .before .before .before .before .before .before .pre) (omega arith), c .before .before .before .lower-step .ensures .1 .1)
 
 rate-at-requires : tie.Need-rate-at-requires Inv-loop μ-loop
-rate-at-requires c κs = c .before .lower-step .ensures .1
+rate-at-requires c κs = c .before .before .before .before .lower-step .ensures .1 .0
 
 mul-out : tie.Need-mul-out Inv-loop μ-loop
 mul-out c = omega arith
@@ -66,7 +69,7 @@ array-set-from-out : tie.Need-array-set-from-out Inv-loop μ-loop
 array-set-from-out c = omega arith
 
 rate-at-requires-2 : tie.Need-rate-at-requires-2 Inv-loop μ-loop
-rate-at-requires-2 c κs = c .before .upper-step .ensures .1
+rate-at-requires-2 c κs = c .before .upper-step .ensures .1 .0
 
 mul-out-3 : tie.Need-mul-out-3 Inv-loop μ-loop
 mul-out-3 c = omega arith
@@ -88,14 +91,15 @@ loop-less c = omega arith
 
 loop-again : tie.Need-loop-again Inv-loop μ-loop
 loop-again c =
-    let inv = c .before .before .before .before .before .loop .inv in
-    let lower = c .before .before .before .lower-step .ensures in
+    let inv = c .before .before .before .before .before .before .before .before .before .before .before .loop .inv in
+    let lower = c .before .before .before .before .before .before .lower-step .ensures in
     let upper = c .before .before .upper-step .ensures in (
       omega arith,
       simp length-set (inv .1),
       one-term-more _ _ _ _ _ (omega arith) (inv .2)
-          (lower-rate _ _ _ _ (c .before .rate-at .ensures) (lower .1) (lower .0))
-          (upper-rate _ _ _ _ (c .rate-at2 .ensures) (upper .1) (upper .0)),
+          (lower-rate _ _ _ _ (c .before .rate-at .ensures) (lower .1 .0) (lower .0))
+          (upper-rate _ _ _ _ (c .rate-at2 .ensures) (upper .1 .0) (upper .0)),
+      upper .1 .1,
     )
 
 returns : tie.Need-returns Inv-loop μ-loop

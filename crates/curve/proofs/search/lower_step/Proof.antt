@@ -1,51 +1,62 @@
--- `curve::search::lower_step` meets its contract. The step lies from lo to below hi at every turn, and they come nearer. Assumes nothing.
-use Prim.Native.Nat.{_-_, _≤_, _<_}
+-- `curve::search::lower_step` meets its contract. What is sought lies between lo and hi at every turn, and they come nearer. Assumes nothing.
+use Prim.Native.Nat.{_-_, _≤_}
+use mathlib.Core.Path.{refl}
 use native.Mathlib.Omega.{arith}
-use borrow.Author.Needs.{needs}
-use Rattle.arith.specs.Rounding.{low}
-use Rattle.model.specs.Rounded.{tested}
-use Rattle.curve.proofs.Halved.{lower-found}
+use Rattle.curve.specs.Kept.{Kept}
+use Rattle.curve.proofs.Halved.{LowerParted, parted-first, parted-left, parted-right, test-left, lower-some, lower-found}
 use Rattle.curve.proofs.search.lower_step.Statement.{statement}
 use Rattle.curve.proofs.search.lower_step.Tie as tie
 
 abbrev Inv-loop : tie.InvT-loop
-Inv-loop t factor lo₀ hi₀ lo hi = (factor ≤ tested low t lo) × (hi < 22001 → tested low t hi < factor) × (lo < hi) × (hi ≤ 22001)
+Inv-loop t factor steps₀ results₀ terms₀ lo₀ hi₀ d₀ steps results terms lo hi d = LowerParted t factor d lo hi × Kept t steps results terms
 
 abbrev μ-loop : tie.MeasureT-loop
-μ-loop t factor lo₀ hi₀ lo hi = hi - lo
+μ-loop t factor steps₀ results₀ terms₀ lo₀ hi₀ d₀ steps results terms lo hi d = hi - lo
 
 loop-holds : tie.Need-loop-holds Inv-loop μ-loop
-loop-holds c = (c .pre .passes, λ h. absurd (let z : ⊥ = omega arith in z), omega arith, omega arith)
+loop-holds c = (parted-first, c .pre .1)
 
 add-loop : tie.Need-add-loop Inv-loop μ-loop
-add-loop c = omega arith
+add-loop c = omega (arith, c .loop .inv .0 .order, c .loop .inv .0 .most)
 
 add-mid : tie.Need-add-mid Inv-loop μ-loop
-add-mid c = omega arith
+add-mid c = omega (arith, c .before .loop .inv .0 .order, c .before .loop .inv .0 .most)
 
-result-low-requires : tie.Need-result-low-requires Inv-loop μ-loop
-result-low-requires c κs = search needs
+sub-step : tie.Need-sub-step Inv-loop μ-loop
+sub-step c = omega arith
+
+lower-result-requires : tie.Need-lower-result-requires Inv-loop μ-loop
+lower-result-requires c κs =
+    let parted = c .before .before .before .before .loop .inv .0 in
+    let test = c .before .before .before .loop-test .taken in
+    (record { term = c .before .before .before .before .before .pre .0 .term; step = omega (arith, parted .most) }, test-left _ _ _ parted test, c .before .before .before .before .loop .inv .1)
+
+add-d : tie.Need-add-d Inv-loop μ-loop
+add-d c = omega (arith, c .before .before .before .before .before .loop .inv .0 .tests)
 
 loop-less : tie.Need-loop-less Inv-loop μ-loop
 loop-less c = omega arith
 
 loop-again : tie.Need-loop-again Inv-loop μ-loop
 loop-again c =
-    let inv = c .before .before .before .loop .inv in
-    (omega (arith, c .before .result-low .ensures), inv .1, omega arith, inv .3)
+    let learnt = c .before .lower-result .ensures in
+    (parted-left _ _ _ _ (c .before .before .before .before .before .before .loop .inv .0) (c .before .before .before .before .before .loop-test .taken) refl (omega (arith, learnt .0)), learnt .1)
 
 loop-less-2 : tie.Need-loop-less-2 Inv-loop μ-loop
 loop-less-2 c = omega arith
 
 loop-again-2 : tie.Need-loop-again-2 Inv-loop μ-loop
 loop-again-2 c =
-    let inv = c .before .before .before .loop .inv in
-    (inv .0, λ h. omega (arith, c .before .result-low .ensures), omega arith, omega arith)
+    let learnt = c .before .lower-result .ensures in
+    (parted-right _ _ _ _ (c .before .before .before .before .before .before .loop .inv .0) (c .before .before .before .before .before .loop-test .taken) refl (omega (arith, learnt .0)), learnt .1)
+
+sub-result : tie.Need-sub-result Inv-loop μ-loop
+sub-result c = lower-some _ _ _ _ _ (c .before .loop .inv .0) (c .before .before .pre .0 .passes) (c .loop-test .left)
 
 returns : tie.Need-returns Inv-loop μ-loop
 returns c =
-    let inv = c .before .loop .inv in
-    lower-found _ _ _ _ (inv .0) (inv .1) (inv .2) (c .loop-test .left) (inv .3)
+    let found = lower-found _ _ _ _ _ (c .before .loop .inv .0) (c .before .before .pre .0 .passes) (c .loop-test .left) in
+    (found .0, (found .1, c .before .loop .inv .1))
 
 pub lower-step-spec : {M : Type 1} → statement M
 lower-step-spec =
@@ -56,9 +67,12 @@ lower-step-spec =
     loop-holds
     add-loop
     add-mid
-    result-low-requires
+    sub-step
+    lower-result-requires
+    add-d
     loop-less
     loop-again
     loop-less-2
     loop-again-2
+    sub-result
     returns)

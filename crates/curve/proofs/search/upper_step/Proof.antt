@@ -1,52 +1,70 @@
--- `curve::search::upper_step` meets its contract. The step lies from lo to hi at every turn, and they come nearer. Assumes nothing.
-use Prim.Native.Nat.{ℕ, suc, _-_, _≤_, _<_}
-use mathlib.Core.Path.{_≡_}
+-- `curve::search::upper_step` meets its contract. What is sought lies between lo and hi at every turn, and they come nearer. Assumes nothing.
+use Prim.Native.Nat.{_-_, _≤_}
+use mathlib.Core.Path.{refl, sym, _∙_}
+use borrow.Author.Tests.{leb-true, leb-false}
 use native.Mathlib.Omega.{arith}
-use borrow.Author.Needs.{needs}
-use Rattle.arith.specs.Rounding.{high}
-use Rattle.model.specs.Rounded.{tested}
-use Rattle.curve.proofs.Halved.{upper-found, middle-fails}
+use Rattle.curve.specs.Kept.{Kept}
+use Rattle.curve.proofs.Halved.{UpperParted, parted-first, parted-left, parted-right, test-left, upper-found}
 use Rattle.curve.proofs.search.upper_step.Statement.{statement}
 use Rattle.curve.proofs.search.upper_step.Tie as tie
 
 abbrev Inv-loop : tie.InvT-loop
-Inv-loop t factor lo₀ hi₀ lo hi = (tested high t hi ≤ factor) × ((j : ℕ) → suc j ≡ lo → factor < tested high t j) × (lo ≤ hi) × (hi ≤ 22000)
+Inv-loop t factor steps₀ results₀ terms₀ lo₀ hi₀ d₀ steps results terms lo hi d = UpperParted t factor d lo hi × Kept t steps results terms
 
 abbrev μ-loop : tie.MeasureT-loop
-μ-loop t factor lo₀ hi₀ lo hi = hi - lo
+μ-loop t factor steps₀ results₀ terms₀ lo₀ hi₀ d₀ steps results terms lo hi d = hi - lo
 
 loop-holds : tie.Need-loop-holds Inv-loop μ-loop
-loop-holds c = (c .pre .passes, λ j e. absurd (let z : ⊥ = omega arith in z), omega arith, omega arith)
+loop-holds c = (parted-first, c .pre .1)
+
+add-loop : tie.Need-add-loop Inv-loop μ-loop
+add-loop c = omega (arith, c .loop .inv .0 .order, c .loop .inv .0 .most)
 
 add-mid : tie.Need-add-mid Inv-loop μ-loop
-add-mid c = omega arith
+add-mid c = omega (arith, c .before .loop .inv .0 .order, c .before .loop .inv .0 .most)
 
-result-high-requires : tie.Need-result-high-requires Inv-loop μ-loop
-result-high-requires c κs = search needs
+sub-step : tie.Need-sub-step Inv-loop μ-loop
+sub-step c = omega arith
+
+lower-result-requires : tie.Need-lower-result-requires Inv-loop μ-loop
+lower-result-requires c κs =
+    let parted = c .before .before .before .before .loop .inv .0 in
+    let test = c .before .before .before .loop-test .taken in
+    (record { term = c .before .before .before .before .before .pre .0 .term; step = omega (arith, parted .most) }, test-left _ _ _ parted test, c .before .before .before .before .loop .inv .1)
+
+add-d : tie.Need-add-d Inv-loop μ-loop
+add-d c = omega (arith, c .before .before .before .before .before .loop .inv .0 .tests)
+
+upper-passes-requires : tie.Need-upper-passes-requires Inv-loop μ-loop
+upper-passes-requires c κs =
+    let parted = c .before .before .before .before .before .loop .inv .0 in
+    (record { term = c .before .before .before .before .before .before .pre .0 .term; step = omega (arith, parted .most) }, c .lower-result .ensures .0)
 
 loop-less : tie.Need-loop-less Inv-loop μ-loop
 loop-less c = omega arith
 
 loop-again : tie.Need-loop-again Inv-loop μ-loop
 loop-again c =
-    let inv = c .before .before .before .loop .inv in
-    (omega (arith, c .before .result-high .ensures), inv .1, omega arith, omega arith)
-
-add-lo : tie.Need-add-lo Inv-loop μ-loop
-add-lo c = omega arith
+    let learnt = c .before .before .lower-result .ensures in
+    let test = c .before .upper-passes .ensures in
+    (parted-right _ _ _ _ (c .before .before .before .before .before .before .before .loop .inv .0) (c .before .before .before .before .before .before .loop-test .taken) refl (leb-true _ _ (sym test ∙ c .if1 .taken)), learnt .1)
 
 loop-less-2 : tie.Need-loop-less-2 Inv-loop μ-loop
 loop-less-2 c = omega arith
 
 loop-again-2 : tie.Need-loop-again-2 Inv-loop μ-loop
 loop-again-2 c =
-    let inv = c .before .before .before .loop .inv in
-    (inv .0, middle-fails _ _ _ _ (c .before .result-high .ensures) (c .if1 .left), omega arith, inv .3)
+    let learnt = c .before .before .lower-result .ensures in
+    let test = c .before .upper-passes .ensures in
+    (parted-left _ _ _ _ (c .before .before .before .before .before .before .before .loop .inv .0) (c .before .before .before .before .before .before .loop-test .taken) refl (leb-false _ _ (sym test ∙ c .if1 .left)), learnt .1)
+
+sub-result : tie.Need-sub-result Inv-loop μ-loop
+sub-result c = omega (arith, c .before .loop .inv .0 .order)
 
 returns : tie.Need-returns Inv-loop μ-loop
 returns c =
-    let inv = c .before .loop .inv in
-    upper-found _ _ _ _ (inv .0) (inv .1) (inv .2) (c .loop-test .left) (inv .3)
+    let found = upper-found _ _ _ _ _ (c .before .loop .inv .0) (c .before .before .pre .0 .passes) (c .loop-test .left) in
+    (found .0, (found .1, c .before .loop .inv .1))
 
 pub upper-step-spec : {M : Type 1} → statement M
 upper-step-spec =
@@ -55,11 +73,15 @@ upper-step-spec =
     Inv-loop
     μ-loop
     loop-holds
+    add-loop
     add-mid
-    result-high-requires
+    sub-step
+    lower-result-requires
+    add-d
+    upper-passes-requires
     loop-less
     loop-again
-    add-lo
     loop-less-2
     loop-again-2
+    sub-result
     returns)

@@ -66,7 +66,7 @@ def compare_listings(comparison, kind, batch):
 
 def curve_files(rng, count):
     """Files for a comparison of the buffers, one of them refused."""
-    cases = [examples.bent(), *files.ends(), files.full_case(rng)]
+    cases = [examples.bent(), *files.ends(), files.full_case(rng), *files.on_steps(rng)]
     cases += [make(rng) for make in (examples.random_case, files.extreme_case) for _ in range(count // 2)]
     return [files.file_of(rng, case) for case in cases] + [b""]
 

@@ -1,10 +1,13 @@
 """Writes the case files of the benchmark: python3 bench/files.py DIRECTORY
 
 small, typical and large are timed; n_*, m_* and k_* show how the work grows with the days, the pension flows and the
-bond flows, the other two counts standing still; check_* are funds from the tests' generator, only checked."""
+bond flows, the other two counts standing still; curve_* have the counts of n_35, and show how it depends on the curve: of one
+all zero rates are the UFR, of the other they fall from 9 percent towards it; check_* are funds from the tests' generator,
+only checked."""
 
 import random
 import sys
+from dataclasses import replace
 from pathlib import Path
 
 sys.path.insert(0, str(Path(__file__).resolve().parent.parent / "tests"))
@@ -43,6 +46,8 @@ def cases():
         yield f"m_{m}", fund(35, m, 30)
     for k in (0, 30, 60):
         yield f"k_{k}", fund(35, 60, k)
+    for rate in (4_200, 9_000):
+        yield f"curve_{rate}", replace(fund(35, 60, 30), days=examples.flat(rate) * 35)
     rng = random.Random(2)
     for i in range(20):
         yield f"check_{i}", files.extreme_case(rng) if i % 2 else examples.random_case(rng)

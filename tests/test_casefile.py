@@ -1,4 +1,4 @@
-"""tools/casefile.py beside the reference: its refusals, and cases to TOML and back."""
+"""tools/casefile beside the reference: its refusals, and cases to TOML and back."""
 
 import os
 import random
@@ -7,15 +7,22 @@ import sys
 import tempfile
 import unittest
 from collections import Counter
+from importlib.machinery import SourceFileLoader
+from importlib.util import module_from_spec, spec_from_loader
 from pathlib import Path
 
 HERE = Path(__file__).resolve().parent
-TOOL = HERE.parent / "tools" / "casefile.py"
-sys.path[:0] = [str(HERE), str(TOOL.parent)]
-import casefile
+TOOL = HERE.parent / "tools" / "casefile"
+sys.path[:0] = [str(HERE)]
 import examples
 import reference
 import test_reference
+
+# The tool is a command without a suffix, so it is loaded by its path.
+loader = SourceFileLoader("casefile", str(TOOL))
+casefile = module_from_spec(spec_from_loader("casefile", loader))
+sys.modules["casefile"] = casefile
+loader.exec_module(casefile)
 from casefile import Fault, Wrong, explain, from_toml, read, to_toml, write
 
 C1 = reference.encode(examples.c1(), False, False, True)

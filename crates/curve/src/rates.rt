@@ -24,6 +24,7 @@ pub fn zero_rates(factors: [u64; 240]) -> [i64; 240]
     ensures { λ r. ⌜ r ≡ byTerm (rateBy (entryOf factors)) 120 ⌝ }
 {
     let mut out = [0i64; 240];
+    // What the searches keep (see lower_result): before the first, 10^12 after no years.
     let mut steps = [0u64; 15];
     let mut results = [Case::UNIT; 15];
     let mut terms = [0usize; 15];

@@ -1,11 +1,7 @@
 -- `curve::results::upper_passes` meets its contract. Assumes nothing.
-use Prim.Native.Nat.{_≤_}
-use mathlib.Core.Path.{sym, ap}
 use native.Mathlib.Omega.{arith}
 use borrow.Author.Needs.{needs}
-use lib.Dec.{leb}
-use Rattle.arith.specs.Rounding.{low, high}
-use Rattle.model.specs.Rounded.{tested}
+use Rattle.arith.specs.Rounding.{low}
 use Rattle.model.proofs.Search.{tested-small}
 use Rattle.curve.proofs.Tested.{above-fails, near-passes}
 use Rattle.curve.proofs.results.upper_passes.Statement.{statement}

@@ -1,5 +1,5 @@
 -- `curve::search::lower_step` meets its contract. What is sought lies between lo and hi at every turn, and they come nearer. Assumes nothing.
-use Prim.Native.Nat.{_-_, _≤_}
+use Prim.Native.Nat.{_-_}
 use mathlib.Core.Path.{refl}
 use native.Mathlib.Omega.{arith}
 use Rattle.curve.specs.Kept.{Kept}

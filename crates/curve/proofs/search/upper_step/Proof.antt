@@ -1,5 +1,5 @@
 -- `curve::search::upper_step` meets its contract. What is sought lies between lo and hi at every turn, and they come nearer. Assumes nothing.
-use Prim.Native.Nat.{_-_, _≤_}
+use Prim.Native.Nat.{_-_}
 use mathlib.Core.Path.{refl, sym, _∙_}
 use borrow.Author.Tests.{leb-true, leb-false}
 use native.Mathlib.Omega.{arith}

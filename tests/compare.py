@@ -133,7 +133,7 @@ def in_pieces(data):
 
 
 def failing():
-    """The listing of an input whose reading fails: a folder."""
+    """What the program prints of an input whose reading fails: a folder."""
     with tempfile.TemporaryDirectory() as folder:
         descriptor = os.open(folder, os.O_RDONLY)
         try:
@@ -148,7 +148,7 @@ def compare_program(comparison, rng, quick):
     comparison.same("the program", batch, (valuation(input=data) for data in batch), map(reference.listing, batch))
     few = batch[:5]
     comparison.same("the program, in pieces", few, map(in_pieces, few), map(reference.listing, few))
-    comparison.same("the program, a failing read", [b""], [failing()], [reference.listing(b"")])
+    comparison.same("the program, a failing read", [b""], [failing()], [b""])
 
 
 # ---------------------------------------------------------------- all of it

@@ -1,6 +1,47 @@
 // Reads a case file from standard input and prints its listing.
 use libc::STDIN_FILENO;
 use libc::STDOUT_FILENO;
+ghost use lib.ListN.{length};
+ghost use Rattle.valuation.specs.Input.{AtMost};
+
+// The longest acceptable file has 9,223 bytes. So the first 9,224 decide, also what comes before refusal 2.
+const MOST_BYTES: usize = 9224;
+
+// What reading the input gave: how many bytes it has, up to MOST_BYTES, or that a read failed.
+enum Input {
+    Bytes(usize),
+    Failed,
+}
+
+// Reads once, to the front of part.
+fn read_once(part: &mut [u8]) -> Input
+    ensures { λ r. ⌜ AtMost r (length (now (part .entry))) ⌝ }
+{
+    let got = libc::read(STDIN_FILENO, part);
+    if got < 0 {
+        return Input::Failed;
+    }
+    Input::Bytes(io::count(got, part))
+}
+
+// Reads the input to the front of file until it is full or the input ends. A read that fails, or that a signal
+// interrupts, ends it with no answer: the bytes before it need not be the whole file.
+fn read_input(file: &mut [u8]) -> Input
+    ensures { λ r. ⌜ AtMost r (length (now (file .entry))) ⌝ }
+{
+    let mut end = 0;
+    while end < file.len() {
+        let input = read_once(&mut file[end..]);
+        let Input::Bytes(n) = input else {
+            return Input::Failed;
+        };
+        if n == 0 {
+            return Input::Bytes(end);
+        }
+        end += n;
+    }
+    Input::Bytes(end)
+}
 
 // Values a file with buffers as long as document 01 wants.
 fn print_listing(file: &[u8]) {
@@ -12,10 +53,12 @@ fn print_listing(file: &[u8]) {
     io::write_all(STDOUT_FILENO, &text[..n]);
 }
 
-// The longest acceptable file has 9,223 bytes. So the first 9,224 decide, also what comes before refusal 2.
-// A read that fails counts as the end of the input.
+// Where a read fails nothing is printed.
 fn main() {
-    let mut file = [0u8; 9224];
-    let n = io::read_full(STDIN_FILENO, &mut file);
+    let mut file = [0u8; MOST_BYTES];
+    let input = read_input(&mut file);
+    let Input::Bytes(n) = input else {
+        return;
+    };
     print_listing(&file[..n]);
 }

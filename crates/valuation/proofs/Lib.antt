@@ -1,0 +1,2 @@
+-- What the proofs of `valuation` cite.
+mod Laws

@@ -1,0 +1,2 @@
+-- What the contracts of `valuation` cite. Assumes nothing.
+pub mod Input

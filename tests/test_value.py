@@ -1,0 +1,338 @@
+"""./value: it runs only what passed its check, its exit statuses, and its answers for several files.
+
+The check itself is a stand-in here: a script named rt that hands out a program and fails, waits or edits when a test says so.
+The last class runs ./value on the repository itself, with the real rt.
+"""
+
+import csv
+import hashlib
+import io
+import json
+import os
+import shutil
+import subprocess
+import sys
+import tempfile
+import time
+import unittest
+from pathlib import Path
+
+HERE = Path(__file__).resolve().parent
+ROOT = HERE.parent
+sys.path[:0] = [str(HERE)]
+import examples
+import reference
+from reference import MONEY
+
+C1 = reference.encode(examples.c1(), False, False, True)
+C1_LISTING = reference.listing(C1)
+VERSION = (ROOT / "VERSION").read_text().strip()
+
+# Counts its calls; --edit once and --fail for as long as the file of that name is there; hands out the file `program`.
+RT = """#!/bin/sh
+[ "$1 $2" = 'check valuation' ] || exit 2
+echo call >> "$STAND_IN/calls"
+[ ! -e "$STAND_IN/slow" ] || sleep 0.7
+[ ! -e "$STAND_IN/edit" ] || { rm -f "$STAND_IN/edit"; echo '// edited' >> crates/a/src/lib.rt; }
+[ ! -e "$STAND_IN/edits" ] || echo '// edited' >> crates/a/src/lib.rt
+mkdir -p target/bin target/log && cp "$STAND_IN/program" target/bin/valuation || exit 2
+[ ! -e "$STAND_IN/fails" ] || { echo 'rt: a NOT PROVED'; exit 1; }
+"""
+
+
+class Checkout(unittest.TestCase):
+    """A checkout in which every file that ./value needs is the repository's own, but for the crates and for rt."""
+
+    def setUp(self):
+        self.place = tempfile.TemporaryDirectory()
+        self.addCleanup(self.place.cleanup)
+        self.folder = Path(self.place.name)
+        self.folder.chmod(0o755)
+        self.root, self.rt = self.folder / "checkout", self.folder / "rt"
+        for name in ("value", "VERSION", "hosts/words.toml"):
+            (self.root / name).parent.mkdir(parents=True, exist_ok=True)
+            shutil.copy(ROOT / name, self.root / name)
+        shutil.copytree(ROOT / "tools", self.root / "tools", ignore=shutil.ignore_patterns("__pycache__"))
+        for name in ("crates.txt", "crates/a/src/lib.rt", "crates/a/specs/S.antt", "crates/a/proofs/P.antt",
+                     "crates/a/proofs/f/Proof.antt", "crates/a/proofs/m/f/Proof.antt", "crates/a/proofs/m/T/f/Proof.antt",
+                     "crates/valuation/src/main.rt", "crates/valuation/stdin", "crates/valuation/stdout"):
+            self.write(name, name)
+        self.rt.mkdir()
+        (self.rt / "rt").write_text(RT)
+        (self.rt / "rt").chmod(0o755)
+        self.program(f"#!/bin/sh\nexec {ROOT}/target/bin/valuation\n")
+        self.c1 = self.folder / "c1.case"
+        self.c1.write_bytes(C1)
+
+    def write(self, name, text):
+        path = self.root / name
+        path.parent.mkdir(parents=True, exist_ok=True)
+        path.write_text(text)
+
+    def program(self, script):
+        (self.rt / "program").write_text(script)
+        (self.rt / "program").chmod(0o755)
+
+    def order(self, word, stands=True):
+        """Tells the stand-in what to do."""
+        if stands:
+            (self.rt / word).touch()
+        else:
+            (self.rt / word).unlink()
+
+    def environment(self, path=None):
+        return os.environ | {"PATH": f"{path or self.rt}:{os.environ['PATH']}", "STAND_IN": str(self.rt)}
+
+    def value(self, *words, program=None, **options):
+        options = {"capture_output": True, "env": self.environment()} | options
+        return subprocess.run([program or self.root / "value", *words], **options)
+
+    def calls(self):
+        return len((self.rt / "calls").read_text().splitlines()) if (self.rt / "calls").exists() else 0
+
+    def assertAnswers(self, run, calls):
+        self.assertEqual((run.returncode, run.stdout), (0, C1_LISTING), run.stderr)
+        self.assertEqual(self.calls(), calls)
+
+    def assertNoAnswer(self, run, words):
+        self.assertEqual((run.returncode, run.stdout), (2, b""))
+        self.assertIn(words, run.stderr.decode())
+
+
+class Proved(Checkout):
+    def test_proved_once(self):
+        for _ in range(2):
+            self.assertAnswers(self.value(self.c1), 1)
+        for path in self.root.rglob("*"):
+            os.utime(path, (2_000_000_000, 2_000_000_000))  # dates say nothing
+        self.assertAnswers(self.value(self.c1), 1)
+
+    def test_a_failed_check(self):
+        self.order("fails")
+        for _ in range(2):  # the program that failed lies in target/bin the second time
+            self.assertNoAnswer(self.value(self.c1), "rt: a NOT PROVED")
+            self.assertTrue((self.root / "target/bin/valuation").exists())
+            self.assertNoAnswer(self.value("--json", self.c1), "the program is not proved")
+        self.order("fails", False)
+        self.assertAnswers(self.value(self.c1), 5)
+
+    def test_a_failed_check_after_a_good_one(self):
+        self.assertAnswers(self.value(self.c1), 1)
+        self.write("crates/a/proofs/P.antt", "wrong")
+        self.order("fails")
+        for _ in range(2):
+            self.assertNoAnswer(self.value(self.c1), "the program is not proved")
+        self.write("crates/a/proofs/P.antt", "crates/a/proofs/P.antt")  # as it was: but the check of it was thrown away
+        self.assertNoAnswer(self.value(self.c1), "the program is not proved")
+
+    def test_edits_of_every_kind(self):
+        self.assertAnswers(self.value(self.c1), 1)
+        files = [path for path in self.root.rglob("*") if path.is_file() and "crates" in path.name + str(path.parent)]
+        self.assertEqual(len(files), 10)
+        for count, path in enumerate(files, 2):
+            path.write_text(path.read_text()[::-1])  # as long as before
+            os.utime(path, (946_684_800, 946_684_800))  # and older than the program
+            self.assertAnswers(self.value(self.c1), count)
+        self.write("crates/a/proofs/g/Proof.antt", "a new file")
+        self.assertAnswers(self.value(self.c1), count + 1)
+        (self.root / "crates/a/proofs/g/Proof.antt").unlink()
+        self.assertAnswers(self.value(self.c1), count + 2)
+
+    def test_an_edited_program(self):
+        self.assertAnswers(self.value(self.c1), 1)
+        (self.root / "target/value/valuation").write_text("#!/bin/sh\necho 'R 1'\n")
+        self.assertAnswers(self.value(self.c1), 2)
+        (self.root / "target/bin/valuation").write_text("#!/bin/sh\necho 'R 1'\n")  # nothing runs this one
+        self.assertAnswers(self.value(self.c1), 2)
+
+    def test_an_edit_during_the_check(self):
+        self.order("edit")
+        run = self.value(self.c1)
+        self.assertAnswers(run, 2)
+        self.assertIn(b"the sources changed while they were proved", run.stderr)
+        self.write("crates.txt", "other")
+        self.order("edits")
+        self.assertNoAnswer(self.value(self.c1), "the sources changed while they were proved")
+
+    def test_first_calls_at_once(self):
+        self.order("slow")
+        runs = [subprocess.Popen([self.root / "value", self.c1], stdout=subprocess.PIPE, stderr=subprocess.PIPE,
+                                 env=self.environment()) for _ in range(4)]
+        for run in runs:
+            out, said = run.communicate()
+            self.assertEqual((run.returncode, out), (0, C1_LISTING), said)
+        self.assertEqual(self.calls(), 1)
+
+    def test_every_source_counts(self):
+        """No file of Rattle in the repository lies deeper than the checksums look."""
+        script = f'root={ROOT}; . "$root/tools/proved.sh"; checksums'
+        listed = {line.split(" ", 2)[2] for line in subprocess.check_output(["sh", "-c", script], text=True).splitlines()}
+        sources = {str(path.relative_to(ROOT)) for end in ("*.rt", "*.antt") for path in (ROOT / "crates").rglob(end)}
+        self.assertEqual(sources - listed, set())
+        self.assertLessEqual({"crates.txt", "crates/valuation/stdin", "crates/valuation/stdout"}, listed)
+
+
+class Places(Checkout):
+    def test_links_and_folders(self):
+        self.assertAnswers(self.value(self.c1), 1)
+        far, near = self.folder / "far", self.folder / "near"
+        far.symlink_to(self.root / "value")
+        near.symlink_to("far")
+        self.assertAnswers(self.value("c1.case", program=near, cwd=self.folder), 1)
+        self.assertAnswers(self.value("../c1.case", program="./value", cwd=self.root), 1)
+        self.assertAnswers(self.value("value", "../c1.case", program="sh", cwd=self.root), 1)
+        self.assertIn(VERSION.encode(), self.value("--version", program=near).stdout)
+
+    def as_reader(self, *words, **options):
+        """A call by someone who may read the checkout and write nothing there."""
+        for path in [self.root, *self.root.rglob("*")]:
+            path.chmod(0o555)
+        if os.geteuid() == 0:
+            options["user"], options["group"], options["extra_groups"] = 65_534, 65_534, []
+        try:
+            return self.value(*words, **options)
+        finally:
+            for path in [self.root, *self.root.rglob("*")]:
+                path.chmod(0o755)
+
+    def test_read_only(self):
+        self.program("#!/bin/sh\ncat > /dev/null; echo 'R 3'\n")
+        run = self.as_reader(self.c1)
+        self.assertNoAnswer(run, "cannot be written")
+        self.assertEqual(self.calls(), 0)
+        self.value(self.c1)
+        for words in ((self.c1,), ("--csv", self.c1)):
+            run = self.as_reader(*words)
+            self.assertEqual((run.returncode, run.stderr), (1, b""))
+            self.assertIn(b"3", run.stdout)
+
+    def test_no_rt(self):
+        tools = self.folder / "tools"
+        tools.mkdir()
+        for name in ("sh", "cksum", "cmp", "python3", "readlink", "dirname", "cat"):
+            (tools / name).symlink_to(shutil.which(name))
+        run = self.value(self.c1, env={"PATH": str(tools)})
+        self.assertNoAnswer(run, "rt, which proves it, is not installed")
+        self.assertAnswers(self.value(self.c1), 1)
+        self.assertAnswers(self.value(self.c1, env={"PATH": str(tools)}), 1)
+
+
+class Statuses(Checkout):
+    def test_one_file(self):
+        for data in (b"", C1[:-1], C1 + b"\0", b"\x00\x74" + C1[2:]):
+            (self.folder / "bad.case").write_bytes(data)
+            run = self.value(self.folder / "bad.case")
+            self.assertEqual((run.returncode, run.stdout), (1, reference.listing(data)))
+            self.assertEqual(self.value("-", input=data).stdout, reference.listing(data))
+        self.assertEqual(self.value("-", input=C1).returncode, 0)
+
+    def test_no_answer(self):
+        self.value(self.c1)
+        for words in ((self.folder / "none.case",), (self.folder,), ("",), (), ("--wrong",), ("--json",),
+                      ("--json", self.folder), ("--csv", self.folder / "none.case"), ("--json", "-x")):
+            run = self.value(*words)
+            self.assertEqual(run.returncode, 2, words)
+            self.assertTrue(run.stderr, words)
+        folder = os.open(self.folder, os.O_RDONLY)  # each read of it fails
+        self.addCleanup(os.close, folder)
+        self.assertNoAnswer(self.value("-", stdin=folder), "could not be read to its end")
+        self.assertNoAnswer(self.value("--json", "-", stdin=folder), "")
+
+    def test_a_program_that_breaks_off(self):
+        for script in ("echo 'L 1 1'", "printf 'R'", "exit 3", "kill -9 $$", "printf 'L 1 1\nV VRIJ'", "echo 'X'"):
+            self.program(f"#!/bin/sh\ncat > /dev/null\n{script}\n")
+            self.write("crates.txt", script)
+            self.assertEqual(self.value("--json", self.c1).returncode, 2, script)
+            if "V VRIJ" not in script:  # a listing that is cut in its last word: the several-file form looks closer
+                self.assertNoAnswer(self.value(self.c1), "no answer")
+
+    def test_lost_output(self):
+        self.value(self.c1)
+        for words in ([self.c1], ["--json", self.c1], ["--csv", self.c1, self.c1], ["--help"], ["--version"]):
+            with open("/dev/full", "wb") as full:
+                self.assertEqual(self.value(*words, capture_output=False, stdout=full, stderr=subprocess.DEVNULL).returncode, 2)
+            closed = subprocess.run(["sh", "-c", '"$0" "$@" >&-', self.root / "value", *words], env=self.environment(),
+                                    stderr=subprocess.DEVNULL)
+            self.assertEqual(closed.returncode, 2, words)
+            read, write = os.pipe()
+            os.close(read)
+            with open(write, "wb") as pipe:
+                self.assertEqual(self.value(*words, capture_output=False, stdout=pipe, stderr=subprocess.DEVNULL).returncode, 2)
+
+
+class Several(Checkout):
+    def setUp(self):
+        super().setUp()
+        self.files = {"c1.case": C1, "up.case": reference.encode(examples.up(), True, True, True), "bad, \"6\".case":
+                      reference.encode(examples.c1(days=[[0] + [6_001] * 59]), False, False, True)}
+        for name, data in self.files.items():
+            (self.folder / name).write_bytes(data)
+
+        self.value(self.c1)
+
+    def run_all(self, *words):
+        return self.value(*words, *self.files, cwd=self.folder)
+
+    def test_blocks(self):
+        run = self.run_all()
+        self.assertEqual((run.returncode, run.stderr), (1, b""), run.stderr)
+        blocks = [name.encode() + b"\n" + reference.listing(data) for name, data in self.files.items()]
+        self.assertEqual(run.stdout, b"\n".join(blocks))
+        self.assertEqual(self.value("c1.case", "up.case", cwd=self.folder).returncode, 0)
+        run = self.value("c1.case", "none", "bad, \"6\".case", cwd=self.folder)
+        self.assertEqual(run.returncode, 2)
+        self.assertIn(b"\nnone\nno answer\n\nbad, ", run.stdout)
+
+    def figures(self, name):
+        rounded = reference.Rounded(reference.read(self.files[name]))
+        return {figure: getattr(rounded, figure) for figure in MONEY}, rounded.verdict
+
+    def test_json(self):
+        run = self.run_all("--json")
+        self.assertEqual(run.returncode, 1)
+        told = json.loads(run.stdout)
+        self.assertEqual((told["version"], told["unit"]), (VERSION, "cents"))
+        for row, (name, data) in zip(told["valuations"], self.files.items(), strict=True):
+            self.assertEqual((row["file"], row["sha256"], row["problem"]), (name, hashlib.sha256(data).hexdigest(), None))
+            if name.startswith("bad"):
+                self.assertEqual((row["refusal"], row["verdict"], row["figures"]), (6, None, None))
+                self.assertIn("forward rate", row["refusal_sentence"])
+                continue
+            figures, verdict = self.figures(name)
+            self.assertEqual({key: (ends["lower"], ends["upper"]) for key, ends in row["figures"].items()}, figures)
+            self.assertEqual((row["refusal"], row["verdict"]), (None, verdict))
+
+    def test_csv(self):
+        run = self.run_all("--csv")
+        self.assertEqual(run.returncode, 1)
+        rows = list(csv.DictReader(io.StringIO(run.stdout.decode())))
+        for row, (name, data) in zip(rows, self.files.items(), strict=True):
+            self.assertEqual((row["file"], row["sha256"], row["version"]), (name, hashlib.sha256(data).hexdigest(), VERSION))
+            if name.startswith("bad"):
+                self.assertEqual((row["refusal"], row["verdict"], row["L_lower"]), ("6", "", ""))
+                continue
+            figures, verdict = self.figures(name)
+            self.assertEqual({key: (int(row[key + "_lower"]), int(row[key + "_upper"])) for key in figures}, figures)
+            self.assertEqual((row["refusal"], row["verdict"]), ("", verdict))
+
+
+class Repository(unittest.TestCase):
+    """./value of the repository itself."""
+
+    def test_a_call_costs_little(self):
+        """A call on a built tree stays near the bare program's time: no proving, no Python. docs/DECISIONS.md has the ratio."""
+        def quickest(*words, **options):
+            times = []
+            for _ in range(25):
+                began = time.perf_counter()
+                with open(ROOT / "crates/valuation/stdin", "rb") as file:
+                    subprocess.run(words, stdin=file, stdout=subprocess.DEVNULL, check=True)
+                times.append(time.perf_counter() - began)
+            return min(times)
+        subprocess.run([ROOT / "value", ROOT / "crates/valuation/stdin"], stdout=subprocess.DEVNULL, check=True)
+        bare = quickest(ROOT / "target/value/valuation")
+        self.assertLess(quickest(ROOT / "value", ROOT / "crates/valuation/stdin"), 12 * bare)
+
+
+if __name__ == "__main__":
+    unittest.main()

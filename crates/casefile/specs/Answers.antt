@@ -29,7 +29,7 @@ caseAfter (suc r) k = defaultCase
 unfoldable pub readingOf : List ℕ → Reading
 readingOf file = record { answer = answerOf (refusal file); «case» = caseAfter (refusal file) (held (caseOf file)) }
 
--- where in the file the part starts that holds the rates, and a place so far behind another
+-- the offset of the rates' part in the file, and the place that lies k entries behind another
 abbrev pub ratesFrom : ℕ → List ℕ → ℕ
 ratesFrom zero file = daysAt file + 1
 ratesFrom (suc r) file = 0

@@ -87,8 +87,8 @@ pub fn lower_result(
     result
 }
 
-// Whether the upper result of step i is at most the factor. It is at least the lower result and at
-// most 1,000 above it, so mostly that one says so.
+// Whether the upper result of step i is at most the factor. The upper result is at least the lower
+// one and at most 1,000 above it, so the lower one decides most tests.
 pub fn upper_passes(t: usize, i: u64, lower: u64, factor: u64) -> bool
     requires { ⌜ StepWithin t i × (lower ≡ tested low t i) ⌝ }
     ensures { λ r. ⌜ r ≡ leb (tested high t i) factor ⌝ }

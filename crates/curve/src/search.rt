@@ -12,8 +12,8 @@ ghost use Rattle.curve.specs.Kept.{Kept};
 use super::results::lower_result;
 use super::results::upper_passes;
 
-// The searches count places: place p is step p - 1, place 0 is ahead of the first step, which is 0,
-// and this one is past the last, which is 22,000.
+// The searches count places, and place p is step p - 1. Place 0 is ahead of the first step, which is
+// step 0. PAST is the place after the last step, which is step 22,000.
 const PAST: u64 = 22_002;
 
 // The largest step whose lower result is at least the factor: lo passes or is ahead of all, and hi

@@ -1,7 +1,7 @@
 -- The page to open first: what holds of every call `value(file, factors, rates)`. Its contract (src/lib.rt) says that it answers
 -- `valuationOf (length factors) (length rates) file` and leaves `factorsAfter file factors rates` and `ratesAfter file factors rates` in
--- the buffers. Of these three the two records below speak: one of them for each number that `valuationRefusal` gives, 0 or another.
--- That each holds is proved in proofs/Guaranteed.antt.
+-- the buffers. Three records speak of these. `RefusedCall` holds where `valuationRefusal` is not 0, `AcceptedCall` where it is 0, and
+-- `AcceptedExactly` says when it is 0. All three are proved in proofs/Guaranteed.antt.
 use Prim.Native.Nat.{ℕ, suc, _+_, _*_, _≤_, _<_}
 use mathlib.Core.Path.{_≡_}
 use mathlib.Core.List.{List}

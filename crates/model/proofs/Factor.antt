@@ -42,7 +42,7 @@ product-first c f zero h = rw (pow-zero (P c 0), pow-zero (c .N))
 product-first c f (suc j) h = rw (growth-to-20 c (suc j) h, G-suc c j)
     (omega (arith, ap (λ m. m * (P c (suc j) ^ suc j * c .N ^ suc j)) (product-first c f j (omega arith))))
 
--- the growth that is roundd by, from 21
+-- the growth that a factor is divided by, from term 21
 pub weighed-to-60 : (c : Curve) (e : End) (t : ℕ) → t ≤ 60 → Rounded.weighed c e t ≡ divide e ((1000 - weight t) * Rounded.growth c e t + weight t * ufrGrowth c) 1000
 unfolding Rounded.weighed
 weighed-to-60 c e t h = cond-yes (leb t 60) _ _ (le→leb t 60 h)
@@ -65,7 +65,7 @@ weighed-in c f e j h = go (decLe (suc j) 60)
         (weigh (1000 - weight (suc j)) (weight (suc j)) (growth-in c f e j k) (ufr-in c e))
     go (no k) = rw (weighed-from-61 c e (suc j) (omega arith), growth-from-61 c (suc j) (omega arith)) (ufr-in c e)
 
--- the adjusted growth growth and the product are above zero
+-- the adjusted growth and the product are above zero
 sum-pos : (k v a b u : ℕ) → 1000 ≤ k + v → 0 < a → 0 < b → 0 < k * a * (1000 * 100000) + v * (100000 + u) * (1000 * b)
 sum-pos k v a b u h l m = omega (arith, mul-le-mul-left k l, mul-le-mul-left v m)
 

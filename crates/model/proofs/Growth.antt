@@ -61,7 +61,7 @@ growth-width c f j h =
     (scaled-width p q j hq near j (omega arith))
     (omega (arith, mul-le-mul-left j (f .most (suc j) h))))
 
--- the mean of powers: n + 1 scaled a b^n is at most a^(n+1) + n times b^(n+1)
+-- the mean of powers: (n + 1) × a × b^n is at most a^(n+1) + n × b^(n+1)
 square : (a b : ℕ) → 2 * (a * b) ≤ a * a + b * b
 square a b = go (decLe a b)
   where

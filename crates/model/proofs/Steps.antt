@@ -99,7 +99,7 @@ unfolding scaled
 scaled-in e a b zero h = rw (pow-zero a, pow-zero b) (start e unit)
 scaled-in e a b (suc j) h = rw (pow-suc a j, pow-suc b j) (step a b h (scaled-in e a b j h))
 
--- the widths: × a ÷ b takes a width weight to at most v + 1, if w × a is at most v × b
+-- the widths: × a ÷ b takes a width w to at most v + 1, if w × a is at most v × b
 pub wider : (lo hi a b w v : ℕ) → 0 < b → hi ≤ lo + w → w * a ≤ v * b → divide high (hi * a) b ≤ divide low (lo * a) b + (v + 1)
 wider lo hi a b w v h k l =
     let p : ℕ = divide low (lo * a) b in

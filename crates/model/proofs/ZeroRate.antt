@@ -77,7 +77,7 @@ base-most c b j h =
           (b .baseLeast j (omega arith)) (b .baseMost j (omega arith)) (b .baseForwardMost j h)),
     ))
 
--- ---- the rounded growth that is roundd by, between closed numbers
+-- ---- the rounded growth that a factor is divided by, between closed numbers
 growth-least : (c : Curve) → BaseWithin c → (j : ℕ) → suc j ≤ 60 → 979 * 10 ^ 9 ≤ Rounded.growth c low (suc j)
 growth-least c b j h =
     omega (

@@ -57,13 +57,13 @@ impl Case {
     // The UFR of a file without that field.
     pub const DEFAULT_UFR: u64 = 4_200;
 
-    // So many rate steps are 1.
+    // The number of rate steps in 1: a step is 0.00001.
     pub const STEPS_PER_ONE: u64 = 100_000;
 
-    // So many units of a factor or a growth are 1.
+    // The number of units in a factor or a growth of 1: a unit is 10^-12.
     pub const UNIT: u64 = 1_000_000_000_000;
 
-    // The case of which nothing is said.
+    // The case with the default UFR and 0 in every other field.
     pub fn default() -> Case
         ensures { λ r. ⌜ r ≡ defaultCase ⌝ }
     {

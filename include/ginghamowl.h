@@ -18,8 +18,10 @@
  *     threads at once need no lock. A call needs less than 64 KiB of stack.
  *   - Nothing is asked of the CONTENT of what is lent: any bytes, numbers and lengths are answered.
  *
- * Link libhost.a (made by `rt staticlib host`) with any C or C++ program for x86-64 Linux; it needs
- * no library but the C library.
+ * Link libginghamowl.a or libginghamowl.so with any C or C++ program for x86-64 Linux; both need no
+ * library but the C library. `hosts/build` makes them in hosts/target, and `hosts/install PREFIX` puts
+ * them, this header and ginghamowl.pc (for pkg-config) below PREFIX. ginghamowl_words.h has the
+ * refusals and the verdicts in words.
  */
 #ifndef GINGHAMOWL_H
 #define GINGHAMOWL_H
@@ -31,11 +33,23 @@
 extern "C" {
 #endif
 
+/* ---------------------------------------------------------------- version */
+
+/* Of this header. Before 1.0 a new minor version may change what stands here; the shared library's
+ * name has both numbers for that reason, libginghamowl.so.MAJOR.MINOR. */
+/* hosts/words writes: version */
+#define GINGHAMOWL_VERSION "0.2.0"
+#define GINGHAMOWL_VERSION_MAJOR 0
+#define GINGHAMOWL_VERSION_MINOR 2
+#define GINGHAMOWL_VERSION_PATCH 0
+/* hosts/words: end of version */
+
 /* ---------------------------------------------------------------- sizes */
 
 enum {
     GINGHAMOWL_TERMS = 120,        /* the terms of the curve: 1 to 120 years */
     GINGHAMOWL_ENTRIES = 240,      /* the least length of a factor or rate buffer */
+    GINGHAMOWL_FILE_BYTES = 9223,  /* the longest accepted file; one byte more decides a refusal */
     GINGHAMOWL_LISTING_BYTES = 512 /* a listing always fits into so many bytes */
 };
 
@@ -48,32 +62,65 @@ enum {
 /* Document 01's numbers. 1 to 12 are errors of the office that made the file, 13 of the host.
  * The first that applies is given, in document 01's order: 13; the map (1, then 3); each field in
  * bit order; then 2; then 6. */
+/* hosts/words writes: refusals */
 enum {
     GINGHAMOWL_ACCEPTED = 0,
-    GINGHAMOWL_REFUSED_ENDS_EARLY = 1,    /* it ends inside the map or inside a field whose bit stands */
-    GINGHAMOWL_REFUSED_BYTES_FOLLOW = 2,  /* bytes follow the last field */
-    GINGHAMOWL_REFUSED_MAP = 3,           /* bit 1, 2, 5 or 6 is missing, or one of 7 to 15 stands */
-    GINGHAMOWL_REFUSED_DAY_COUNT = 4,     /* the days are not 1 to 70 */
-    GINGHAMOWL_REFUSED_RATE = 5,          /* a zero rate is not -1,000 to 10,000 steps of 0.00001 */
-    GINGHAMOWL_REFUSED_GROWTH = 6,        /* t s(t) - (t-1) s(t-1) is not -2,000 n to 12,000 n at some term */
-    GINGHAMOWL_REFUSED_FLOW_COUNT = 7,    /* the pension flows are not 1 to 120, or the bond flows 1 to 60 */
-    GINGHAMOWL_REFUSED_FLOW = 8,          /* a flow is above 100,000,000 euros */
-    GINGHAMOWL_REFUSED_UFR = 9,           /* the UFR is above 5,000 steps */
-    GINGHAMOWL_REFUSED_AMOUNT = 10,       /* an amount is above 100,000,000,000 euros */
-    GINGHAMOWL_REFUSED_SHOCK = 11,        /* a shock is above its limit: 1,000; the spread 10,000; the duration 500 */
-    GINGHAMOWL_REFUSED_PEOPLE = 12,       /* the heads are not 1 to 1,000,000, or an age is above 1,200 months */
-    GINGHAMOWL_REFUSED_BUFFER = 13        /* the buffer for factors or for rates has fewer than 240 entries */
+    /* the file ends inside the map or inside a field whose bit is set; the map and each such
+     * field must be whole */
+    GINGHAMOWL_REFUSED_ENDS_EARLY = 1,
+    /* bytes follow the last field; the file must end there */
+    GINGHAMOWL_REFUSED_BYTES_FOLLOW = 2,
+    /* the map has a wrong bit; bits 1, 2, 5 and 6 must be set, and bits 7 to 15 must not */
+    GINGHAMOWL_REFUSED_MAP = 3,
+    /* the number of days is out of limits; it must be 1 to 70 */
+    GINGHAMOWL_REFUSED_DAY_COUNT = 4,
+    /* a zero rate is out of limits; each must be -1,000 to 10,000 steps of 0.00001, -1 % to 10 % */
+    GINGHAMOWL_REFUSED_RATE = 5,
+    /* a one-year forward rate is out of limits; t x s(t) - (t - 1) x s(t-1), with s(t) the sum
+     * of term t's rates over the n days, must be -2,000 x n to 12,000 x n steps at each term, -2
+     * % to 12 % */
+    GINGHAMOWL_REFUSED_GROWTH = 6,
+    /* the number of flows is out of limits; there must be 1 to 120 pension flows, and 1 to 60
+     * bond flows where their bit is set */
+    GINGHAMOWL_REFUSED_FLOW_COUNT = 7,
+    /* a flow is out of limits; each must be at most 100,000,000 euros */
+    GINGHAMOWL_REFUSED_FLOW = 8,
+    /* the UFR is out of limits; it must be at most 5,000 steps of 0.00001, 5 % */
+    GINGHAMOWL_REFUSED_UFR = 9,
+    /* an amount is out of limits; each must be at most 100,000,000,000 euros */
+    GINGHAMOWL_REFUSED_AMOUNT = 10,
+    /* a shock is out of limits; shifts must be at most 1,000 steps, falls, spread rise and
+     * correlation at most 1,000 thousandths, the credit spread at most 10,000 steps and the
+     * credit duration at most 500 tenths of a year */
+    GINGHAMOWL_REFUSED_SHOCK = 11,
+    /* the head count or an age is out of limits; heads must be 1 to 1,000,000, and ages at most
+     * 1,200 months */
+    GINGHAMOWL_REFUSED_PEOPLE = 12,
+    /* a lent buffer is too short; the buffers for factors and for rates must have at least 240
+     * entries */
+    GINGHAMOWL_REFUSED_BUFFER = 13
 };
+/* hosts/words: end of refusals */
 
 /* ---------------------------------------------------------------- verdicts */
 
+/* A refused file has GINGHAMOWL_NO_VERDICT. */
+/* hosts/words writes: verdicts */
 enum {
-    GINGHAMOWL_NO_VERDICT = 0, /* of a refused file */
+    GINGHAMOWL_NO_VERDICT = 0,
+    /* the assets are below 105 percent of the liabilities */
     GINGHAMOWL_DEKKINGSTEKORT = 1,
+    /* the assets reach 105 percent of the liabilities, but not the liabilities and the buffer S
+     * together */
     GINGHAMOWL_RESERVETEKORT = 2,
+    /* the assets reach 105 percent of the liabilities, and also the liabilities and the buffer S
+     * together */
     GINGHAMOWL_VRIJ_VERMOGEN = 3,
-    GINGHAMOWL_ONBESLIST = 4 /* undecided: a border lies inside a bracket */
+    /* undecided: a border lies inside a bracket, so the rounded figures cannot tell on which
+     * side the fund is */
+    GINGHAMOWL_ONBESLIST = 4
 };
+/* hosts/words: end of verdicts */
 
 /* ---------------------------------------------------------------- kinds of window points */
 

@@ -15,6 +15,15 @@ use std::error::Error;
 use std::fmt;
 
 mod raw;
+mod words;
+
+pub use words::{refusal_sentence, verdict_sentence, verdict_word};
+
+/// The version of this crate, which is that of the repository.
+pub const VERSION: &str = env!("CARGO_PKG_VERSION");
+
+/// The longest accepted file has so many bytes. Of a longer one, the first `FILE_BYTES + 1` decide the refusal.
+pub const FILE_BYTES: usize = 9223;
 
 /// The terms of the curve, in years, are 1 to this.
 pub const TERMS: usize = 120;
@@ -44,13 +53,14 @@ pub struct Figures {
     pub s: Bracket<u64>,
 }
 
-/// The verdict on a fund. `Onbeslist` is undecided: a border lies inside a bracket.
+/// The verdict on a fund, by the engine's numbers. `Onbeslist` is undecided: a border lies inside a bracket.
 #[derive(Clone, Copy, Debug, PartialEq, Eq)]
+#[repr(u8)]
 pub enum Verdict {
-    Dekkingstekort,
-    Reservetekort,
-    VrijVermogen,
-    Onbeslist,
+    Dekkingstekort = 1,
+    Reservetekort = 2,
+    VrijVermogen = 3,
+    Onbeslist = 4,
 }
 
 /// Why a file is refused, by document 01's numbers.
@@ -211,24 +221,19 @@ impl Verdict {
     }
 
     fn number(self) -> u8 {
-        match self {
-            Verdict::Dekkingstekort => 1,
-            Verdict::Reservetekort => 2,
-            Verdict::VrijVermogen => 3,
-            Verdict::Onbeslist => 4,
-        }
+        self as u8
+    }
+
+    /// What the verdict says.
+    pub fn sentence(self) -> &'static str {
+        verdict_sentence(self.number())
     }
 }
 
 /// The verdict as document 01 writes it.
 impl fmt::Display for Verdict {
     fn fmt(&self, f: &mut fmt::Formatter<'_>) -> fmt::Result {
-        f.write_str(match self {
-            Verdict::Dekkingstekort => "DEKKINGSTEKORT",
-            Verdict::Reservetekort => "RESERVETEKORT",
-            Verdict::VrijVermogen => "VRIJ VERMOGEN",
-            Verdict::Onbeslist => "ONBESLIST",
-        })
+        f.write_str(verdict_word(self.number()))
     }
 }
 
@@ -255,34 +260,24 @@ impl Refusal {
         self as u8
     }
 
+    /// What is wrong, and document 01's limit.
+    pub fn sentence(self) -> &'static str {
+        refusal_sentence(self.number())
+    }
+
+    /// The refusal that the engine's answer names; 0 is none. The engine gives no other number, and one from another
+    /// archive must not pass for an acceptance.
     fn numbered(number: u8) -> Option<Refusal> {
-        Refusal::ALL.into_iter().find(|refusal| refusal.number() == number)
+        let named = Refusal::ALL.into_iter().find(|refusal| refusal.number() == number);
+        assert!(named.is_some() || number == 0, "{}: {number}", refusal_sentence(number));
+        named
     }
 }
 
 /// The number, what is wrong, and document 01's limit.
 impl fmt::Display for Refusal {
     fn fmt(&self, f: &mut fmt::Formatter<'_>) -> fmt::Result {
-        let sentence = match self {
-            Refusal::EndsEarly => "the file ends inside the map or inside a field whose bit stands",
-            Refusal::BytesFollow => "bytes follow the last field",
-            Refusal::Map => "bits 1, 2, 5 and 6 of the map must stand, and bits 7 to 15 must not",
-            Refusal::DayCount => "the number of days must be 1 to 70",
-            Refusal::Rate => "a zero rate must be -1,000 to 10,000 steps of 0.00001",
-            Refusal::Growth => {
-                "t × s(t) - (t - 1) × s(t-1) must be -2,000 to 12,000 times the number of days at each term"
-            }
-            Refusal::FlowCount => "there must be 1 to 120 pension flows, and 1 to 60 bond flows where their bit stands",
-            Refusal::Flow => "a flow must be at most 100,000,000 euros",
-            Refusal::Ufr => "the UFR must be at most 5,000 steps of 0.00001",
-            Refusal::Amount => "an amount must be at most 100,000,000,000 euros",
-            Refusal::Shock => {
-                "a shock must be at most 1,000, the credit spread at most 10,000 and the duration at most 500"
-            }
-            Refusal::People => "the head count must be 1 to 1,000,000, and an age at most 1,200 months",
-            Refusal::Buffer => "the buffers for factors and for rates must have at least 240 entries",
-        };
-        write!(f, "refused, {}: {sentence}", self.number())
+        write!(f, "refused, {}: {}", self.number(), self.sentence())
     }
 }
 

@@ -1,0 +1,48 @@
+"""The version, and the refusals and the verdicts in words.
+
+Written by hosts/words from hosts/words.toml and VERSION: change those, and run it.
+"""
+
+VERSION = "0.2.0"
+
+NO_REFUSAL = "no refusal has this number"
+
+#: What is wrong with a file that is refused with a number, and document 01's limit.
+SENTENCES: dict[int, str] = {
+    1: "the file ends inside the map or inside a field whose bit is set; the map and each such field must be "
+        "whole",
+    2: "bytes follow the last field; the file must end there",
+    3: "the map has a wrong bit; bits 1, 2, 5 and 6 must be set, and bits 7 to 15 must not",
+    4: "the number of days is out of limits; it must be 1 to 70",
+    5: "a zero rate is out of limits; each must be -1,000 to 10,000 steps of 0.00001, -1 % to 10 %",
+    6: "a one-year forward rate is out of limits; t x s(t) - (t - 1) x s(t-1), with s(t) the sum of term t's "
+        "rates over the n days, must be -2,000 x n to 12,000 x n steps at each term, -2 % to 12 %",
+    7: "the number of flows is out of limits; there must be 1 to 120 pension flows, and 1 to 60 bond flows "
+        "where their bit is set",
+    8: "a flow is out of limits; each must be at most 100,000,000 euros",
+    9: "the UFR is out of limits; it must be at most 5,000 steps of 0.00001, 5 %",
+    10: "an amount is out of limits; each must be at most 100,000,000,000 euros",
+    11: "a shock is out of limits; shifts must be at most 1,000 steps, falls, spread rise and correlation at "
+        "most 1,000 thousandths, the credit spread at most 10,000 steps and the credit duration at most 500 "
+        "tenths of a year",
+    12: "the head count or an age is out of limits; heads must be 1 to 1,000,000, and ages at most 1,200 "
+        "months",
+    13: "a lent buffer is too short; the buffers for factors and for rates must have at least 240 entries",
+}
+
+#: The verdicts as document 01 writes them.
+VERDICT_WORDS: dict[int, str] = {
+    1: "DEKKINGSTEKORT",
+    2: "RESERVETEKORT",
+    3: "VRIJ VERMOGEN",
+    4: "ONBESLIST",
+}
+
+#: What each verdict says.
+VERDICT_SENTENCES: dict[int, str] = {
+    1: "the assets are below 105 percent of the liabilities",
+    2: "the assets reach 105 percent of the liabilities, but not the liabilities and the buffer S together",
+    3: "the assets reach 105 percent of the liabilities, and also the liabilities and the buffer S together",
+    4: "undecided: a border lies inside a bracket, so the rounded figures cannot tell on which side the fund "
+        "is",
+}

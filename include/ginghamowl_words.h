@@ -1,0 +1,86 @@
+/* The refusals and the verdicts of ginghamowl.h in words.
+ * Written by hosts/words from hosts/words.toml and VERSION: change those, and run it. */
+#ifndef GINGHAMOWL_WORDS_H
+#define GINGHAMOWL_WORDS_H
+
+#include "ginghamowl.h"
+
+static inline const char *ginghamowl_refusal_sentence(unsigned number)
+{
+    switch (number) {
+    case GINGHAMOWL_REFUSED_ENDS_EARLY:
+        return "the file ends inside the map or inside a field whose bit is set; the map and each "
+               "such field must be whole";
+    case GINGHAMOWL_REFUSED_BYTES_FOLLOW:
+        return "bytes follow the last field; the file must end there";
+    case GINGHAMOWL_REFUSED_MAP:
+        return "the map has a wrong bit; bits 1, 2, 5 and 6 must be set, and bits 7 to 15 must not";
+    case GINGHAMOWL_REFUSED_DAY_COUNT:
+        return "the number of days is out of limits; it must be 1 to 70";
+    case GINGHAMOWL_REFUSED_RATE:
+        return "a zero rate is out of limits; each must be -1,000 to 10,000 steps of 0.00001, -1 % "
+               "to 10 %";
+    case GINGHAMOWL_REFUSED_GROWTH:
+        return "a one-year forward rate is out of limits; t x s(t) - (t - 1) x s(t-1), with s(t) "
+               "the sum of term t's rates over the n days, must be -2,000 x n to 12,000 x n steps "
+               "at each term, -2 % to 12 %";
+    case GINGHAMOWL_REFUSED_FLOW_COUNT:
+        return "the number of flows is out of limits; there must be 1 to 120 pension flows, and 1 "
+               "to 60 bond flows where their bit is set";
+    case GINGHAMOWL_REFUSED_FLOW:
+        return "a flow is out of limits; each must be at most 100,000,000 euros";
+    case GINGHAMOWL_REFUSED_UFR:
+        return "the UFR is out of limits; it must be at most 5,000 steps of 0.00001, 5 %";
+    case GINGHAMOWL_REFUSED_AMOUNT:
+        return "an amount is out of limits; each must be at most 100,000,000,000 euros";
+    case GINGHAMOWL_REFUSED_SHOCK:
+        return "a shock is out of limits; shifts must be at most 1,000 steps, falls, spread rise "
+               "and correlation at most 1,000 thousandths, the credit spread at most 10,000 steps "
+               "and the credit duration at most 500 tenths of a year";
+    case GINGHAMOWL_REFUSED_PEOPLE:
+        return "the head count or an age is out of limits; heads must be 1 to 1,000,000, and ages "
+               "at most 1,200 months";
+    case GINGHAMOWL_REFUSED_BUFFER:
+        return "a lent buffer is too short; the buffers for factors and for rates must have at "
+               "least 240 entries";
+    default:
+        return "no refusal has this number";
+    }
+}
+
+static inline const char *ginghamowl_verdict_word(unsigned number)
+{
+    switch (number) {
+    case GINGHAMOWL_DEKKINGSTEKORT:
+        return "DEKKINGSTEKORT";
+    case GINGHAMOWL_RESERVETEKORT:
+        return "RESERVETEKORT";
+    case GINGHAMOWL_VRIJ_VERMOGEN:
+        return "VRIJ VERMOGEN";
+    case GINGHAMOWL_ONBESLIST:
+        return "ONBESLIST";
+    default:
+        return "no verdict has this number";
+    }
+}
+
+static inline const char *ginghamowl_verdict_sentence(unsigned number)
+{
+    switch (number) {
+    case GINGHAMOWL_DEKKINGSTEKORT:
+        return "the assets are below 105 percent of the liabilities";
+    case GINGHAMOWL_RESERVETEKORT:
+        return "the assets reach 105 percent of the liabilities, but not the liabilities and the "
+               "buffer S together";
+    case GINGHAMOWL_VRIJ_VERMOGEN:
+        return "the assets reach 105 percent of the liabilities, and also the liabilities and the "
+               "buffer S together";
+    case GINGHAMOWL_ONBESLIST:
+        return "undecided: a border lies inside a bracket, so the rounded figures cannot tell on "
+               "which side the fund is";
+    default:
+        return "no verdict has this number";
+    }
+}
+
+#endif

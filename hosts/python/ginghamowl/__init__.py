@@ -8,49 +8,36 @@
 
 "Document 01" is "The UFR curve and the solvency verdict of one fund": it says what a case file is and
 what each figure means. The numbers come from the proved engine, through the shared library
-libginghamowl.so, which `hosts/build` puts beside this file; the environment variable
-GINGHAMOWL_LIBRARY may name another place. Nothing but the standard library is needed.
+libginghamowl.so, which `hosts/build` puts beside this file and a wheel contains; the environment variable
+GINGHAMOWL_LIBRARY may name another place. The first call loads it, and raises LibraryError where that fails.
+Nothing but the standard library is needed.
 """
 
-from collections.abc import Sequence
-from dataclasses import dataclass
+from collections.abc import Iterator, Sequence
+from dataclasses import dataclass, fields
 from enum import Enum
+from typing import Any
 
 from . import _library as _c
+from ._library import LibraryError
+from ._words import NO_REFUSAL, SENTENCES, VERDICT_SENTENCES, VERDICT_WORDS
+from ._words import VERSION as __version__
 
-__all__ = ["SENTENCES", "TERMS", "Bracket", "Figures", "Kind", "Point", "Refused", "Valuation", "Verdict",
-           "rates_part", "refusal", "value"]
+__all__ = ["FILE_BYTES", "SENTENCES", "TERMS", "Bracket", "Figures", "Kind", "LibraryError", "Point", "Refused",
+           "Valuation", "Verdict", "__version__", "rates_part", "refusal", "value"]
 
 #: The terms of the curve are 1 to this, in years.
 TERMS = 120
 
-#: What is wrong with a file that is refused with a number, and document 01's limit.
-SENTENCES = {
-    1: "the file ends inside the map or inside a field whose bit stands; each standing field must be whole",
-    2: "bytes follow the last field; the file must end there",
-    3: "a required bit of the map is missing or a forbidden one stands; "
-       "bits 1, 2, 5 and 6 must stand, and bits 7 to 15 must not",
-    4: "the number of days is out of limits; it must be 1 to 70",
-    5: "a zero rate is out of limits; each must be -1,000 to 10,000 steps of 0.00001",
-    6: "the rates of two neighbouring terms are too far apart; with s(t) the sum of term t's rates over the n "
-       "days, t x s(t) - (t - 1) x s(t-1) must be -2,000 x n to 12,000 x n at each term from 1 to 60",
-    7: "the number of flows is out of limits; there must be 1 to 120 pension flows, "
-       "and 1 to 60 bond flows where their bit stands",
-    8: "a flow is above its limit; each must be at most 100,000,000 euros",
-    9: "the UFR is out of limits; it must be at most 5,000 steps of 0.00001",
-    10: "an amount is out of limits; each must be at most 100,000,000,000 euros",
-    11: "a shock is out of limits; shifts must be at most 1,000 steps, falls, spread rise and correlation at most "
-        "1,000 thousandths, the credit spread at most 10,000 steps and the credit duration at most 500 tenths of a year",
-    12: "the head count or an age is out of limits; heads must be 1 to 1,000,000, and ages at most 1,200 months",
-    13: "a lent buffer is too short; the buffers for factors and for rates must have at least 240 entries",
-}
+#: The longest accepted file has so many bytes. Of a longer one, the first FILE_BYTES + 1 decide the refusal.
+FILE_BYTES = 9223
 
 
 class Refused(Exception):
     """A case file that document 01 refuses; `number` is its refusal, and the text says what is wrong."""
 
     def __init__(self, number: int) -> None:
-        super().__init__(f"refused, {number}: {SENTENCES[number]}")
+        super().__init__(f"refused, {number}: {SENTENCES.get(number, NO_REFUSAL)}")
         self.number = number
 
     def __reduce__(self) -> tuple[type, tuple[int]]:
@@ -68,7 +55,12 @@ class Verdict(Enum):
     @property
     def word(self) -> str:
         """The verdict as document 01 writes it."""
-        return self.name.replace("_", " ")
+        return VERDICT_WORDS[self.value]
+
+    @property
+    def sentence(self) -> str:
+        """What the verdict says."""
+        return VERDICT_SENTENCES[self.value]
 
 
 @dataclass(frozen=True)
@@ -85,7 +77,10 @@ class Bracket:
 
 @dataclass(frozen=True)
 class Figures:
-    """The money figures in cents: liabilities L, bonds B, assets A, the losses S1 to S6, the root buffer S."""
+    """The money figures in cents: liabilities L, bonds B, assets A, the losses S1 to S6, the root buffer S.
+
+    Iterating gives pairs of a name, as document 01 writes it (L B A S1 S2 S3 S4 S5 S6 S, in this order), and a bracket.
+    """
 
     l: Bracket
     b: Bracket
@@ -97,6 +92,13 @@ class Figures:
     s5: Bracket
     s6: Bracket
     s: Bracket
+
+    def __iter__(self) -> Iterator[tuple[str, Bracket]]:
+        return ((field.name.upper(), getattr(self, field.name)) for field in fields(self))
+
+    def as_dict(self) -> dict[str, list[int]]:
+        """For JSON: document 01's names, each with its lower and upper end."""
+        return {name: _ends(figure) for name, figure in self}
 
 
 class Kind(Enum):
@@ -136,18 +138,29 @@ class Valuation:
         """The zero rate of a term from 1 to 120, in steps of 0.00001."""
         return self.zero_rates[_place(term)]
 
+    def as_dict(self) -> dict[str, Any]:
+        """For JSON: the verdict's word, the figures by name, and the curve, term t at t - 1; ends as [lower, upper]."""
+        return {"verdict": self.verdict.word,
+                "figures": self.figures.as_dict(),
+                "factors": [_ends(factor) for factor in self.factors],
+                "zero_rates": [_ends(rate) for rate in self.zero_rates]}
+
     def listing(self) -> str:
         """Document 01's listing: a line for each figure, in cents, and one for the verdict."""
         out = (_c.c_uint8 * _c.LISTING_BYTES)()
-        length = _c.listing(_c.HostValuation(0, self.verdict.value, _flat(self.figures)), out, len(out))
+        length = _c.engine().listing(_c.HostValuation(0, self.verdict.value, _flat(self.figures)), out, len(out))
         return bytes(out[:length]).decode("ascii")
 
     def window_point(self, number: int) -> Point:
         """Point 1 to 120 is a factor, 121 to 130 a money figure (L B A S1 S2 S3 S4 S5 S6 S); any other is blank."""
+        _require_int(number, "a point's number")
+        if len(self.factors) != TERMS:
+            raise ValueError(f"a valuation has {TERMS} factors, not {len(self.factors)}")
+        ends = [end for factor in self.factors for end in _unsigned_ends(factor)]
+        figures = _flat(self.figures)
         if not 0 <= number < 2 ** 64:
             return Point(Kind.BLANK, 0.0, 0.0)
-        ends = [end for factor in self.factors for end in (factor.lower, factor.upper)]
-        point = _c.window_point(number, (_c.c_uint64 * _c.ENTRIES)(*ends), _c.ENTRIES, _flat(self.figures))
+        point = _c.engine().window_point(number, (_c.c_uint64 * _c.ENTRIES)(*ends), _c.ENTRIES, figures)
         return Point(Kind(point.kind), point.lower, point.upper)
 
 
@@ -155,28 +168,28 @@ def value(data: bytes) -> Valuation:
     """The valuation of a case file; raises Refused with document 01's number where it has one."""
     file = _bytes(data)
     factors, rates = (_c.c_uint64 * _c.ENTRIES)(), (_c.c_int64 * _c.ENTRIES)()
-    answer = _c.value(file, len(file), factors, len(factors), rates, len(rates))
+    answer = _c.engine().value(file, len(file), factors, len(factors), rates, len(rates))
     if answer.refusal:
         raise Refused(answer.refusal)
-    figures = Figures(**{name: Bracket(figure.lower, figure.upper)
-                         for name in Figures.__dataclass_fields__
-                         for figure in [getattr(answer.figures, name)]})
+    figures = Figures(**{field.name: Bracket(figure.lower, figure.upper)
+                         for field in fields(Figures)
+                         for figure in [getattr(answer.figures, field.name)]})
     return Valuation(_brackets(factors), _brackets(rates), figures, Verdict(answer.verdict))
 
 
 def refusal(data: bytes) -> int:
     """The number that a case file is refused with, 1 to 12; 0 where it is accepted."""
     file = _bytes(data)
-    return _c.refusal(file, len(file))
+    return int(_c.engine().refusal(file, len(file)))
 
 
 def rates_part(data: bytes) -> bytes:
     """The part of an accepted case file that holds the zero rates, 120 bytes for each day; raises Refused."""
     file = _bytes(data)
-    number = _c.refusal(file, len(file))
+    number = refusal(file)
     if number:
         raise Refused(number)
-    part = _c.rates_part(file, len(file))
+    part = _c.engine().rates_part(file, len(file))
     return file[part.offset:part.offset + part.length]
 
 
@@ -188,9 +201,15 @@ def _bytes(data: bytes) -> bytes:
 
 
 def _place(term: int) -> int:
+    _require_int(term, "a term")
     if not 1 <= term <= TERMS:
         raise ValueError(f"a term is 1 to {TERMS}, not {term}")
     return term - 1
+
+
+def _require_int(number: int, what: str) -> None:
+    if isinstance(number, bool) or not isinstance(number, int):
+        raise TypeError(f"{what} is an int, not {type(number).__name__}")
 
 
 def _brackets(entries: Sequence[int]) -> tuple[Bracket, ...]:
@@ -198,6 +217,18 @@ def _brackets(entries: Sequence[int]) -> tuple[Bracket, ...]:
     return tuple(map(Bracket, entries[0::2], entries[1::2]))
 
 
+def _ends(bracket: Bracket) -> list[int]:
+    return [bracket.lower, bracket.upper]
+
+
+def _unsigned_ends(bracket: Bracket) -> list[int]:
+    """The ends as the engine takes them. A caller may have made the bracket, and ctypes cuts numbers without a word."""
+    for end in _ends(bracket):
+        _require_int(end, "an end of a bracket")
+        if not 0 <= end < 2 ** 64:
+            raise ValueError(f"an end of a bracket is 0 to 2^64 - 1, not {end}")
+    return _ends(bracket)
+
+
 def _flat(figures: Figures) -> _c.HostFigures:
-    return _c.HostFigures(*(_c.HostBracket(figure.lower, figure.upper)
-                            for figure in (getattr(figures, name) for name in Figures.__dataclass_fields__)))
+    return _c.HostFigures(*(_c.HostBracket(*_unsigned_ends(figure)) for _, figure in figures))

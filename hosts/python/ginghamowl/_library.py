@@ -1,11 +1,20 @@
-"""include/ginghamowl.h for ctypes: the structs, the functions, and where the shared library is."""
+"""include/ginghamowl.h for ctypes: the structs, the functions, and where the shared library is.
+
+The library is loaded at the first call and not at the import, so that a program can say in its own words that it is missing.
+"""
 
 import os
 from ctypes import CDLL, POINTER, Structure, c_char_p, c_double, c_int64, c_size_t, c_uint8, c_uint64
+from functools import cache
 from pathlib import Path
+from typing import Any, NamedTuple
 
 ENTRIES = 240
 LISTING_BYTES = 512
+
+
+class LibraryError(ImportError):
+    """The engine's shared library can't be loaded; the text says why."""
 
 
 class HostBracket(Structure):
@@ -28,27 +37,41 @@ class HostPoint(Structure):
     _fields_ = [("kind", c_uint8), ("lower", c_double), ("upper", c_double)]
 
 
-def _open() -> CDLL:
-    path = os.environ.get("GINGHAMOWL_LIBRARY") or Path(__file__).with_name("libginghamowl.so")
-    try:
-        return CDLL(str(path))
-    except OSError as error:
-        raise ImportError(f"the engine's shared library can't be loaded ({error}); "
-                          "hosts/build makes it, and GINGHAMOWL_LIBRARY may name another place") from error
+class Engine(NamedTuple):
+    """The functions of ginghamowl.h, without the name's beginning."""
+
+    value: Any
+    refusal: Any
+    rates_part: Any
+    window_point: Any
+    listing: Any
 
 
-def _function(name: str, result: type, *arguments: type):
-    function = getattr(_library, name)
-    function.restype, function.argtypes = result, arguments
-    return function
-
-
-_library = _open()
 _FILE = c_char_p, c_size_t  # a pointer to the bytes themselves: zeros in them are as good as any other byte
 _FACTORS = POINTER(c_uint64), c_size_t
 
-value = _function("ginghamowl_value", HostValuation, *_FILE, *_FACTORS, POINTER(c_int64), c_size_t)
-refusal = _function("ginghamowl_refusal", c_uint8, *_FILE)
-rates_part = _function("ginghamowl_rates_part", HostPart, *_FILE)
-window_point = _function("ginghamowl_window_point", HostPoint, c_uint64, *_FACTORS, HostFigures)
-listing = _function("ginghamowl_listing", c_size_t, HostValuation, POINTER(c_uint8), c_size_t)
+_RESULT_AND_ARGUMENTS: dict[str, tuple[Any, ...]] = {
+    "value": (HostValuation, *_FILE, *_FACTORS, POINTER(c_int64), c_size_t),
+    "refusal": (c_uint8, *_FILE),
+    "rates_part": (HostPart, *_FILE),
+    "window_point": (HostPoint, c_uint64, *_FACTORS, HostFigures),
+    "listing": (c_size_t, HostValuation, POINTER(c_uint8), c_size_t),
+}
+
+
+@cache
+def engine() -> Engine:
+    """The engine, loaded once; raises LibraryError."""
+    path = os.environ.get("GINGHAMOWL_LIBRARY") or Path(__file__).with_name("libginghamowl.so")
+    try:
+        library = CDLL(str(path))
+        return Engine(**{name: _function(library, name) for name in Engine._fields})
+    except (OSError, AttributeError) as error:  # no library, or one without these functions
+        raise LibraryError(f"the engine's shared library can't be loaded ({error}); "
+                           "hosts/build makes it, and GINGHAMOWL_LIBRARY may name another place") from error
+
+
+def _function(library: CDLL, name: str) -> Any:
+    function = getattr(library, f"ginghamowl_{name}")
+    function.restype, *function.argtypes = _RESULT_AND_ARGUMENTS[name]
+    return function

@@ -1,5 +1,6 @@
 """The Python package beside the reference in tests/: python3 -m unittest discover -s hosts/python/tests."""
 
+import json
 import pickle
 import random
 import subprocess
@@ -7,6 +8,7 @@ import sys
 import tempfile
 import unittest
 from concurrent.futures import ThreadPoolExecutor
+from dataclasses import replace
 from pathlib import Path
 
 HERE = Path(__file__).resolve()
@@ -84,8 +86,8 @@ class Package(unittest.TestCase):
         self.assertIs(valuation.verdict, Verdict.VRIJ_VERMOGEN)
         self.assertEqual(valuation.factor(1), Bracket(10 ** 12, 10 ** 12))
         self.assertEqual(valuation.zero_rate(20), Bracket(0, 0))
-        for term in (0, 121, -1):
-            with self.assertRaises(ValueError):
+        for term, error in ((0, ValueError), (121, ValueError), (-1, ValueError), (1.0, TypeError), (True, TypeError)):
+            with self.assertRaises(error):
                 valuation.factor(term)
 
     def test_window(self):
@@ -93,17 +95,49 @@ class Package(unittest.TestCase):
         for term in range(1, 121):
             factor = valuation.factor(term)
             self.assertEqual(valuation.window_point(term), Point(Kind.FACTOR, factor.lower, factor.upper))
-        for number, name in enumerate(Figures.__dataclass_fields__, 121):
-            figure = getattr(valuation.figures, name)
+        for number, (_, figure) in enumerate(valuation.figures, 121):
             self.assertEqual(valuation.window_point(number), Point(Kind.MONEY, figure.lower, figure.upper))
-        for number in (0, 131, 2 ** 64 - 1, 2 ** 64, -1):
+        for number in (0, 131, 2 ** 64 - 1, 2 ** 64, 2 ** 64 + 1, -1, -2 ** 64 + 1):
             self.assertEqual(valuation.window_point(number), Point(Kind.BLANK, 0.0, 0.0))
+        for number in (1.0, True, "1", None):
+            with self.assertRaisesRegex(TypeError, "^a point's number is an int, not "):
+                valuation.window_point(number)
+
+    def test_names_and_json(self):
+        valuation = ginghamowl.value(reference.encode(examples.up(), True, True, True))
+        names = [line.split()[0] for line in valuation.listing().splitlines()[:-1]]
+        self.assertEqual([name for name, _ in valuation.figures], names)
+        self.assertEqual(dict(valuation.figures)["S3"], valuation.figures.s3)
+        for told in (valuation.figures.as_dict(), valuation.as_dict()):
+            self.assertEqual(json.loads(json.dumps(told)), told)
+        told = json.loads(json.dumps(valuation.as_dict()))
+        again = ginghamowl.Valuation(brackets(told["factors"]), brackets(told["zero_rates"]),
+                                     Figures(*brackets(told["figures"][name] for name in names)),
+                                     {verdict.word: verdict for verdict in Verdict}[told["verdict"]])
+        self.assertEqual(again, valuation)
+
+    def test_numbers_that_would_be_cut(self):
+        valuation = ginghamowl.value(C1)
+        with_figure = lambda end: replace(valuation, figures=replace(valuation.figures, s4=Bracket(0, end)))
+        with_factor = lambda end: replace(valuation, factors=(*valuation.factors[:-1], Bracket(end, 0)))
+        for end, error in ((-1, ValueError), (2 ** 64, ValueError), (2 ** 64 + 7, ValueError), (7.0, TypeError),
+                           (True, TypeError), ("7", TypeError), (None, TypeError)):
+            calls = [with_figure(end).listing, lambda: with_figure(end).window_point(1), lambda: with_figure(end).window_point(0),
+                     lambda: with_factor(end).window_point(1), lambda: with_factor(end).window_point(121)]
+            for call in calls:
+                with self.assertRaisesRegex(error, "^an end of a bracket is "):
+                    call()
+        self.assertIn("\nS4 0 18446744073709551615\n", with_figure(2 ** 64 - 1).listing())
+        self.assertEqual(with_figure(2 ** 53).window_point(127), Point(Kind.MONEY, 0.0, 2.0 ** 53))
+        for count in (0, 119, 121):
+            with self.assertRaisesRegex(ValueError, "^a valuation has 120 factors"):
+                replace(valuation, factors=(Bracket(1, 1),) * count).window_point(1)
 
     def test_refused(self):
         with self.assertRaisesRegex(Refused, "^refused, 1: the file ends inside the map") as caught:
             ginghamowl.value(b"")
         self.assertEqual(pickle.loads(pickle.dumps(caught.exception)).number, 1)
-        self.assertEqual(list(ginghamowl.SENTENCES), list(range(1, 14)))
+        self.assertEqual(ginghamowl.refusal(bytes(ginghamowl.FILE_BYTES + 1)), 3)
 
     def test_what_a_file_may_be(self):
         for data in (C1, bytearray(C1), memoryview(C1)):
@@ -139,10 +173,6 @@ class CommandLine(unittest.TestCase):
         self.assertEqual(self.run_on(b"", "--listing"), (1, "R 1\n"))
         status, out = self.run_on(C1 + b"\0")
         self.assertEqual((status, out), (1, f"refused, 2: {ginghamowl.SENTENCES[2]}\n"))
-
-    def test_no_file(self):
-        run = subprocess.run([sys.executable, "-m", "ginghamowl", "no such file"], cwd=HERE.parents[1], capture_output=True)
-        self.assertEqual((run.returncode, run.stdout), (2, b""))
 
 
 if __name__ == "__main__":

@@ -1,7 +1,8 @@
 //! Calls with buffers and files of every kind, and the stored vectors of hosts/vectors, whose numbers are those of
 //! tests/reference.py.
 use ginghamowl::{
-    listing, rates_part, refusal, value, value_into, window_point, Bracket, Judged, Point, Refusal, Verdict, ENTRIES,
+    listing, rates_part, refusal, refusal_sentence, value, value_into, verdict_word, window_point, Bracket, Judged,
+    Point, Refusal, Verdict, ENTRIES, FILE_BYTES, VERSION,
 };
 use std::fs;
 use std::path::PathBuf;
@@ -61,7 +62,7 @@ fn refusals_by_number() {
     for number in 1..=12u8 {
         let found = refusal(&file(&format!("refused_{number:02}"))).unwrap();
         assert_eq!((found.number(), found), (number, Refusal::ALL[number as usize - 1]));
-        assert!(found.to_string().starts_with(&format!("refused, {number}: ")));
+        assert_eq!(found.to_string(), format!("refused, {number}: {}", refusal_sentence(number)));
     }
     assert_eq!(refusal(&file("c1")), None);
 }
@@ -122,6 +123,19 @@ fn listings() {
         assert!(text.contains("\nS5 18446744073709551615 18446744073709551615\n"));
     }
     assert_eq!(listing(Err(Refusal::Buffer)), "R 13\n");
+}
+
+#[test]
+fn words_and_version() {
+    let repository = PathBuf::from(env!("CARGO_MANIFEST_DIR")).join("../..");
+    assert_eq!(VERSION, fs::read_to_string(repository.join("VERSION")).unwrap().trim());
+    assert_eq!(
+        (refusal_sentence(0), refusal_sentence(14)),
+        ("no refusal has this number", "no refusal has this number")
+    );
+    assert_eq!((verdict_word(3), verdict_word(5)), ("VRIJ VERMOGEN", "no verdict has this number"));
+    assert!(Verdict::Onbeslist.sentence().starts_with("undecided: "));
+    assert_eq!(vectors().iter().map(|vector| vector.1.len()).max(), Some(FILE_BYTES));
 }
 
 #[test]

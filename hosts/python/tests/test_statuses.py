@@ -11,8 +11,9 @@ from pathlib import Path
 ROOT = Path(__file__).resolve().parents[3]
 ACCEPTED, REFUSED = ROOT / "hosts/vectors/c2.case", ROOT / "hosts/vectors/refused_09.case"
 VERSION = (ROOT / "VERSION").read_text().strip()
-ENVIRONMENT = os.environ | {"PYTHONPATH": str(ROOT / "hosts/python")}
-PYTHON = [sys.executable, "-m", "ginghamowl"]
+# Without PYTHONUNBUFFERED and the like: a buffer that can't be written is the harder case.
+ENVIRONMENT = {name: value for name, value in os.environ.items() if not name.startswith(("PYTHON", "GINGHAMOWL"))}
+ENVIRONMENT["PYTHONPATH"] = str(ROOT / "hosts/python")
 
 
 class Statuses:
@@ -102,7 +103,7 @@ class RustExample(Statuses, unittest.TestCase):
 
 
 class PythonProgram(Statuses, unittest.TestCase):
-    program = PYTHON
+    program = [sys.executable, "-m", "ginghamowl"]
 
     def test_help(self):
         self.assertEqual(self.run_program("--help").returncode, 0)
@@ -111,10 +112,14 @@ class PythonProgram(Statuses, unittest.TestCase):
     def test_no_library(self):
         with tempfile.NamedTemporaryFile() as empty:
             for library in ("/no/such/library.so", empty.name, "libc.so.6"):
-                run = subprocess.run([*PYTHON, ACCEPTED], env=ENVIRONMENT | {"GINGHAMOWL_LIBRARY": library}, capture_output=True)
+                run = subprocess.run([*self.program, ACCEPTED], env=ENVIRONMENT | {"GINGHAMOWL_LIBRARY": library}, capture_output=True)
                 self.assertEqual((run.returncode, run.stdout), (2, b""))
                 self.assertIn(b"the engine's shared library can't be loaded", run.stderr)
                 self.assertNotIn(b"Traceback", run.stderr)
+
+
+class PythonUnbuffered(PythonProgram):
+    program = [sys.executable, "-u", "-m", "ginghamowl"]
 
 
 if __name__ == "__main__":

@@ -11,6 +11,7 @@ import sys
 import tomllib
 import zipfile
 from pathlib import Path
+from typing import Any
 
 PROJECT = Path(__file__).resolve().parents[1]
 PACKAGE = PROJECT / "ginghamowl"
@@ -22,7 +23,7 @@ class UnsupportedOperation(Exception):
     """What PEP 517 calls a hook that a backend doesn't offer."""
 
 
-def build_wheel(wheel_directory, config_settings=None, metadata_directory=None):
+def build_wheel(wheel_directory: str, config_settings: Any = None, metadata_directory: str | None = None) -> str:
     if not LIBRARY.is_file():
         sys.exit(f"ginghamowl: {LIBRARY} is missing: run hosts/build first, which proves the engine and builds it")
     stem = f"ginghamowl-{version()}"
@@ -39,34 +40,34 @@ def build_wheel(wheel_directory, config_settings=None, metadata_directory=None):
     return name
 
 
-def build_sdist(sdist_directory, config_settings=None):
+def build_sdist(sdist_directory: str, config_settings: Any = None) -> str:
     raise UnsupportedOperation("the package's source is the repository; pip wheel builds what can be handed on")
 
 
-def package_files():
+def package_files() -> list[Path]:
     return sorted([*PACKAGE.glob("*.py"), PACKAGE / "py.typed", LIBRARY])
 
 
-def version():
+def version() -> str:
     """The package's own, which tests hold to VERSION."""
-    return re.search(r'^VERSION = "(.*)"$', (PACKAGE / "_words.py").read_text(), re.MULTILINE)[1]
+    return re.findall(r'^VERSION = "(.*)"$', (PACKAGE / "_words.py").read_text(), re.MULTILINE)[0]
 
 
-def metadata():
+def metadata() -> bytes:
     project = tomllib.loads((PROJECT / "pyproject.toml").read_text())["project"]
     return (f"Metadata-Version: 2.1\nName: {project['name']}\nVersion: {version()}\n"
             f"Summary: {project['description']}\nRequires-Python: {project['requires-python']}\n").encode()
 
 
-def wheel_file():
+def wheel_file() -> bytes:
     return f"Wheel-Version: 1.0\nGenerator: ginghamowl_wheel\nRoot-Is-Purelib: false\nTag: {TAG}\n".encode()
 
 
-def record(files, own_path):
+def record(files: dict[str, bytes], own_path: str) -> bytes:
     """Each file with its checksum and size, and the record itself with neither."""
     lines = [f"{path},sha256={checksum(content)},{len(content)}\n" for path, content in files.items()]
     return "".join([*lines, f"{own_path},,\n"]).encode()
 
 
-def checksum(content):
+def checksum(content: bytes) -> str:
     return base64.urlsafe_b64encode(hashlib.sha256(content).digest()).rstrip(b"=").decode()

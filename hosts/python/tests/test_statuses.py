@@ -112,7 +112,8 @@ class PythonProgram(Statuses, unittest.TestCase):
     def test_no_library(self):
         with tempfile.NamedTemporaryFile() as empty:
             for library in ("/no/such/library.so", empty.name, "libc.so.6"):
-                run = subprocess.run([*self.program, ACCEPTED], env=ENVIRONMENT | {"GINGHAMOWL_LIBRARY": library}, capture_output=True)
+                run = subprocess.run([*self.program, ACCEPTED], env=ENVIRONMENT | {"GINGHAMOWL_LIBRARY": library},
+                                     capture_output=True)
                 self.assertEqual((run.returncode, run.stdout), (2, b""))
                 self.assertIn(b"the engine's shared library can't be loaded", run.stderr)
                 self.assertNotIn(b"Traceback", run.stderr)

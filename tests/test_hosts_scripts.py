@@ -15,7 +15,7 @@ ROOT = Path(__file__).resolve().parents[1]
 RT = """#!/usr/bin/env bash
 set -eu
 case "$*" in
-  version) cat "$STAND_IN/kit" ;;
+  version) cat "$STAND_IN/kit" ;; # fails where the file is gone
   'staticlib host')
     echo call >>"$STAND_IN/calls"
     [ ! -e "$STAND_IN/slow" ] || sleep 1
@@ -142,6 +142,11 @@ class Build(InACopy):
         self.assert_nothing_left(self.build())
         example.write_text(good)
         self.builds(4)
+
+    def test_kit_that_does_not_tell_its_version(self):
+        self.builds(1)
+        (self.stand_in / "kit").unlink()
+        self.assertNotEqual(self.build().returncode, 0)
 
     def test_words_that_differ(self):
         (self.root / "VERSION").write_text("9.9.9\n")

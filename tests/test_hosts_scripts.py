@@ -19,6 +19,7 @@ case "$*" in
   'staticlib host')
     echo call >>"$STAND_IN/calls"
     [ ! -e "$STAND_IN/slow" ] || sleep 1
+    [ ! -e "$STAND_IN/edit" ] || { rm "$STAND_IN/edit"; echo '/* edited */' >>crates/host/engine.c; }
     [ ! -e "$STAND_IN/broken" ] || { echo 'rt: host NOT PROVED'; exit 1; }
     mkdir -p target/staticlib
     gcc -Iinclude -fPIC -c -o target/host.o crates/host/engine.c
@@ -61,7 +62,7 @@ class InACopy(unittest.TestCase):
 class Build(InACopy):
     def setUp(self):
         super().setUp()
-        generated = shutil.ignore_patterns("target", "__pycache__", "*.so", "vectors")
+        generated = shutil.ignore_patterns("target", "__pycache__", "*.so")
         for name in ("hosts", "include"):
             shutil.copytree(ROOT / name, self.root / name, ignore=generated)
         for name in ("VERSION", "crates.txt"):
@@ -126,7 +127,7 @@ class Build(InACopy):
     def assert_nothing_left(self, run):
         self.assertNotEqual(run.returncode, 0)
         self.assertEqual([path for path in self.outputs if os.path.lexists(path)], [])
-        self.assertEqual(sorted(path.name for path in self.target.iterdir()), ["lock"])
+        self.assertEqual(list(self.target.iterdir()), [])
 
     def test_failed_builds(self):
         self.builds(1)
@@ -142,6 +143,13 @@ class Build(InACopy):
         self.assert_nothing_left(self.build())
         example.write_text(good)
         self.builds(4)
+
+    def test_an_edit_during_the_build(self):
+        (self.stand_in / "edit").write_text("")
+        run = self.build()
+        self.assert_nothing_left(run)
+        self.assertIn("the sources changed", run.stderr)
+        self.builds(2)
 
     def test_kit_that_does_not_tell_its_version(self):
         self.builds(1)

@@ -66,10 +66,10 @@ keep_checksums() {
   printf '%s\n' "$after" > "$root/target/value/proved.new" && mv "$root/target/value/proved.new" "$root/target/value/proved"
 }
 
-# Proves and builds the program, unless another call did so while this one waited for the lock.
+# Proves and builds the program, unless another call did so while this one waited for the lock, which hosts/build takes too.
 prove() {
   command -v rt > /dev/null || { echo 'value: the program is not proved yet, and rt, which proves it, is not installed' >&2; return 2; }
-  if ! { mkdir -p "$root/target/value" && : >> "$root/target/value/lock"; } 2> /dev/null; then
+  if ! { mkdir -p "$root/target/value" && [ -w "$root/target/value" ]; } 2> /dev/null; then
     echo "value: the program is not proved yet, and $root cannot be written: call ./value once where it can" >&2
     return 2
   fi
@@ -86,5 +86,5 @@ prove() {
       echo 'value: the sources changed while they were proved' >&2
     done
     exit 2
-  ) 9>> "$root/target/value/lock"
+  ) 9< "$root/crates.txt"
 }

@@ -1,20 +1,24 @@
 # The program that values case files, and whether it is proved. Sourced, with $root the folder of the repository.
 #
-# target/value/valuation is a copy of a program that passed `rt check`, and target/value/proved has the checksums of that copy
-# and of all that the check read. Dates play no part: what has other contents is not proved. Any call may read the two files;
-# only one that holds the lock writes them, the checksums last, so a failed or broken-off check leaves none.
-program=$root/target/value/valuation
+# target/value has a copy of a program that passed `rt check`, the names of that copy and of all that the check read (files), and
+# their checksums (proved). Dates play no part: where a file has other contents, the program is not proved. Any call may read
+# these; only one that holds the lock writes them, the checksums last, so that a check that fails or breaks off leaves none.
+kept=$root/target/value
+program=$kept/valuation
 
-# A checksum and the length of FILE.. and of everything that the check of the program reads, by names relative to the root.
-checksums() { # FILE..
-  (
-    cd "$root" && cksum "$@" crates.txt crates/*/src/*.rt crates/*/specs/*.antt crates/*/proofs/*.antt crates/*/proofs/*/*.antt \
-      crates/*/proofs/*/*/*.antt crates/*/proofs/*/*/*/*.antt crates/valuation/stdin crates/valuation/stdout
-  ) 2> /dev/null
+# The names of all that the check may read, from the root on. A name in a crate has no blank in it.
+sources() {
+  (cd "$root" && find crates.txt crates -type f ! -path '*/must-fail/*' | LC_ALL=C sort)
 }
 
+# Checksum, length and name of each file that standard input names.
+checksums() {
+  (cd "$root" && xargs cksum) 2> /dev/null
+}
+
+# A file that is new is not looked for: it alone, with no other file changed, changes no program.
 is_proved() {
-  checksums target/value/valuation | cmp -s - "$root/target/value/proved"
+  [ -r "$kept/files" ] && checksums < "$kept/files" | cmp -s - "$kept/proved" 2> /dev/null
 }
 
 # Says which crate is being proved, as long as the process runs. rt has the word 'failed' in a crate's .res from the start of
@@ -41,35 +45,25 @@ show_progress() { # PID
 
 # Proves and builds the program. Status 0: the copy is proved of the present contents; 1: these changed meanwhile; 2: it is not.
 check_once() {
-  rm -f "$root/target/value/proved" "$root"/target/log/*.res
-  before=$(checksums)
-  (cd "$root" && exec rt check valuation) > "$root/target/value/log" 2>&1 < /dev/null 9>&- &
+  rm -f "$kept/proved" "$root"/target/log/*.res
+  before=$(sources | checksums)
+  (cd "$root" && exec rt check valuation) > "$kept/log" 2>&1 < /dev/null 9<&- &
   show_progress $!
   if ! wait $!; then
-    tail -n 20 "$root/target/value/log" >&2
-    echo "value: the program is not proved, so there is no answer (target/value/log has all that rt said)" >&2
+    tail -n 20 "$kept/log" >&2
+    echo 'value: the program is not proved, so there is no answer (target/value/log has all that rt said)' >&2
     return 2
   fi
-  keep_program || { echo "value: $root/target/value cannot be written" >&2; return 2; }
-  after=$(checksums target/value/valuation)
-  [ "${after#*
-}" = "$before" ] || return 1
-  keep_checksums || { echo "value: $root/target/value cannot be written" >&2; return 2; }
-}
-
-# Each takes the place of an older one only when it is whole.
-keep_program() {
-  cp "$root/target/bin/valuation" "$program.new" && mv "$program.new" "$program"
-}
-
-keep_checksums() {
-  printf '%s\n' "$after" > "$root/target/value/proved.new" && mv "$root/target/value/proved.new" "$root/target/value/proved"
+  cp "$root/target/bin/valuation" "$program.new" && mv "$program.new" "$program" || return 2
+  [ "$(sources | checksums)" = "$before" ] || return 1
+  printf '%s\n' "$(echo target/value/valuation | checksums)" "$before" > "$kept/new" || return 2
+  cut -d ' ' -f 3 "$kept/new" > "$kept/files" && mv "$kept/new" "$kept/proved" || return 2
 }
 
 # Proves and builds the program, unless another call did so while this one waited for the lock, which hosts/build takes too.
 prove() {
   command -v rt > /dev/null || { echo 'value: the program is not proved yet, and rt, which proves it, is not installed' >&2; return 2; }
-  if ! { mkdir -p "$root/target/value" && [ -w "$root/target/value" ]; } 2> /dev/null; then
+  if ! { mkdir -p "$kept" && [ -w "$kept" ]; } 2> /dev/null; then
     echo "value: the program is not proved yet, and $root cannot be written: call ./value once where it can" >&2
     return 2
   fi

@@ -1,0 +1,283 @@
+"""A case in TOML to the case, with all faults of the text at once."""
+
+import difflib
+import tomllib
+from dataclasses import dataclass
+from pathlib import Path
+
+from .fields import (AMOUNT_NUMBERS, DEFAULT_UFR, FLOW_NUMBER, MOST_BONDS, MOST_DAYS, MOST_PENSION, PEOPLE_NUMBERS,
+                     RATE_NUMBER, SHOCK_NUMBERS, TERMS, UFR_NUMBER, Case, forwards_out_of_limits)
+from .sheets import Cell, Layout, days_in, flows_in, read_sheet
+from .units import COUNT, MONEY, RATE, Bad, Number, Unit, is_bare, printable, shown, whole
+
+MOST_SHOWN = 40  # faults in a message; the list has all
+LARGEST_TEXT = 1_000_000  # characters; the largest case takes less than 100,000
+
+# The keys of each table; "" is the top.
+KEYS = {
+    "": ["ufr"],
+    "days": ["unit", "rates", "csv", "lines", "header", "labels"],
+    "flows": ["pension", "pension_csv", "bonds", "bonds_csv"],
+    "amounts": [number.name for number in AMOUNT_NUMBERS],
+    "shocks": [number.name for number in SHOCK_NUMBERS],
+    "people": [number.name for number in PEOPLE_NUMBERS],
+}
+
+
+TABLES = [name for name in KEYS if name]
+UNIT_ADVICE = 'unit = "%", "bp" or "steps"'
+
+
+class Wrong(Exception):
+    """What is wrong with a case in TOML: a sentence for each fault, by its key."""
+
+    def __init__(self, faults: list[str]) -> None:
+        more = [f"and {len(faults) - MOST_SHOWN:,} more faults"] if len(faults) > MOST_SHOWN else []
+        super().__init__("\n".join(faults[:MOST_SHOWN] + more))
+        self.faults = faults
+
+
+@dataclass(frozen=True)
+class Bare:
+    """A bare number with a decimal point or an exponent, as it was written."""
+    text: str
+
+
+def from_toml(text: str, folder: Path = Path()) -> Case:
+    """The case in a TOML text; CSV files that it names are looked for in the folder. Raises Wrong."""
+    return Text(parsed(text), folder).case()
+
+
+def parsed(text: str) -> dict:
+    if len(text) > LARGEST_TEXT:
+        raise Wrong([f"the text has {len(text):,} characters, more than {LARGEST_TEXT:,}"])
+    try:
+        return tomllib.loads(text.removeprefix("\ufeff"), parse_float=Bare)
+    except RecursionError:
+        raise Wrong(["this is no TOML: it is nested too deep"]) from None
+    except ValueError as error:  # tomllib's own error is one
+        raise Wrong([f"this is no TOML: {''.join(mark for mark in str(error) if mark.isprintable())}"]) from None
+
+
+def dotted(table: str, key: str) -> str:
+    return f"{table}.{key}" if table else key
+
+
+def likely(table: str, key: str) -> str | None:
+    """The key that was likely meant: one of the same table, or else one of another."""
+    same = difflib.get_close_matches(key, KEYS[table] + ([] if table else TABLES), 1)
+    if same:
+        return dotted(table, same[0])
+    others = {name: dotted(place, name) for place, names in KEYS.items() for name in names}
+    close = difflib.get_close_matches(key, others, 1, 0.8)
+    return others[close[0]] if close else None
+
+
+def bare_text(value: object) -> str | None:
+    """A bare number as text; None for anything else. Hexadecimal has no limit of digits."""
+    if isinstance(value, Bare):
+        return value.text
+    if isinstance(value, int) and not isinstance(value, bool):
+        return str(value) if abs(value) < 10 ** 30 else hex(value)
+    return None
+
+
+def quantity(value: object, number: Number, default: Unit | None = None) -> int:
+    """A value of the text as the file counts it; raises Bad."""
+    if value == "":
+        raise Bad(f"is empty; {number.advice}")
+    if isinstance(value, str) and number.kind is not COUNT:
+        return whole(value, number, default)
+    text = bare_text(value)
+    if number.kind in (COUNT, MONEY) and isinstance(value, int) and text:
+        if not number.least <= value <= number.most:
+            raise Bad(f"is {f'{value:,}' if abs(value) < 10 ** 30 else printable(text)}; it must be {number.limits}")
+        return value
+    if text and default:
+        return whole(text, number, default)
+    if text and number.kind not in (COUNT, MONEY):
+        raise Bad(f"is {printable(text)} without a unit; {number.advice}")
+    said = printable(text or repr(value)) if text or isinstance(value, (str, bool)) else "no number"
+    raise Bad(f"is {said}; {number.advice}")
+
+
+class Text:
+    """A text's tables, and the faults found in them so far."""
+
+    def __init__(self, top: dict, folder: Path) -> None:
+        self.folder, self.faults = folder, []
+        self.tables = {"": {key: value for key, value in top.items() if key not in TABLES}}
+        for name in TABLES:
+            table = top.get(name, {})
+            if not isinstance(table, dict):
+                self.faults.append(f"{name} must be a table, [{name}]")
+            self.tables[name] = table if isinstance(table, dict) else {}
+        self.has_amounts = "amounts" in top
+        for name, table in self.tables.items():
+            self.name_unknown_keys(name, table)
+
+    def name_unknown_keys(self, name: str, table: dict) -> None:
+        for key in table:
+            if key not in KEYS[name]:
+                meant = likely(name, key)
+                self.faults.append(f"{dotted(name, printable(key))} is no key of a case"
+                                   + (f"; did you mean {meant}?" if meant else ""))
+
+    def case(self) -> Case:
+        case = Case(self.ufr(), self.days(), self.flows("pension", MOST_PENSION), self.flows("bonds", MOST_BONDS),
+                    self.numbers("amounts", AMOUNT_NUMBERS) if self.has_amounts else None,
+                    self.numbers("shocks", SHOCK_NUMBERS), self.numbers("people", PEOPLE_NUMBERS))
+        if self.faults:
+            raise Wrong(self.faults)
+        return case
+
+    def value(self, key: str, value: object, number: Number, default: Unit | None = None) -> int:
+        """A number, or 0 with a fault."""
+        try:
+            return quantity(value, number, default)
+        except Bad as bad:
+            self.faults.append(f"{key} {bad}")
+            return 0
+
+    def ufr(self) -> int | None:
+        value = self.tables[""].get("ufr")
+        if value == "":
+            self.faults.append(f"ufr is empty; {UFR_NUMBER.advice}, or delete the line: without it the UFR is "
+                               f"{shown(DEFAULT_UFR, RATE)}")
+            return None
+        return None if value is None else self.value("ufr", value, UFR_NUMBER)
+
+    def numbers(self, name: str, numbers: list[Number]) -> dict[str, int]:
+        table, values = self.tables[name], {}
+        for number in numbers:
+            key = dotted(name, number.name)
+            if number.name in table:
+                values[number.name] = self.value(key, table[number.name], number)
+            else:
+                self.faults.append(f"{key} is missing; {number.advice}")
+        return values
+
+    # ------------------------------------------------------------ flows
+
+    def flows(self, name: str, most: int) -> list[int] | None:
+        table, by_sheet = self.tables["flows"], f"{name}_csv"
+        if name in table and by_sheet in table:
+            self.faults.append(f"flows.{name} and flows.{by_sheet} are both there; write one of them")
+        elif name in table:
+            return self.inline_flows(f"flows.{name}", table[name], most)
+        elif by_sheet in table:
+            return self.sheet_of_flows(f"flows.{by_sheet}", table[by_sheet], most)
+        elif name == "pension":
+            self.faults.append("flows.pension is missing, and so is flows.pension_csv; write one of them")
+        return None
+
+    def inline_flows(self, key: str, flows: object, most: int) -> list[int]:
+        if not isinstance(flows, list) or not flows:
+            self.faults.append(f"{key} is {'empty' if flows in ([], '') else 'no list'}; write a list of 1 to {most} flows, "
+                               "in euros, from term 1 on" + (", or delete it: then there are none" if "bonds" in key else ""))
+            return []
+        self.judge_count(key, len(flows), most)
+        return [self.value(f"{key}, term {term},", flow, FLOW_NUMBER) for term, flow in enumerate(flows, 1)]
+
+    def sheet_of_flows(self, key: str, name: object, most: int) -> list[int]:
+        try:
+            cells = flows_in(read_sheet(name, self.folder))
+        except Bad as bad:
+            self.faults.append(f"{key} {bad}")
+            return []
+        self.judge_count(key, len(cells), most)
+        return [self.value(f"{key}, {cell.place}", cell.text, FLOW_NUMBER, MONEY.units[0]) for cell in cells]
+
+    def judge_count(self, key: str, count: int, most: int) -> None:
+        if count > most:
+            self.faults.append(f"{key} has {count:,} flows; it must have 1 to {most}")
+
+    # ------------------------------------------------------------ days
+
+    def days(self) -> list[list[int]]:
+        table = self.tables["days"]
+        unit, unit_is_good = self.unit(table.get("unit"))
+        if "rates" in table and "csv" in table:
+            self.faults.append("days.rates and days.csv are both there; write one of them")
+            return []
+        if "csv" in table:
+            cells = self.sheet_of_days(table, unit, unit_is_good)
+        elif "rates" in table:
+            cells = self.inline_days(table)
+        else:
+            self.faults.append("days.rates is missing, and so is days.csv; write one of them")
+            return []
+        return self.rates(cells, unit) if unit_is_good else []
+
+    def unit(self, word: object) -> tuple[Unit | None, bool]:
+        """The unit of bare rates, if any, and whether the key is right."""
+        found = RATE.unit(word) if isinstance(word, str) else None
+        if word is None or found:
+            return found, True
+        said = "empty" if word == "" else f'"{printable(word)}"' if isinstance(word, str) else "no text"
+        self.faults.append(f'days.unit is {said}; write {UNIT_ADVICE}, or delete it where each rate carries its own')
+        return None, False
+
+    def inline_days(self, table: dict) -> list[list[Cell]]:
+        for key in ("lines", "header", "labels"):
+            if key in table:
+                self.faults.append(f"days.{key} is of a sheet; it goes with days.csv only")
+        days = table["rates"]
+        if not isinstance(days, list) or not 1 <= len(days) <= MOST_DAYS:
+            self.faults.append(f"days.rates must be a list of 1 to {MOST_DAYS} days, each a list of {TERMS} rates")
+            return []
+        cells = []
+        for place, day in enumerate(days, 1):
+            if not isinstance(day, list) or len(day) != TERMS:
+                held = f"has {len(day):,} rates" if isinstance(day, list) else "is no list"
+                self.faults.append(f"days.rates, day {place}, {held}; it must be a list of {TERMS}, of the terms 1 to {TERMS}")
+            else:
+                cells.append([self.inline_cell(rate, f"days.rates, term {term} of day {place},")
+                              for term, rate in enumerate(day, 1)])
+        return cells
+
+    def inline_cell(self, rate: object, place: str) -> Cell:
+        text = rate if isinstance(rate, str) else bare_text(rate)
+        return Cell("no number" if text is None else text, place)
+
+    def sheet_of_days(self, table: dict, unit: Unit | None, unit_is_good: bool) -> list[list[Cell]]:
+        def could_be_rates(cells: list[str]) -> bool:
+            try:
+                return bool([whole(cell, RATE_NUMBER, unit) for cell in cells])
+            except Bad:
+                return False
+
+        layout = self.layout(table)
+        try:
+            sheet = read_sheet(table["csv"], self.folder)
+            if not layout or not unit_is_good:
+                return []
+            return [[Cell(cell.text, f"days.csv, {cell.place}") for cell in day]
+                    for day in days_in(sheet, layout, could_be_rates)]
+        except Bad as bad:
+            self.faults.append(f"days.csv {bad}")
+            return []
+
+    def layout(self, table: dict) -> Layout | None:
+        """What the text says of its sheet; None where it says that wrongly."""
+        before = len(self.faults)
+        if table.get("lines") not in (None, "days", "terms"):
+            self.faults.append('days.lines must be "days" or "terms": what a line of the sheet is')
+        for key in ("header", "labels"):
+            if table.get(key) not in (None, True, False) or type(table.get(key)) is int:
+                self.faults.append(f"days.{key} must be true or false")
+        return Layout(*(table.get(key) for key in ("lines", "header", "labels"))) if len(self.faults) == before else None
+
+    def rates(self, days: list[list[Cell]], unit: Unit | None) -> list[list[int]]:
+        """The rates; those without a unit, where the table has none either, are one fault."""
+        before = len(self.faults)
+        bare = [cell for day in days for cell in day if not unit and is_bare(cell.text)]
+        if bare:
+            self.faults.append(f"{bare[0].place} is {printable(bare[0].text)} without a unit"
+                               + (f", and so are {len(bare) - 1:,} other rates" if len(bare) > 1 else "")
+                               + f'; write {UNIT_ADVICE} in [days], or each rate with its own, such as "{RATE_NUMBER.example}"')
+        rates = [[0 if not unit and is_bare(cell.text) else self.value(cell.place, cell.text, RATE_NUMBER, unit)
+                  for cell in day] for day in days]
+        if len(self.faults) == before:
+            self.faults += [f"days: refused, 6: {forward}" for forward in forwards_out_of_limits(rates)]
+        return rates

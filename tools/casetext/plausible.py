@@ -1,0 +1,121 @@
+"""Warnings: values that are accepted, but likelier a slip than meant. A warning never refuses a case."""
+
+from dataclasses import dataclass
+from fractions import Fraction
+from typing import Callable
+
+from .fields import PEOPLE_NUMBERS, SHOCK_NUMBERS, Case
+from .units import MONEY, RATE, Kind, shown, six_decimals
+
+KINDS = {number.name: number.kind for number in SHOCK_NUMBERS + PEOPLE_NUMBERS}
+
+
+@dataclass(frozen=True)
+class Threshold:
+    """A row of the table: warns where the value is below the least or above the most. Equality does not warn."""
+    key: str
+    value: Callable[[Case], int | Fraction | None]  # None where the case has nothing that the value would apply to
+    say: Callable[[int | Fraction], str]
+    slip: str
+    least: int | Fraction | None = None
+    most: int | Fraction | None = None
+
+    def warning(self, case: Case) -> str | None:
+        value = self.value(case)
+        if value is not None and self.least is not None and value < self.least:
+            return f"{self.key} is {self.say(value)}, below {self.say(self.least)}; {self.slip}"
+        if value is not None and self.most is not None and value > self.most:
+            return f"{self.key} is {self.say(value)}, above {self.say(self.most)}; {self.slip}"
+        return None
+
+
+# ---------------------------------------------------------------- the values that are judged
+
+def amount(case: Case, name: str) -> int:
+    return case.amounts[name] if case.amounts else 0
+
+
+def shock_of(name: str, held: str) -> Callable[[Case], int | None]:
+    """A shock, where the case holds some of the amount that it applies to."""
+    return lambda case: case.shocks[name] if amount(case, held) else None
+
+
+def mean_rates(case: Case) -> list[Fraction]:
+    return [Fraction(sum(rates), len(case.days)) for rates in zip(*case.days)]
+
+
+def assets(case: Case) -> int:
+    return sum(case.bonds or []) + sum(value for name, value in (case.amounts or {}).items() if name != "currency")
+
+
+def assets_to_pensions(case: Case) -> Fraction | None:
+    pensions = sum(case.pension)
+    return Fraction(assets(case), pensions) if pensions else None
+
+
+# ---------------------------------------------------------------- how they are shown
+
+def plain(kind: Kind) -> Callable[[int | Fraction], str]:
+    return lambda value: shown(int(value), kind)
+
+
+def mean_percent(value: int | Fraction) -> str:
+    return f"{six_decimals(Fraction(value, 1_000))} %"
+
+
+def times_pensions(value: int | Fraction) -> str:
+    return f"{six_decimals(Fraction(value))} times the sum of flows.pension"
+
+
+def euros_a_head(value: int | Fraction) -> str:
+    return f"{int(value):,} euros a head"
+
+
+# ---------------------------------------------------------------- the table
+
+PERCENT_SLIP = "was a percentage typed in thousandths?"
+SHIFT_SLIP = "were basis points typed as steps, or a fraction as a percentage?"
+AGE_SLIP = "were years typed as months?"
+EURO_SLIP = "were thousands of euros typed for euros?"
+
+
+def below(name: str, least: int, slip: str, held: str | None = None) -> Threshold:
+    """A row for a shock or for a number of people, in the file's own unit."""
+    table = "shocks" if name in {number.name for number in SHOCK_NUMBERS} else "people"
+    value = shock_of(name, held) if held else lambda case: getattr(case, table)[name]
+    return Threshold(f"{table}.{name}", value, plain(KINDS[name]), slip, least=least)
+
+
+TABLE = [
+    Threshold("ufr", lambda case: case.ufr, plain(RATE), "was it typed in another unit?", least=500),
+    Threshold("the lowest mean rate of a term in days", lambda case: min(mean_rates(case)), mean_percent,
+              "were the rates typed in another unit?", most=8_000),
+    Threshold("the mean rate of a term in days that is farthest from 0", lambda case: max(map(abs, mean_rates(case))), mean_percent,
+              "were fractions typed as percentages?", least=100),
+    below("up_shift", 100, SHIFT_SLIP),
+    below("down_shift", 100, SHIFT_SLIP),
+    below("mature_fall", 50, PERCENT_SLIP, "mature"),
+    below("emerging_fall", 50, PERCENT_SLIP, "emerging"),
+    below("private_fall", 50, PERCENT_SLIP, "private"),
+    below("property_fall", 50, PERCENT_SLIP, "property"),
+    below("currency_fall", 50, PERCENT_SLIP, "currency"),
+    below("commodities_fall", 50, PERCENT_SLIP, "commodities"),
+    below("spread_rise", 50, PERCENT_SLIP, "credit"),
+    below("correlation", 50, PERCENT_SLIP),
+    below("spread", 100, SHIFT_SLIP, "credit"),
+    below("duration", 5, "were years typed as tenths of a year?", "credit"),
+    below("pension_age", 180, AGE_SLIP),
+    below("mean_age", 180, AGE_SLIP),
+    Threshold("people.pension_age less people.mean_age", lambda case: case.people["pension_age"] - case.people["mean_age"],
+              lambda months: f"{months} months", "were the two ages swapped?", least=0),
+    Threshold("flows.bonds and amounts.cash together", lambda case: sum(case.bonds or []) + amount(case, "cash"),
+              plain(MONEY), "were flows.bonds and amounts.cash left out?", least=1),
+    Threshold("the sum of flows.pension", lambda case: Fraction(sum(case.pension), case.people["heads"]),
+              euros_a_head, EURO_SLIP, least=1_000),
+    Threshold("the sum of flows.bonds and of amounts without currency", assets_to_pensions, times_pensions, EURO_SLIP, least=Fraction(1, 10), most=10),
+]
+
+
+def warnings_of(case: Case) -> list[str]:
+    """What is implausible about an accepted case, a sentence each, in the table's order."""
+    return [warning for row in TABLE if (warning := row.warning(case))]

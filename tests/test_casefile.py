@@ -1,4 +1,4 @@
-"""tools/casefile beside the reference: its refusals, and cases to TOML and back."""
+"""tools/casefile beside the reference: its refusals, files there and back, and its command line."""
 
 import os
 import random
@@ -7,26 +7,22 @@ import sys
 import tempfile
 import unittest
 from collections import Counter
-from importlib.machinery import SourceFileLoader
-from importlib.util import module_from_spec, spec_from_loader
 from pathlib import Path
 
 HERE = Path(__file__).resolve().parent
-TOOL = HERE.parent / "tools" / "casefile"
-sys.path[:0] = [str(HERE)]
+ROOT = HERE.parent
+TOOL = ROOT / "tools" / "casefile"
+sys.path[:0] = [str(HERE), str(ROOT / "tools")]
 import examples
 import reference
 import test_reference
-
-# The tool is a command without a suffix, so it is loaded by its path.
-loader = SourceFileLoader("casefile", str(TOOL))
-casefile = module_from_spec(spec_from_loader("casefile", loader))
-sys.modules["casefile"] = casefile
-loader.exec_module(casefile)
-from casefile import Fault, Wrong, explain, from_toml, read, to_toml, write
+from casetext import Case, Fault, Reader, explain, from_toml, read, refusal, template, to_toml, warnings_of, write
+from casetext.fields import forwards_out_of_limits
 
 C1 = reference.encode(examples.c1(), False, False, True)
 UP = reference.encode(examples.up(), True, True, True)
+FUND = (ROOT / "samples" / "fund.case").read_bytes()
+STEEP = C1[:121] + b"\x01\x00" + C1[123:]  # rate 256 at term 60, behind zeros: refused with 6
 
 
 def accepted(seed, count):
@@ -58,10 +54,10 @@ class Files(unittest.TestCase):
             data = bytes(data)
             number = number_of(data)
             seen[number] += 1
+            self.assertEqual(refusal(data), number, data.hex())
             if number:
                 with self.assertRaises(Fault) as caught:
                     read(data)
-                self.assertEqual(caught.exception.number, number, data.hex())
                 self.assertLessEqual(caught.exception.byte, len(data))
             else:
                 self.assertEqual(write(read(data)), data)
@@ -76,9 +72,20 @@ class Files(unittest.TestCase):
             self.assertEqual(held.amounts or dict.fromkeys(reference.AMOUNTS, 0), case.amounts)
             self.assertEqual((4_200 if held.ufr is None else held.ufr, held.shocks), (case.ufr, case.shocks))
             self.assertEqual(list(held.people.values()), [case.heads, case.pension_age, case.mean_age])
-            for percent in (False, True):
-                self.assertEqual(from_toml(to_toml(held, percent)), held)
-            self.assertEqual(write(held), data)
+            self.assertEqual(from_toml(to_toml(held)), held)
+            self.assertEqual(write(from_toml(to_toml(held))), data)
+
+    def test_decode_of_every_value(self):
+        """Each value of a share, an age and a duration, and values of rates, there and back."""
+        case = read(UP)
+        for value in range(1_001):
+            shocks = {name: min(value, 500) if name == "duration" else value for name in case.shocks}
+            people = {"heads": 1 + value, "pension_age": value, "mean_age": 1_200 - value}
+            days = [[(7 * value + 11 * term) % 10_001 - 1_000 for term in range(60)]]
+            if value % 20 or forwards_out_of_limits(days):
+                days = [[value] * 60]
+            changed = Case(value, days, [value], None, None, shocks, people)
+            self.assertEqual(from_toml(to_toml(changed)), changed)
 
     def test_which_byte(self):
         for number, at, wrong, _ in test_reference.Reading.FAULTS:
@@ -91,123 +98,156 @@ class Files(unittest.TestCase):
             self.assertEqual((caught.exception.number, caught.exception.byte), (number, at))
         for data, number, byte in ((b"", 1, 0), (UP[:-1], 1, 494), (UP + b"ab", 2, 495), (b"\x40\x76" + C1[2:], 3, 0),
                                    (b"\x00\x74" + C1[2:], 3, 1), (C1[:2] + b"\x47" + C1[3:], 4, 2),
-                                   (C1[:119] + b"\xfc\x17" + C1[121:], 5, 119), (C1[:121] + b"\x01\x00" + C1[123:], 6, 121)):
+                                   (C1[:119] + b"\xfc\x17" + C1[121:], 5, 119), (STEEP, 6, 121)):
             with self.assertRaises(Fault) as caught:
                 read(data)
             self.assertEqual((caught.exception.number, caught.exception.byte), (number, byte))
 
-    def test_explain(self):
+    def test_forward_rates(self):
+        """The shown rate is exact, or never looks like a limit that it exceeds."""
+        self.assertEqual(forwards_out_of_limits([[0] + [6_000] * 59]), [])
+        [found] = forwards_out_of_limits([[0] + [6_001] * 59])
+        self.assertIn("from year 1 to year 2 is 12.002 %; it must be -2 % to 12 %", str(found))
+        for n in range(1, 71):
+            for growth in (12_000 * n + 1, 12_000 * n + n // 2 + 1, -2_000 * n - 1):
+                shown = str(type(found)(7, growth, n)).split(" is ")[1].split(" %")[0]
+                self.assertFalse(-2 <= float(shown.removeprefix("about ")) <= 12, (n, growth, shown))
+                self.assertEqual(shown.startswith("about "), 1_000 * growth % n != 0)
+
+
+class Explained(unittest.TestCase):
+    def test_every_byte_once(self):
         for data in (C1, UP, *(data for _, data in accepted(20, 10))):
             text, good = explain(data)
             self.assertTrue(good and text.endswith(f"\naccepted: {len(data):,} bytes\n"))
-            reader = casefile.Reader(data)
+            reader = Reader(data)
             reader.whole_case()
             at = 0
-            for part in reader.parts:  # every byte once
+            for part in reader.parts:
                 self.assertEqual(part.byte, at)
                 at += part.length
             self.assertEqual(at, len(data))
-        self.assertIn("heads: 1,237", explain(UP)[0])
-        self.assertIn("UFR absent: 4,200 steps", explain(C1)[0])
-        text, good = explain(C1[:121] + b"\x01\x00" + C1[123:])
+
+    def test_words(self):
+        text = explain(UP)[0]
+        for words in ("heads: 1,237", "ufr: 4,321 steps, 4.321 %", "mature_fall: 251 thousandths, 25.1 %",
+                      "duration: 73 tenths of a year, 7.3 years", "mean_age: 541 months, 45 years 1 month"):
+            self.assertIn(words, text)
+        self.assertIn("UFR absent: 4.2 %", explain(C1)[0])
+        text, good = explain(STEEP)
         self.assertFalse(good)
-        self.assertIn("refused, 6, at byte 121: ", text)
+        self.assertIn("refused, 6, at byte 121: the one-year forward rate from year 59 to year 60 is 15.36 %; "
+                      "it must be -2 % to 12 %: ", text)
         self.assertIn("60 × s(60) - 59 × s(59) is 15,360 steps; it must be -2,000 to 12,000, for n = 1", text)
 
-
-class Texts(unittest.TestCase):
-    def changed(self, *pairs):
-        text = to_toml(read(UP))
-        for old, new in pairs:
-            self.assertEqual(text.count(old), 1, old)
-            text = text.replace(old, new)
-        return text
-
-    def test_percent(self):
-        text = self.changed(("ufr = 4321 ", 'ufr = "4.321 %" '), ("up_shift = 320", 'up_shift = "0.32%"'),
-                            ("spread = 2345", 'spread = "+2.3450 %"'))
-        self.assertEqual(write(from_toml(text)), UP)
-
-    def test_wrong_texts(self):
-        for old, new, words in (
-                ("ufr = 4321", "ufr = 5001", "ufr is 5,001; it must be 0 to 5,000 steps"),
-                ("ufr = 4321", "ufr = 4.2", "ufr must be a whole number"),
-                ("ufr = 4321", "ufr = true", "ufr must be a whole number"),
-                ("ufr = 4321", 'ufr = "4,2 %"', "no percentage"),
-                ("ufr = 4321", 'ufr = "0.0005 %"', "no whole number of steps"),
-                ("ufr = 4321", "ufr", "no TOML"),
-                ("ufr = 4321", "ufr = " + "9" * 5_000, "no TOML"),
-                ("heads = 1237", "heads = 0", "people.heads is 0; it must be 1 to 1,000,000"),
-                ("heads = 1237", "", "people has no heads"),
-                ("heads = 1237", "heads = 1237\nhead = 3", "people has an unknown key head"),
-                ("cash = 111213", "cash = 100000000001", "amounts.cash is 100,000,000,001"),
-                ("cash = 111213", "cash = -1", "amounts.cash is -1"),
-                ("duration = 73", "duration = 501", "0 to 500 tenths of a year"),
-                ("31415927", "100000001", "flows.pension, term 1, is 100,000,001"),
-                ('"steps"', '"promille"', "days.unit"),
-                ('"steps"', '"percent"', "it must be -1,000 to 10,000"),
-                ("206, 225,", "225,", "day 1 must be a list of 60"),
-                ("206, 225,", "206, 225.5,", "no whole number of steps"),
-                ("206, 225,", "206, nan,", "far out of its limits"),
-                ("206, 225,", "206, 1e999999999,", "far out of its limits"),
-                ("206, 225,", "206, 1e-999999999,", "no whole number of steps"),
-                ("206, 225,", "206, 225." + "0" * 40 + "1,", "no whole number of steps"),
-                ("206, 225,", '206, "x",', "term 2 of day 1 must be a number"),
-                ("206, 225,", "206, -1001,", "the rate of term 2 of day 1 is -1,001 steps")):
-            with self.assertRaises(Wrong) as caught:
-                from_toml(self.changed((old, new)))
-            self.assertIn(words, str(caught.exception))
-        with self.assertRaises(Fault) as caught:
-            write(from_toml(self.changed(("206, 225,", "206, 9000,"))))
-        self.assertEqual(caught.exception.number, 6)
-
-    def test_csv(self):
-        case = read(UP)
-        start = to_toml(case).index("rates = ["), to_toml(case).index("[flows]")
-        with tempfile.TemporaryDirectory() as folder:
-            sheet = Path(folder, "days.csv")
-            for unit, between, shown in (("steps", ",", str), ("percent", ", ", casefile.in_percent),
-                                         ("percent", ";", lambda rate: casefile.in_percent(rate).replace(".", ","))):
-                sheet.write_text("\n".join(between.join(map(shown, day)) for day in case.days) + "\n\n")
-                text = to_toml(case)[:start[0]] + 'csv = "days.csv"\n' + to_toml(case)[start[1]:]
-                self.assertEqual(from_toml(text.replace('"steps"', f'"{unit}"'), Path(folder)), case)
-            for contents, words in (("1,2,3\n", "day 1 must be a list of 60"), ("term 1,2\n", 'line 1 of days.csv has "term 1"'),
-                                    ("", "1 to 70 days")):
-                sheet.write_text(contents)
-                with self.assertRaisesRegex(Wrong, words):
-                    from_toml(text, Path(folder))
-            sheet.unlink()
-            with self.assertRaisesRegex(Wrong, "can't be read"):
-                from_toml(text, Path(folder))
-
-    def test_examples(self):
-        folder = HERE.parent / "examples"
-        files = {path.name: write(from_toml(path.read_text("utf-8"), folder)) for path in folder.glob("*.toml")}
-        self.assertEqual(files, {"c1.toml": C1, "fund.toml": UP})
+    def test_general_sentences(self):
+        """Each refusal has its specific sentence and then the general one of hosts/words.toml."""
+        words = (ROOT / "hosts" / "words.toml").read_text("utf-8")
+        for number in range(1, 13):
+            data = (ROOT / "hosts" / "vectors" / f"refused_{number:02}.case").read_bytes()
+            text, good = explain(data)
+            *_, specific, general = text.splitlines()
+            self.assertFalse(good)
+            self.assertTrue(specific.startswith(f"refused, {number}, at byte "))
+            self.assertTrue(general.startswith(f"refusal {number}: "))
+            self.assertIn(f'sentence = "{general.removeprefix(f"refusal {number}: ")}"\n', words)
 
 
 class CommandLine(unittest.TestCase):
-    def run_tool(self, *words, given=b""):
-        run = subprocess.run([sys.executable, str(TOOL), *words], input=given, capture_output=True)
-        return run.returncode, run.stdout, run.stderr
+    def run_tool(self, *words, given=b"", **more):
+        run = subprocess.run([sys.executable, str(TOOL), *words], input=given, capture_output=True, **more)
+        self.assertNotIn(b"Traceback", run.stderr)
+        self.assertNotIn(b"Exception ignored", run.stderr)
+        return run.returncode, run.stdout, run.stderr.decode()
+
+    def shell(self, line, *words):
+        """Runs the tool as "$@" in a line of shell; its status and standard error."""
+        run = subprocess.run(["bash", "-c", line, "bash", sys.executable, str(TOOL), *map(str, words)],
+                             capture_output=True)
+        self.assertNotIn(b"Traceback", run.stderr)
+        self.assertNotIn(b"Exception ignored", run.stderr)
+        return run.returncode, run.stderr.decode()
 
     def test_there_and_back(self):
-        status, text, _ = self.run_tool("decode", "-", given=UP)
-        self.assertEqual((status, text.decode()), (0, to_toml(read(UP))))
-        self.assertEqual(self.run_tool("encode", "-", given=text), (0, UP, b""))
-        status, text, _ = self.run_tool("decode", "--percent", "-", given=UP)
-        self.assertEqual(self.run_tool("encode", "-", given=text), (0, UP, b""))
+        status, text, said = self.run_tool("decode", "-", given=FUND)
+        self.assertEqual((status, text.decode(), said), (0, to_toml(read(FUND)), ""))
+        self.assertEqual(self.run_tool("encode", "-", given=b"\xef\xbb\xbf" + text), (0, FUND, ""))
+        self.assertEqual(self.run_tool("encode", "-", given=text.decode().encode("utf-16")), (0, FUND, ""))
+
+    def test_the_seen_defect(self):
+        """A fall as an actuary says it: bare it is refused, and in thousandths it is warned of."""
+        text = to_toml(read(FUND))
+        for fall, status, said in (('25', 1, '-: shocks.mature_fall is 25 without a unit; '
+                                             'write it in % or thousandths, such as "25 %"\n'),
+                                   ('"25 thousandths"', 0, "warning: shocks.mature_fall is 2.5 %, below 5 %; "
+                                                           "was a percentage typed in thousandths?\n"),
+                                   ('"25 %"', 0, "")):
+            given = text.replace('mature_fall = "25 %"', f"mature_fall = {fall}")
+            found = self.run_tool("encode", "-", given=given.encode())
+            self.assertEqual((found[0], bool(found[1]), found[2]), (status, status == 0, said))
+
+    def test_warnings_of_each_command(self):
+        said = "".join(f"warning: {warning}\n" for warning in warnings_of(read(C1)))
+        self.assertEqual(self.run_tool("decode", "-", given=C1), (0, to_toml(read(C1)).encode(), said))
+        self.assertEqual(self.run_tool("explain", "-", given=C1), (0, explain(C1)[0].encode(), said))
+        self.assertEqual(self.run_tool("encode", str(ROOT / "examples" / "c1.toml")), (0, C1, said))
 
     def test_refused(self):
-        self.assertEqual(self.run_tool("explain", "-", given=UP)[0], 0)
         status, out, _ = self.run_tool("explain", os.devnull)
         self.assertEqual(status, 1)
         self.assertIn(b"refused, 1, at byte 0", out)
-        status, out, err = self.run_tool("decode", os.devnull)
+        status, out, said = self.run_tool("decode", os.devnull)
         self.assertEqual((status, out), (1, b""))
-        self.assertIn(b"refused, 1", err)
-        self.assertEqual(self.run_tool("encode", "no such file")[:2], (2, b""))
-        self.assertEqual(self.run_tool("encode", "-", given=b"ufr = 1")[:2], (1, b""))
+        self.assertIn("refused, 1", said)
+        status, out, said = self.run_tool("encode", "-", given=b"\x80\x00garbage")
+        self.assertEqual((status, out, said), (1, b"", "-: this is no TOML: it is no UTF-8 at byte 0\n"))
+
+    def test_unreadable(self):
+        for name in ("no such file", str(HERE), "/dev/zero"):
+            self.assertEqual(self.run_tool("encode", name)[:2], (2, b""), name)
+        self.assertEqual(self.run_tool()[0], 2)
+        self.assertEqual(self.shell('"$@" decode - <&-')[0], 2)
+
+    def test_template_and_version(self):
+        self.assertEqual(self.run_tool("--version"), (0, (ROOT / "VERSION").read_bytes(), ""))
+        self.assertEqual(self.run_tool("--template"), (0, template().encode(), ""))
+
+    def test_lost_output(self):
+        """Output that is lost is 2, and so are warnings that are lost."""
+        sample = ROOT / "samples" / "fund.case"
+        for line in ('"$@" >/dev/full', '"$@" >&-', '"$@" -o /dev/full'):
+            self.assertEqual(self.shell(line, "decode", sample)[0], 2, line)
+        nobody, pipe = os.pipe()
+        os.close(nobody)  # as behind head, once it has its line
+        run = subprocess.run([sys.executable, str(TOOL), "decode", str(sample)], stdout=pipe, stderr=subprocess.PIPE)
+        os.close(pipe)
+        self.assertEqual((run.returncode, run.stderr.count(b"\n")), (2, 1), run.stderr)
+        self.assertEqual(self.shell('"$@" >/dev/full', "--help")[0], 2)
+        self.assertEqual(self.shell('"$@" >/dev/null 2>&-', "decode", ROOT / "samples" / "c1.case")[0], 2)
+
+    def test_output_whole_or_not_at_all(self):
+        with tempfile.TemporaryDirectory() as folder:
+            text, out, link = Path(folder, "a.toml"), Path(folder, "a.case"), Path(folder, "link")
+            text.write_text(template())
+            self.assertEqual(self.run_tool("encode", str(text), "-o", str(out))[:2], (1, b""))
+            self.assertEqual(os.listdir(folder), ["a.toml"])
+            text.write_text(to_toml(read(FUND)))
+            self.assertEqual(self.run_tool("encode", str(text), "-o", str(out)), (0, b"", ""))
+            self.assertEqual(out.read_bytes(), FUND)
+            out.chmod(0o640)
+            link.symlink_to("a.case")
+            text.write_text(to_toml(read(UP)))
+            self.assertEqual(self.run_tool("encode", str(text), "-o", str(link))[0], 0)
+            self.assertEqual((out.read_bytes(), out.stat().st_mode & 0o777, link.is_symlink()), (UP, 0o640, True))
+            text.write_text("ufr = 1")
+            self.assertEqual(self.run_tool("encode", str(text), "-o", str(out))[0], 1)
+            self.assertEqual(out.read_bytes(), UP)
+            self.assertEqual(self.run_tool("decode", str(out), "-o", str(out))[0], 2)
+            self.assertEqual(self.run_tool("decode", str(out), "-o", folder)[0], 2)
+            self.assertEqual(self.run_tool("decode", str(out), "-o", str(Path(folder, "none", "b")))[0], 2)
+            self.assertEqual(self.run_tool("decode", str(out), "-o", str(text)), (0, b"", ""))
+            self.assertEqual(text.read_text("utf-8"), to_toml(read(UP)))
+            self.assertEqual(sorted(os.listdir(folder)), ["a.case", "a.toml", "link"])
 
 
 if __name__ == "__main__":

@@ -94,21 +94,30 @@ def is_text(cells: list[str]) -> bool:
     return not any(is_number(cell) for cell in cells)
 
 
+def whole_number(cell: str) -> int | None:
+    """A bare whole number; "7,0" is one too, as some programs write 7."""
+    found = re.fullmatch(r"([0-9]{1,9})(?:[.,]0{1,2})?", cell)
+    return int(found[1]) if found else None
+
+
 def term_in(label: str) -> int | None:
     """The one number in a label: 7 in "7", "7 jaar" and "7Y"; a date has several."""
     numbers = re.findall("[0-9]+", label)
-    return int(numbers[0]) if len(numbers) == 1 and len(numbers[0]) < 4 else None
+    return whole_number(numbers[0] if len(numbers) == 1 else label)
 
 
-def counts_up(cells: list[str]) -> bool:
-    """Whether bare whole numbers mostly go up by one, as labels do, and rates hardly ever."""
-    if len(cells) < 3 or not all(cell.isdecimal() and cell.isascii() and len(cell) < 10 for cell in cells):
+def are_counting(cells: list[str]) -> bool:
+    """Whether the cells count, as labels do and rates hardly ever: most go up or down by 1, or by the 12 months of a year."""
+    values = [whole_number(cell) for cell in cells]
+    if len(cells) < 3 or None in values:
         return False
-    return 2 * sum(int(b) - int(a) == 1 for a, b in zip(cells, cells[1:])) > len(cells) - 1
+    steps = [b - a for a, b in zip(values, values[1:])]
+    return (2 * max(steps.count(step) for step in (1, -1, 12)) > len(steps)
+            or sorted(values) == list(range(1, len(values) + 1)))
 
 
 def are_terms(cells: list[str]) -> bool:
-    return cells == [str(term) for term in range(1, TERMS + 1)]
+    return [whole_number(cell) for cell in cells] == list(range(1, TERMS + 1))
 
 
 def wrong_label(labels: list[Cell]) -> Bad | None:
@@ -175,19 +184,19 @@ def fits(sheet: Sheet, layout: Layout, asked: Layout, could_be_rates: Callable[[
 
 
 def may_be_rates(cells: list[str], could_be_rates: Callable[[list[str]], bool]) -> bool:
-    return not is_text(cells) and (not counts_up(cells) or could_be_rates(cells))
+    return not is_text(cells) and (not are_counting(cells) or could_be_rates(cells))
 
 
 def may_be_header(cells: list[str], by_day: bool) -> bool:
-    return is_text(cells) or counts_up(cells) and (by_day or not are_terms(cells))
+    return is_text(cells) or are_counting(cells) and (by_day or not are_terms(cells))
 
 
 def may_be_labels(cells: list[str], by_day: bool) -> bool:
     if not by_day:
-        return counts_up(cells) or is_text(cells) and all(term_in(cell) for cell in cells)
+        return are_counting(cells) or is_text(cells) and all(term_in(cell) is not None for cell in cells)
     if is_text(cells):  # dates or names, but not the word "date" above dates, which is part of a header
         return len({bool(re.search("[0-9]", cell)) for cell in cells}) == 1
-    return counts_up(cells) and not are_terms(cells)
+    return are_counting(cells) and not are_terms(cells)
 
 
 def check_labels(sheet: Sheet, layout: Layout) -> None:
@@ -197,7 +206,7 @@ def check_labels(sheet: Sheet, layout: Layout) -> None:
     else:
         columns = range(layout.labels, len(sheet.rows[0].cells)) if layout.header else []
         labels = [sheet.cell(sheet.rows[0], column) for column in columns]
-        if not all(term_in(label.text) for label in labels):
+        if any(term_in(label.text) is None for label in labels):
             return
     fault = wrong_label(labels)
     if fault:

@@ -98,7 +98,7 @@ def in_unit(value: int, unit: Unit) -> str:
         parts = [counted(years, YEAR_WORDS)] if years or not months else []
         return " ".join(parts + [counted(months, MONTH_WORDS)] if months else parts)
     number = decimal_text(value, unit.size)
-    return f"{number} {unit.spellings[1] if number == '1' and unit.name != '%' and unit.name != 'bp' else unit.name}"
+    return f"{number} {unit.name.removesuffix('s') if number == '1' else unit.name}"
 
 
 def counted(count: int, words: tuple[str, str]) -> str:

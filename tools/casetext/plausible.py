@@ -100,8 +100,9 @@ TABLE = [
     below("property_fall", 50, PERCENT_SLIP, "property"),
     below("currency_fall", 50, PERCENT_SLIP, "currency"),
     below("commodities_fall", 50, PERCENT_SLIP, "commodities"),
-    below("spread_rise", 50, PERCENT_SLIP, "credit"),
-    below("correlation", 50, PERCENT_SLIP),
+    # These two are often 50 % or more, so that 5 % would miss 50 typed as thousandths.
+    below("spread_rise", 100, PERCENT_SLIP, "credit"),
+    below("correlation", 100, PERCENT_SLIP),
     below("spread", 100, SHIFT_SLIP, "credit"),
     below("duration", 5, "were years typed as tenths of a year?", "credit"),
     below("pension_age", 180, AGE_SLIP),

@@ -13,10 +13,11 @@ from pathlib import Path
 from typing import Callable
 
 from .fields import MOST_DAYS, TERMS
-from .units import Bad, is_number, printable
+from .units import Bad, counted, is_number, printable
 
 LARGEST_SHEET = 4_000_000  # bytes; the largest case takes less than 100,000
 SEPARATORS = "\t", ";", ","  # the first one that a sheet has stands between its cells
+LINES, CELLS = ("lines", "line"), ("cells", "cell")
 COMMA_ADVICE = "write semicolons between the cells and at the end of each line, or decimal points in the numbers"
 
 
@@ -82,7 +83,7 @@ def read_sheet(name: object, folder: Path) -> Sheet:
             if cells:
                 rows.append(Row(reader.line_num + bool(told), [cell.strip() for cell in cells]))
     except csv.Error as error:
-        raise Bad(f"is {said}, which cannot be read at line {reader.line_num}: {error}") from None
+        raise Bad(f"is {said}, which cannot be read at line {reader.line_num}: {printable(str(error))}") from None
     if not rows:
         raise Bad(f"is {said}, which holds nothing")
     return Sheet(said, rows, separator == ",")
@@ -153,11 +154,13 @@ def days_in(sheet: Sheet, asked: Layout, could_be_rates: Callable[[list[str]], b
     body = sheet.rows[layout.header:]
     check_labels(sheet, layout)
     block = [[sheet.cell(row, column) for column in range(layout.labels, len(row.cells))] for row in body]
-    if layout.lines == "days":
-        return block
-    if sheet.commas and commas_could_be_decimal(block):
+    by_day = layout.lines == "days"
+    if not by_day and sheet.commas and commas_could_be_decimal(block):
         raise sheet.bad(f"has commas only, which could stand between numbers or inside them; {COMMA_ADVICE}")
-    return [list(day) for day in zip(*block)]
+    days = block if by_day else [list(day) for day in zip(*block)]
+    if (asked.header if by_day else asked.labels) is not False:
+        check_counting(sheet, days)
+    return days
 
 
 def all_layouts(asked: Layout) -> list[Layout]:
@@ -213,6 +216,14 @@ def check_labels(sheet: Sheet, layout: Layout) -> None:
         raise fault
 
 
+def check_counting(sheet: Sheet, days: list[list[Cell]]) -> None:
+    """A second line or column of labels must not be taken for rates."""
+    for place, day in enumerate(days, 1):
+        if are_counting([cell.text for cell in day]):
+            raise sheet.bad(f"has rates of day {place} that count as labels do, from {printable(day[0].text)} on; "
+                            "one line or column of labels is read; rates that count must carry their unit in each cell")
+
+
 def commas_could_be_decimal(block: list[list[Cell]]) -> bool:
     """Whether pairs of cells between commas could as well be numbers with a decimal comma, as in 0,226 for one day."""
     return all(len(row) % 2 == 0 and all(re.fullmatch(r"[+-]?[0-9]+", whole.text) and re.fullmatch(r"[0-9]+\D*", rest.text)
@@ -227,15 +238,14 @@ def differences(layouts: list[Layout]) -> str:
 
 
 def shape_fault(sheet: Sheet, asked: Layout) -> str:
-    widths = [len(row.cells) for row in sheet.rows]
-    usual = Counter(widths[1:] or widths).most_common(1)[0][0]
-    odd = [row for row in sheet.rows[1:] if len(row.cells) != usual]
-    if odd:
-        return f"has {len(odd[0].cells)} cells in line {odd[0].line}, where most lines have {usual}"
+    usual = Counter(len(row.cells) for row in sheet.rows).most_common(1)[0][0]
+    for row in sheet.rows:
+        if len(row.cells) != usual:
+            return f"has {counted(len(row.cells), CELLS)} in line {row.line}, where most lines have {usual}"
     wanted = {"days": f"{TERMS} rates in each of 1 to {MOST_DAYS} lines, a line a day",
               "terms": f"{TERMS} lines of 1 to {MOST_DAYS} rates, a line a term"}
     hint = f"; if its commas are decimal marks, {COMMA_ADVICE}" if sheet.commas else ""
-    return (f"has {len(sheet.rows)} lines of {usual} cells; it must have "
+    return (f"has {counted(len(sheet.rows), LINES)} of {counted(usual, CELLS)}; it must have "
             + (wanted[asked.lines] if asked.lines else " or ".join(wanted.values()))
             + ", beside a header line (header = true) and a column of labels (labels = true)" + hint)
 
@@ -252,11 +262,11 @@ def flows_in(sheet: Sheet) -> list[Cell]:
     widths = {len(row.cells) for row in rows}
     if not widths <= {1} and not widths <= {2}:
         raise sheet.bad("must have in each line one flow, or a term and its flow; or all flows in one line"
-                        + (f". If its commas stand inside numbers, {COMMA_ADVICE}" if sheet.commas else ""))
+                        + (f"; if commas stand inside numbers, {COMMA_ADVICE}" if sheet.commas else ""))
     if widths == {2}:
         fault = wrong_label([sheet.cell(row, 0) for row in rows])
         if fault:
-            raise fault
+            raise Bad(f"{fault}; if commas stand inside numbers, {COMMA_ADVICE}") if sheet.commas else fault
         if sheet.commas and all(re.fullmatch("[0-9]{3}", row.cells[1]) for row in rows):
             raise sheet.bad(f"has commas only, which could stand between thousands; {COMMA_ADVICE}")
     elif re.fullmatch("(19|20)[0-9]{2}", rows[0].cells[0]):

@@ -1,0 +1,115 @@
+"""Changed and random texts, sheets and files give a case or an error with its sentences, and nothing else."""
+
+import random
+import sys
+import tempfile
+import unittest
+from collections import Counter
+from pathlib import Path
+
+ROOT = Path(__file__).resolve().parents[1]
+sys.path[:0] = [str(ROOT / "tools")]
+from casetext import Fault, Wrong, explain, from_toml, read, template, to_toml, warnings_of, write
+
+UP = read((ROOT / "hosts" / "vectors" / "up.case").read_bytes())
+DAYS = (ROOT / "examples" / "fund-days.csv").read_text("utf-8")
+FUND = (ROOT / "examples" / "fund.toml").read_text("utf-8")
+FLOWS = "term;flow\n1;31.415.927\n2;27182818\n3;€ 16.180.339,00\n"
+PIECES = ["", "0", "1", "-1", "25", "4.2", "1.000", "1,000", "1.000.000", "nan", "inf", "1e999999999", "0x" + "f" * 50, "9" * 60,
+          "true", "[]", "{}", "[[", '"', "'", '"""', "\\", "\\u0000", "#", "=", ",", ";", "\t", "\n", "\r", "\x00", "\x1b", "\ufeff",
+          "é", "€", "%", " %", '"25 %"', '"25"', '"1 step"', '"66 years 3 months"', '"5 euros"', "2025-01-02", "[days]",
+          "[flows]", "unit", "csv", "header = true\n", "labels = true\n", 'lines = "terms"\n', 'unit = "bp"\n', "1;2;3\n",
+          ";".join(map(str, range(1, 61))) + "\n", "term", "\u2212", "\u0663", "½", "\u2028"]
+
+
+def changed(rng, text):
+    """The text with up to four small changes."""
+    for _ in range(rng.randint(1, 4)):
+        at, end = sorted(rng.randrange(len(text) + 1) for _ in range(2))
+        kind = rng.randrange(5)
+        if kind == 0:
+            text = text[:at] + rng.choice(PIECES) + text[at:]
+        elif kind == 1:
+            text = text[:at] + rng.choice(PIECES) + text[min(end, at + rng.randint(1, 12)):]
+        elif kind == 2:
+            lines = text.split("\n")
+            place = rng.randrange(len(lines))
+            lines[place:place + 1] = rng.choice([[], [lines[place]] * 2, [rng.choice(lines)]])
+            text = "\n".join(lines)
+        elif kind == 3:
+            mark = rng.choice(".,;\"%= 0123456789")
+            text = text.replace(mark, rng.choice(PIECES), rng.randint(1, 3))
+        else:
+            text = text[:at] + chr(rng.randrange(0x250)) + text[at + 1:]
+    return text
+
+
+class Fuzz(unittest.TestCase):
+    def judge(self, text, folder=Path()):
+        """What becomes of a text: a case that is written and comes back, or faults of one line each."""
+        try:
+            case = from_toml(text, folder)
+        except Wrong as wrong:
+            self.assertTrue(wrong.faults)
+            for fault in wrong.faults:
+                self.assertTrue(fault.isprintable() and len(fault) < 2_000, fault)
+            return "wrong"
+        self.assertEqual(from_toml(to_toml(case)), case)
+        self.assertEqual(read(write(case)), case)
+        self.assertTrue(all(warning.isprintable() for warning in warnings_of(case)))
+        return "case"
+
+    def test_texts(self):
+        rng, seen = random.Random(31), Counter()
+        with tempfile.TemporaryDirectory() as name:
+            folder = Path(name)
+            (folder / "fund-days.csv").write_text(DAYS, "utf-8")
+            texts = [FUND, FUND, to_toml(UP), template()]
+            for _ in range(3_000):
+                seen[self.judge(changed(rng, rng.choice(texts)), folder)] += 1
+        self.assertGreater(seen["wrong"], 1_000)
+        self.assertGreater(seen["case"], 100)
+
+    def test_sheets(self):
+        rng, seen = random.Random(32), Counter()
+        text = FUND.replace("pension = [\n  31415927, 27182818, 16180339,\n]", 'pension_csv = "flows.csv"')
+        self.assertIn("pension_csv", text)
+        dutch = DAYS.replace(",", ";").replace(".", ",")
+        turned = "\n".join(";".join(row) for row in zip(*(line.split(";") for line in dutch.splitlines()))) + "\n"
+        with tempfile.TemporaryDirectory() as name:
+            folder = Path(name)
+            for _ in range(3_000):
+                encoding = rng.choice(["utf-8", "utf-8", "utf-8-sig", "utf-16"])
+                for file, sheets in (("fund-days.csv", [DAYS, dutch, turned]), ("flows.csv", [FLOWS])):
+                    sheet = rng.choice(sheets)
+                    sheet = changed(rng, sheet) if rng.random() < 0.6 else sheet
+                    (folder / file).write_bytes(sheet.encode(encoding, "replace"))
+                unit = rng.choice(['unit = "%"', 'unit = "%"', 'unit = "bp"', ""])
+                seen[self.judge(text.replace('unit = "%"', unit), folder)] += 1
+        self.assertGreater(seen["wrong"], 500)
+        self.assertGreater(seen["case"], 500)
+
+    def test_garbage(self):
+        rng = random.Random(33)
+        with tempfile.TemporaryDirectory() as name:
+            folder = Path(name)
+            for _ in range(2_000):
+                data = rng.randbytes(rng.choice([1, 3, 20, 300]))
+                (folder / "fund-days.csv").write_bytes(data)
+                self.judge(FUND, folder)
+                self.judge(data.decode("latin-1"))
+                self.judge("".join(rng.choice(PIECES) for _ in range(rng.randint(1, 30))), folder)
+                self.assertFalse(explain(data)[1])
+                with self.assertRaises(Fault):
+                    read(data)
+
+    def test_deep_and_long(self):
+        for text in ("a = " + "[" * 100_000, "a = " + "{b = " * 50_000, "a." * 20_000 + "b = 1", "[" * 100_000,
+                     "a = " + "[" * 90 + "]" * 90, "ufr = " + "[" * 300 + "]" * 300, "ufr = 0b" + "1" * 100_000,
+                     "ufr = 1." + "0" * 100_000, 'ufr = "' + "9" * 100_000 + ' %"', "\x00" * 1_000, "ufr = 1e" + "9" * 5_000,
+                     "x = 1\n" * 2, "\n".join(f"k{i} = 1" for i in range(3_000))):
+            self.assertEqual(self.judge(text), "wrong")
+
+
+if __name__ == "__main__":
+    unittest.main()

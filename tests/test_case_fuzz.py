@@ -78,7 +78,7 @@ class Fuzz(unittest.TestCase):
         turned = "\n".join(";".join(row) for row in zip(*(line.split(";") for line in dutch.splitlines()))) + "\n"
         with tempfile.TemporaryDirectory() as name:
             folder = Path(name)
-            for _ in range(3_000):
+            for _ in range(1_500):
                 encoding = rng.choice(["utf-8", "utf-8", "utf-8-sig", "utf-16"])
                 for file, sheets in (("fund-days.csv", [DAYS, dutch, turned]), ("flows.csv", [FLOWS])):
                     sheet = rng.choice(sheets)
@@ -87,13 +87,13 @@ class Fuzz(unittest.TestCase):
                 unit = rng.choice(['unit = "%"', 'unit = "%"', 'unit = "bp"', ""])
                 seen[self.judge(text.replace('unit = "%"', unit), folder)] += 1
         self.assertGreater(seen["wrong"], 500)
-        self.assertGreater(seen["case"], 500)
+        self.assertGreater(seen["case"], 100)
 
     def test_garbage(self):
         rng = random.Random(33)
         with tempfile.TemporaryDirectory() as name:
             folder = Path(name)
-            for _ in range(2_000):
+            for _ in range(1_500):
                 data = rng.randbytes(rng.choice([1, 3, 20, 300]))
                 (folder / "fund-days.csv").write_bytes(data)
                 self.judge(FUND, folder)
@@ -104,10 +104,11 @@ class Fuzz(unittest.TestCase):
                     read(data)
 
     def test_deep_and_long(self):
-        for text in ("a = " + "[" * 100_000, "a = " + "{b = " * 50_000, "a." * 20_000 + "b = 1", "[" * 100_000,
+        for text in ("a = " + "[" * 100_000, "a = " + "{b = " * 50_000, "a." * 130_000 + "b = 1", "a = {" + "1." * 130_000 + "b = 1}",
+                     "[" + '"a".' * 301 + "b]", "[" * 100_000,
                      "a = " + "[" * 90 + "]" * 90, "ufr = " + "[" * 300 + "]" * 300, "ufr = 0b" + "1" * 100_000,
                      "ufr = 1." + "0" * 100_000, 'ufr = "' + "9" * 100_000 + ' %"', "\x00" * 1_000, "ufr = 1e" + "9" * 5_000,
-                     "x = 1\n" * 2, "\n".join(f"k{i} = 1" for i in range(3_000))):
+                     "x = 1\n" * 2, "\n".join(f"k{i} = 1" for i in range(1_000))):
             self.assertEqual(self.judge(text), "wrong")
 
 

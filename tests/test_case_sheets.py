@@ -262,6 +262,8 @@ class Flows(Sheets):
                 ([["1", "2", "3"]] * 3, "must have in each line one flow, or a term and its flow"),
                 ([["1", "2", "4"], ["5", "6", "7"]], "labels must be the terms"),
                 ([["1", "2", "3"], ["5", "6"]], "has 3 cells in line 1, but 2 in line 2"),
+                ([["1"], ["2"], ["3"]], "has flows that count as terms do, from 1 on"),
+                ([["1", "2", "3"]], "has flows that count as terms do, from 1 on"),
                 ([["5"]] * 121, "has 121 flows; it must have 1 to 120")):
             self.bad(lines, words, end=";\n")
         self.bad([["1,234"], ["2,345"]], "has commas only, which could stand between thousands")

@@ -172,8 +172,19 @@ class Texts(unittest.TestCase):
             faults = self.faults(re.sub(r"rates = \[.*?\n\]", f"rates = {days}", TEXT, flags=re.DOTALL))
             self.assertEqual(faults, ["days.rates must be a list of 1 to 70 days, each a list of 60 rates"])
 
+    def test_largest_case(self):
+        """The largest case, also with all rates in one line and with all units, is within the limits of a text."""
+        case = read((ROOT / "hosts" / "vectors" / "largest.case").read_bytes())
+        text = to_toml(case)
+        self.assertEqual(from_toml(text), case)
+        rates = re.search(r"rates = \[.*?\n\]", text, re.DOTALL)[0]
+        days = [[f"{rate / 1_000:.3f} %" for rate in day] for day in case.days]
+        self.assertEqual(from_toml(text.replace(rates, f"rates = {days}")), case)
+        flows = str(["100.000.000 euros"] * 120)
+        self.assertEqual(from_toml(re.sub(r"pension = \[[^]]*\]", f"pension = {flows}", text)), case)
+
     def test_long_text(self):
-        self.assertIn("characters, more than", self.faults("#" * 1_000_001)[0])
+        self.assertIn("characters, more than", self.faults("#" * 300_001)[0])
 
     def test_examples(self):
         folder = ROOT / "examples"

@@ -1,6 +1,7 @@
 """A case in TOML to the case, with all faults of the text at once."""
 
 import difflib
+import re
 import tomllib
 from dataclasses import dataclass
 from pathlib import Path
@@ -11,7 +12,9 @@ from .sheets import Cell, Layout, days_in, flows_in, read_sheet
 from .units import COUNT, MONEY, RATE, Bad, Number, Unit, is_bare, printable, shown, whole
 
 MOST_SHOWN = 40  # faults in a message; the list has all
-LARGEST_TEXT = 1_000_000  # characters; the largest case takes less than 100,000
+LARGEST_TEXT = 300_000  # characters; the largest case takes less than 100,000
+MOST_POINTS = 300  # in a line outside decimals; the parser's memory grows with the square of the parts of a dotted key
+DECIMAL = re.compile(r"(?<![\w.])[0-9]+\.[0-9]+(?![\w.])")
 
 # The keys of each table; "" is the top.
 KEYS = {
@@ -51,6 +54,9 @@ def from_toml(text: str, folder: Path = Path()) -> Case:
 def parsed(text: str) -> dict:
     if len(text) > LARGEST_TEXT:
         raise Wrong([f"the text has {len(text):,} characters, more than {LARGEST_TEXT:,}"])
+    for place, line in enumerate(text.split("\n"), 1):
+        if line.count(".") > MOST_POINTS and DECIMAL.sub("", line).count(".") > MOST_POINTS:
+            raise Wrong([f"line {place} has more than {MOST_POINTS} points outside decimals"])
     try:
         return tomllib.loads(text.removeprefix("\ufeff"), parse_float=Bare)
     except RecursionError:

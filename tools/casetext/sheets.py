@@ -254,6 +254,13 @@ def shape_fault(sheet: Sheet, asked: Layout) -> str:
 
 def flows_in(sheet: Sheet) -> list[Cell]:
     """The cell of each term's flow: a line a term, the flow in its last cell, or all in one line; raises Bad."""
+    flows = flow_cells(sheet)
+    if are_counting([flow.text for flow in flows]):
+        raise sheet.bad(f"has flows that count as terms do, from {printable(flows[0].text)} on; write the flows behind them")
+    return flows
+
+
+def flow_cells(sheet: Sheet) -> list[Cell]:
     rows = sheet.rows[1:] if len(sheet.rows) > 1 and is_text(sheet.rows[0].cells) else sheet.rows
     if len(rows) == 2 and len(rows[0].cells) > 2:
         return flows_below_terms(sheet, *rows)

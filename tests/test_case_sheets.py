@@ -175,6 +175,12 @@ class Days(Sheets):
             for lines in ([["title"], TERMS, *cells], labelled([term + "Y" for term in TERMS], labelled(TERMS, columns(cells)))):
                 for more in ("", "\nheader = true" if lines[0] == ["title"] else "\nlabels = true"):
                     self.bad(lines, "has rates of day 1 that count as labels do, from 1 on", keys + more)
+        for days in (2, 3):  # numbers of days above or before 59 rates are no rates either
+            numbers = [str(day) for day in range(1, days + 1)]
+            for unit, cells in (("%", PERCENT), ("bp", BP), ("steps", STEPS)):
+                self.good([numbers, *columns(cells[:days])], f'unit = "{unit}"', CASE.days[:days])
+                self.bad([numbers, *columns(cells[:days])[1:]], "it must have 60 rates in each", f'unit = "{unit}"')
+                self.bad(labelled(numbers, [day[1:] for day in cells[:days]]), "it must have 60 rates in", f'unit = "{unit}"')
         counting = [[str(100 + int(term)) for term in TERMS]]
         days = [[1_000 + 10 * int(term) for term in TERMS]]
         self.bad([["title"], *counting], "has rates of day 1 that count", 'unit = "bp"')

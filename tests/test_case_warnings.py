@@ -89,12 +89,14 @@ class Warnings(unittest.TestCase):
         self.warned(none)
         self.warned(replace(none, bonds=None), "flows.bonds and amounts.cash together is 0 euros, below 1 euro")
         self.warned(replace(none, bonds=[0, 0]), "flows.bonds and amounts.cash together is 0 euros, below 1 euro")
-        self.warned(replace(none, bonds=[1]))
+        self.warned(replace(none, bonds=[10 ** 6]))
         heads = FUND.people["heads"]
 
         def paying(pension, assets, heads=heads):
-            amounts = dict.fromkeys(FUND.amounts, 0) | {"cash": assets - 5, "currency": 10 ** 11}
-            return replace(FUND, pension=[pension], bonds=[2, 3], amounts=amounts, people=FUND.people | {"heads": heads})
+            part = assets // 3
+            amounts = dict.fromkeys(FUND.amounts, 0) | {"cash": assets - part, "currency": 10 ** 11}
+            flows = [min(part, 10 ** 8)] * (part // 10 ** 8) + [part % 10 ** 8]
+            return replace(FUND, pension=[pension], bonds=flows, amounts=amounts, people=FUND.people | {"heads": heads})
         self.warned(paying(1_000 * heads, 1_000 * heads))
         self.warned(paying(1_000 * heads - 1, 1_000 * heads), "the sum of flows.pension is 999 euros a head, below 1,000 euros a "
                     "head; were thousands of euros typed for euros?")
@@ -104,6 +106,18 @@ class Warnings(unittest.TestCase):
         self.warned(paying(10 ** 8, 10 ** 9))
         self.warned(paying(10 ** 8, 10 ** 9 + 1), sum_of + "about 10 times the sum of flows.pension, above 10 times")
         self.warned(paying(0, 10 ** 9), "the sum of flows.pension is 0 euros a head")
+
+    def test_thousands_in_one_place(self):
+        """Bonds or amounts in thousands of euros, the other one in euros."""
+        amounts = {name: value // 1_000 for name, value in FUND.amounts.items()}
+        self.warned(replace(FUND, amounts=amounts), "the sum of amounts without currency is about 0.0")
+        bonds = [flow // 1_000 for flow in FUND.bonds]
+        self.warned(replace(FUND, bonds=bonds), "the sum of flows.bonds is about 0.0")
+        for bonds, cash, key in ((1_000, 10 ** 6, None), (999, 10 ** 6, "the sum of flows.bonds is 0.000999 times"),
+                                 (10 ** 6, 1_000, None), (10 ** 6, 999, "the sum of amounts without currency is 0.000999 times")):
+            case = replace(FUND, pension=[10 ** 6], bonds=[bonds], amounts=dict.fromkeys(FUND.amounts, 0) | {"cash": cash},
+                           people=FUND.people | {"heads": 1})
+            self.warned(case, *([key] if key else []))
 
     def test_amounts_absent(self):
         case = replace(FUND, amounts=None)
@@ -117,7 +131,7 @@ class Warnings(unittest.TestCase):
                        amounts=dict.fromkeys(FUND.amounts, 10 ** 11) | {"cash": 0})
         self.assertEqual(from_toml(to_toml(case)), case)
         self.assertEqual(read(write(case)), case)
-        self.assertEqual(len(warnings_of(case)), len(TABLE) - 1)  # no rate is both near 0 and above 8 %
+        self.assertEqual(len(warnings_of(case)), len(TABLE) - 3)  # rates near 0 are not above 8 %, and there is much else
 
     def test_table(self):
         self.assertEqual(len({row.key for row in TABLE}), len(TABLE))

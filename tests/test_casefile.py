@@ -200,7 +200,7 @@ class CommandLine(unittest.TestCase):
         self.assertEqual((status, out), (1, b""))
         self.assertIn("refused, 1", said)
         status, out, said = self.run_tool("encode", "-", given=b"\x80\x00garbage")
-        self.assertEqual((status, out, said), (1, b"", "-: this is no TOML: it is no UTF-8 at byte 0\n"))
+        self.assertEqual((status, out, said), (1, b"", "-: this is no TOML: it is no text in UTF-8 from byte 0 on\n"))
 
     def test_unreadable(self):
         for name in ("no such file", str(HERE), "/dev/zero"):

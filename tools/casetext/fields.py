@@ -64,7 +64,8 @@ class Forward:
     def __str__(self) -> str:
         least, most = FORWARD_LIMITS
         t, n = self.term, self.days
-        return (f"the one-year forward rate from year {t - 1} to year {t} is {six_decimals(Fraction(self.growth, 1_000 * n))} %; "
+        percent = six_decimals(Fraction(self.growth, 1_000 * n))
+        return (f"the one-year forward rate from year {t - 1} to year {t} is {percent} %; "
                 f"it must be {least // 1_000} % to {most // 1_000} %: with s(t) the sum of term t's rates over the days, "
                 f"{t} × s({t}) - {t - 1} × s({t - 1}) is {self.growth:,} steps; "
                 f"it must be {least * n:,} to {most * n:,}, for n = {n}")

@@ -14,6 +14,7 @@ from .units import COUNT, MONEY, RATE, Bad, Number, Unit, is_bare, printable, sh
 MOST_SHOWN = 40  # faults in a message; the list has all
 LARGEST_TEXT = 300_000  # characters; the largest case takes less than 100,000
 MOST_POINTS = 300  # in a line outside decimals; the parser's memory grows with the square of the parts of a dotted key
+LONG = 10 ** 30  # Python has a limit of digits, but none for hexadecimal ones
 DECIMAL = re.compile(r"(?<![\w.])[0-9]+\.[0-9]+(?![\w.])")
 
 # The keys of each table; "" is the top.
@@ -25,8 +26,6 @@ KEYS = {
     "shocks": [number.name for number in SHOCK_NUMBERS],
     "people": [number.name for number in PEOPLE_NUMBERS],
 }
-
-
 TABLES = [name for name in KEYS if name]
 UNIT_ADVICE = 'unit = "%", "bp" or "steps"'
 
@@ -80,31 +79,36 @@ def likely(table: str, key: str) -> str | None:
 
 
 def bare_text(value: object) -> str | None:
-    """A bare number as text; None for anything else. Hexadecimal has no limit of digits."""
+    """A bare number as text; None for anything else."""
     if isinstance(value, Bare):
         return value.text
     if isinstance(value, int) and not isinstance(value, bool):
-        return str(value) if abs(value) < 10 ** 30 else hex(value)
+        return str(value) if abs(value) < LONG else hex(value)
     return None
 
 
+def in_sentence(value: object) -> str:
+    if isinstance(value, str):
+        return f'"{printable(value)}"'
+    if isinstance(value, bool):
+        return str(value).lower()
+    return printable(bare_text(value) or "no number")
+
+
 def quantity(value: object, number: Number, default: Unit | None = None) -> int:
-    """A value of the text as the file counts it; raises Bad."""
+    """A value of the text as the file counts it; raises Bad. The default unit is of a text that has none."""
+    may_be_bare = number.kind in (COUNT, MONEY)
     if value == "":
         raise Bad(f"is empty; {number.advice}")
     if isinstance(value, str) and number.kind is not COUNT:
         return whole(value, number, default)
-    text = bare_text(value)
-    if number.kind in (COUNT, MONEY) and isinstance(value, int) and text:
+    if may_be_bare and isinstance(value, int) and not isinstance(value, bool):
         if not number.least <= value <= number.most:
-            raise Bad(f"is {f'{value:,}' if abs(value) < 10 ** 30 else printable(text)}; it must be {number.limits}")
+            raise Bad(f"is {f'{value:,}' if abs(value) < LONG else in_sentence(value)}; it must be {number.limits}")
         return value
-    if text and default:
-        return whole(text, number, default)
-    if text and number.kind not in (COUNT, MONEY):
-        raise Bad(f"is {printable(text)} without a unit; {number.advice}")
-    said = printable(text or repr(value)) if text or isinstance(value, (str, bool)) else "no number"
-    raise Bad(f"is {said}; {number.advice}")
+    if bare_text(value) and not may_be_bare:
+        raise Bad(f"is {in_sentence(value)} without a unit; {number.advice}")
+    raise Bad(f"is {in_sentence(value)}; {number.advice}")
 
 
 class Text:

@@ -7,8 +7,6 @@ from typing import Callable
 from .fields import PEOPLE_NUMBERS, SHOCK_NUMBERS, Case
 from .units import MONEY, RATE, Kind, shown, six_decimals
 
-KINDS = {number.name: number.kind for number in SHOCK_NUMBERS + PEOPLE_NUMBERS}
-
 
 @dataclass(frozen=True)
 class Threshold:
@@ -35,22 +33,23 @@ def amount(case: Case, name: str) -> int:
     return case.amounts[name] if case.amounts else 0
 
 
-def shock_of(name: str, held: str) -> Callable[[Case], int | None]:
-    """A shock, where the case holds some of the amount that it applies to."""
-    return lambda case: case.shocks[name] if amount(case, held) else None
-
-
 def mean_rates(case: Case) -> list[Fraction]:
     return [Fraction(sum(rates), len(case.days)) for rates in zip(*case.days)]
 
 
-def assets(case: Case) -> int:
-    return sum(case.bonds or []) + sum(value for name, value in (case.amounts or {}).items() if name != "currency")
+def bonds(case: Case) -> int:
+    return sum(case.bonds or [])
 
 
-def assets_to_pensions(case: Case) -> Fraction | None:
+def amounts(case: Case) -> int:
+    """All amounts that are assets; the currency exposure is none."""
+    return sum(value for name, value in (case.amounts or {}).items() if name != "currency")
+
+
+def to_pensions(money: int, case: Case) -> Fraction | None:
+    """So much money to the sum of the pension flows."""
     pensions = sum(case.pension)
-    return Fraction(assets(case), pensions) if pensions else None
+    return Fraction(money, pensions) if pensions else None
 
 
 # ---------------------------------------------------------------- how they are shown
@@ -80,18 +79,19 @@ EURO_SLIP = "were thousands of euros typed for euros?"
 
 
 def below(name: str, least: int, slip: str, held: str | None = None) -> Threshold:
-    """A row for a shock or for a number of people, in the file's own unit."""
-    table = "shocks" if name in {number.name for number in SHOCK_NUMBERS} else "people"
-    value = shock_of(name, held) if held else lambda case: getattr(case, table)[name]
-    return Threshold(f"{table}.{name}", value, plain(KINDS[name]), slip, least=least)
+    """A row for a shock or an age, in the file's own unit; for a shock of an asset only where the case holds some of it."""
+    [(table, kind)] = [(table, number.kind) for table, numbers in (("shocks", SHOCK_NUMBERS), ("people", PEOPLE_NUMBERS))
+                       for number in numbers if number.name == name]
+    return Threshold(f"{table}.{name}", lambda case: getattr(case, table)[name] if not held or amount(case, held) else None,
+                     plain(kind), slip, least=least)
 
 
 TABLE = [
     Threshold("ufr", lambda case: case.ufr, plain(RATE), "was it typed in another unit?", least=500),
     Threshold("the lowest mean rate of a term in days", lambda case: min(mean_rates(case)), mean_percent,
               "were the rates typed in another unit?", most=8_000),
-    Threshold("the mean rate of a term in days that is farthest from 0", lambda case: max(map(abs, mean_rates(case))), mean_percent,
-              "were fractions typed as percentages?", least=100),
+    Threshold("the mean rate of a term in days that is farthest from 0", lambda case: max(map(abs, mean_rates(case))),
+              mean_percent, "were fractions typed as percentages?", least=100),
     below("up_shift", 100, SHIFT_SLIP),
     below("down_shift", 100, SHIFT_SLIP),
     below("mature_fall", 50, PERCENT_SLIP, "mature"),
@@ -109,11 +109,18 @@ TABLE = [
     below("mean_age", 180, AGE_SLIP),
     Threshold("people.pension_age less people.mean_age", lambda case: case.people["pension_age"] - case.people["mean_age"],
               lambda months: f"{months} months", "were the two ages swapped?", least=0),
-    Threshold("flows.bonds and amounts.cash together", lambda case: sum(case.bonds or []) + amount(case, "cash"),
-              plain(MONEY), "were flows.bonds and amounts.cash left out?", least=1),
+    Threshold("flows.bonds and amounts.cash together", lambda case: bonds(case) + amount(case, "cash"),
+              plain(MONEY), "were they left out?", least=1),
     Threshold("the sum of flows.pension", lambda case: Fraction(sum(case.pension), case.people["heads"]),
               euros_a_head, EURO_SLIP, least=1_000),
-    Threshold("the sum of flows.bonds and of amounts without currency", assets_to_pensions, times_pensions, EURO_SLIP, least=Fraction(1, 10), most=10),
+    Threshold("the sum of flows.bonds and of amounts without currency",
+              lambda case: to_pensions(bonds(case) + amounts(case), case), times_pensions, EURO_SLIP,
+              least=Fraction(1, 10), most=10),
+    # One of the two in thousands of euros can hide behind the other.
+    Threshold("the sum of flows.bonds", lambda case: to_pensions(bonds(case), case) or None, times_pensions, EURO_SLIP,
+              least=Fraction(1, 1_000)),
+    Threshold("the sum of amounts without currency", lambda case: to_pensions(amounts(case), case) or None, times_pensions,
+              EURO_SLIP, least=Fraction(1, 1_000)),
 ]
 
 

@@ -117,8 +117,13 @@ def are_counting(cells: list[str]) -> bool:
             or sorted(values) == list(range(1, len(values) + 1)))
 
 
+def are_numbered(cells: list[str]) -> bool:
+    """Whether the cells are 1, 2, 3, ... and more than one."""
+    return len(cells) > 1 and [whole_number(cell) for cell in cells] == list(range(1, len(cells) + 1))
+
+
 def are_terms(cells: list[str]) -> bool:
-    return [whole_number(cell) for cell in cells] == list(range(1, TERMS + 1))
+    return len(cells) == TERMS and are_numbered(cells)
 
 
 def wrong_label(labels: list[Cell]) -> Bad | None:
@@ -164,10 +169,10 @@ def days_in(sheet: Sheet, asked: Layout, could_be_rates: Callable[[list[str]], b
 
 
 def all_layouts(asked: Layout) -> list[Layout]:
-    def choices(said, every):
-        return [said] if said is not None else every
-    return [Layout(*chosen) for chosen in product(choices(asked.lines, ["days", "terms"]),
-                                                  choices(asked.header, [False, True]), choices(asked.labels, [False, True]))]
+    """Every layout that agrees with what the text says."""
+    every = [Layout(*chosen) for chosen in product(("days", "terms"), (False, True), (False, True))]
+    return [layout for layout in every if asked.lines in (None, layout.lines) and asked.header in (None, layout.header)
+            and asked.labels in (None, layout.labels)]
 
 
 def fits(sheet: Sheet, layout: Layout, asked: Layout, could_be_rates: Callable[[list[str]], bool]) -> bool:
@@ -187,11 +192,14 @@ def fits(sheet: Sheet, layout: Layout, asked: Layout, could_be_rates: Callable[[
 
 
 def may_be_rates(cells: list[str], could_be_rates: Callable[[list[str]], bool]) -> bool:
-    return not is_text(cells) and (not are_counting(cells) or could_be_rates(cells))
+    """Not words, nor the numbers of the days; numbers that count may be rates if they are within the limits of one."""
+    if is_text(cells) or are_numbered(cells) and not are_terms(cells):
+        return False
+    return not are_counting(cells) or could_be_rates(cells)
 
 
 def may_be_header(cells: list[str], by_day: bool) -> bool:
-    return is_text(cells) or are_counting(cells) and (by_day or not are_terms(cells))
+    return is_text(cells) or (are_counting(cells) or are_numbered(cells)) and (by_day or not are_terms(cells))
 
 
 def may_be_labels(cells: list[str], by_day: bool) -> bool:
@@ -199,7 +207,7 @@ def may_be_labels(cells: list[str], by_day: bool) -> bool:
         return are_counting(cells) or is_text(cells) and all(term_in(cell) is not None for cell in cells)
     if is_text(cells):  # dates or names, but not the word "date" above dates, which is part of a header
         return len({bool(re.search("[0-9]", cell)) for cell in cells}) == 1
-    return are_counting(cells) and not are_terms(cells)
+    return (are_counting(cells) or are_numbered(cells)) and not are_terms(cells)
 
 
 def check_labels(sheet: Sheet, layout: Layout) -> None:

@@ -5,9 +5,13 @@ import random
 import subprocess
 import sys
 import tempfile
+import tomllib
 import unittest
 from collections import Counter
+from importlib.machinery import SourceFileLoader
+from importlib.util import module_from_spec, spec_from_loader
 from pathlib import Path
+from unittest import mock
 
 HERE = Path(__file__).resolve().parent
 ROOT = HERE.parent
@@ -105,7 +109,10 @@ class Files(unittest.TestCase):
 
     def test_forward_rates(self):
         """The shown rate is exact, or never looks like a limit that it exceeds."""
-        self.assertEqual(forwards_out_of_limits([[0] + [6_000] * 59]), [])
+        for days in ([[0] + [6_000] * 59], [[0] + [-1_000] * 59]):  # exactly 12 % and -2 %
+            self.assertEqual(forwards_out_of_limits(days), [])
+        [found] = forwards_out_of_limits([[1] + [-1_000] * 59])
+        self.assertIn("from year 1 to year 2 is -2.001 %; it must be -2 % to 12 %", str(found))
         [found] = forwards_out_of_limits([[0] + [6_001] * 59])
         self.assertIn("from year 1 to year 2 is 12.002 %; it must be -2 % to 12 %", str(found))
         for n in range(1, 71):
@@ -142,15 +149,15 @@ class Explained(unittest.TestCase):
 
     def test_general_sentences(self):
         """Each refusal has its specific sentence and then the general one of hosts/words.toml."""
-        words = (ROOT / "hosts" / "words.toml").read_text("utf-8")
+        words = tomllib.loads((ROOT / "hosts" / "words.toml").read_text("utf-8"))
+        sentences = {row["number"]: row["sentence"] for row in words["refusal"]}
         for number in range(1, 13):
             data = (ROOT / "hosts" / "vectors" / f"refused_{number:02}.case").read_bytes()
             text, good = explain(data)
             *_, specific, general = text.splitlines()
             self.assertFalse(good)
             self.assertTrue(specific.startswith(f"refused, {number}, at byte "))
-            self.assertTrue(general.startswith(f"refusal {number}: "))
-            self.assertIn(f'sentence = "{general.removeprefix(f"refusal {number}: ")}"\n', words)
+            self.assertEqual(general, f"refusal {number}: {sentences[number]}")
 
 
 class CommandLine(unittest.TestCase):
@@ -248,6 +255,19 @@ class CommandLine(unittest.TestCase):
             self.assertEqual(self.run_tool("decode", str(out), "-o", str(text)), (0, b"", ""))
             self.assertEqual(text.read_text("utf-8"), to_toml(read(UP)))
             self.assertEqual(sorted(os.listdir(folder)), ["a.case", "a.toml", "link"])
+
+    def test_failed_replacement(self):
+        """A result that cannot take its place leaves the old one, and no temporary file."""
+        loader = SourceFileLoader("casefile", str(TOOL))  # the tool is a command without a suffix
+        casefile = module_from_spec(spec_from_loader("casefile", loader))
+        loader.exec_module(casefile)
+        with tempfile.TemporaryDirectory() as folder:
+            out = Path(folder, "a.case")
+            out.write_bytes(UP)
+            for step in ("os.replace", "os.fchmod"):
+                with mock.patch(step, side_effect=OSError("no")), self.assertRaises(casefile.Unusable):
+                    casefile.write_output(str(out), FUND)
+                self.assertEqual((os.listdir(folder), out.read_bytes()), (["a.case"], UP))
 
 
 if __name__ == "__main__":

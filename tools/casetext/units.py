@@ -138,7 +138,7 @@ def magnitude(digits: str, marks_are_decimal: bool) -> Fraction | None:
     if one:
         raise Bad("could be read in two ways; write the number without separators between thousands")
     groups = GROUPS.fullmatch(digits)
-    if marks_are_decimal or not groups or groups[3] and digits[-len(groups[3]) - 1] == groups[2][0]:
+    if not groups or groups[3] and digits[-len(groups[3]) - 1] == groups[2][0]:
         return None
     thousands = int(groups[1] + re.sub("[.,]", "", groups[2]))
     return thousands + Fraction(int(groups[3] or 0), 10 ** len(groups[3] or ""))

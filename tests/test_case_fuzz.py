@@ -1,6 +1,7 @@
 """Changed and random texts, sheets and files give a case or an error with its sentences, and nothing else."""
 
 import random
+import re
 import sys
 import tempfile
 import unittest
@@ -11,9 +12,9 @@ ROOT = Path(__file__).resolve().parents[1]
 sys.path[:0] = [str(ROOT / "tools")]
 from casetext import Fault, Wrong, explain, from_toml, read, template, to_toml, warnings_of, write
 
-UP = read((ROOT / "hosts" / "vectors" / "up.case").read_bytes())
-DAYS = (ROOT / "examples" / "fund-days.csv").read_text("utf-8")
-FUND = (ROOT / "examples" / "fund.toml").read_text("utf-8")
+UP = read((ROOT / "cases" / "up.case").read_bytes())
+DAYS = (ROOT / "cases" / "fund-days.csv").read_text("utf-8")
+FUND = (ROOT / "cases" / "fund.toml").read_text("utf-8")
 FLOWS = "term;flow\n1;31.415.927\n2;27182818\n3;€ 16.180.339,00\n"
 PIECES = ["", "0", "1", "-1", "25", "4.2", "1.000", "1,000", "1.000.000", "nan", "inf", "1e999999999", "0x" + "f" * 50, "9" * 60,
           "true", "[]", "{}", "[[", '"', "'", '"""', "\\", "\\u0000", "#", "=", ",", ";", "\t", "\n", "\r", "\x00", "\x1b", "\ufeff",
@@ -72,15 +73,15 @@ class Fuzz(unittest.TestCase):
 
     def test_sheets(self):
         rng, seen = random.Random(32), Counter()
-        text = FUND.replace("pension = [\n  31415927, 27182818, 16180339,\n]", 'pension_csv = "flows.csv"')
-        self.assertIn("pension_csv", text)
-        dutch = DAYS.replace(",", ";").replace(".", ",")
-        turned = "\n".join(";".join(row) for row in zip(*(line.split(";") for line in dutch.splitlines()))) + "\n"
+        text, lists = re.subn(r"pension = \[[^]]*\]", 'pension_csv = "flows.csv"', FUND)
+        self.assertEqual(lists, 1)
+        english = DAYS.replace(",", ".").replace(";", ",")
+        turned = "\n".join(";".join(row) for row in zip(*(line.split(";") for line in DAYS.splitlines()))) + "\n"
         with tempfile.TemporaryDirectory() as name:
             folder = Path(name)
             for _ in range(1_500):
                 encoding = rng.choice(["utf-8", "utf-8", "utf-8-sig", "utf-16"])
-                for file, sheets in (("fund-days.csv", [DAYS, dutch, turned]), ("flows.csv", [FLOWS])):
+                for file, sheets in (("fund-days.csv", [DAYS, english, turned]), ("flows.csv", [FLOWS])):
                     sheet = rng.choice(sheets)
                     sheet = changed(rng, sheet) if rng.random() < 0.6 else sheet
                     (folder / file).write_bytes(sheet.encode(encoding, "replace"))

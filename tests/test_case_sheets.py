@@ -9,7 +9,7 @@ ROOT = Path(__file__).resolve().parents[1]
 sys.path[:0] = [str(ROOT / "tools")]
 from casetext import Wrong, from_toml, read, to_toml
 
-CASE = read((ROOT / "hosts" / "vectors" / "up.case").read_bytes())
+CASE = read((ROOT / "cases" / "up.case").read_bytes())
 TEXT = to_toml(CASE)
 BEFORE, AFTER = TEXT[:TEXT.index('unit = "%"')], TEXT[TEXT.index("[flows]"):]
 TERMS = [str(term) for term in range(1, 61)]

@@ -10,8 +10,8 @@ sys.path[:0] = [str(ROOT / "tools")]
 from casetext import Wrong, from_toml, read, template, to_toml, write
 from casetext.parsing import KEYS, MOST_SHOWN
 
-FUND = (ROOT / "samples" / "fund.case").read_bytes()
-UP = (ROOT / "hosts" / "vectors" / "up.case").read_bytes()
+FUND = (ROOT / "cases" / "fund.case").read_bytes()
+UP = (ROOT / "cases" / "up.case").read_bytes()
 TEXT = to_toml(read(UP))
 
 
@@ -174,7 +174,7 @@ class Texts(unittest.TestCase):
 
     def test_largest_case(self):
         """The largest case, also with all rates in one line and with all units, is within the limits of a text."""
-        case = read((ROOT / "hosts" / "vectors" / "largest.case").read_bytes())
+        case = read((ROOT / "cases" / "largest.case").read_bytes())
         text = to_toml(case)
         self.assertEqual(from_toml(text), case)
         rates = re.search(r"rates = \[.*?\n\]", text, re.DOTALL)[0]
@@ -187,9 +187,11 @@ class Texts(unittest.TestCase):
         self.assertIn("characters, more than", self.faults("#" * 300_001)[0])
 
     def test_examples(self):
-        folder = ROOT / "examples"
-        files = {path.name: write(from_toml(path.read_text("utf-8"), folder)) for path in folder.glob("*.toml")}
-        self.assertEqual(files, {"c1.toml": (ROOT / "samples" / "c1.case").read_bytes(), "fund.toml": UP})
+        folder = ROOT / "cases"
+        texts = sorted(folder.glob("*.toml"))
+        self.assertGreater(len(texts), 12)
+        for path in texts:
+            self.assertEqual(write(from_toml(path.read_text("utf-8"), folder)), path.with_suffix(".case").read_bytes(), path)
 
 
 class Template(unittest.TestCase):

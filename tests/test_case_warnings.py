@@ -11,8 +11,8 @@ sys.path[:0] = [str(ROOT / "tools")]
 from casetext import from_toml, read, to_toml, warnings_of, write
 from casetext.plausible import TABLE
 
-FUND = read((ROOT / "samples" / "fund.case").read_bytes())
-UP = read((ROOT / "hosts" / "vectors" / "up.case").read_bytes())
+FUND = read((ROOT / "cases" / "fund.case").read_bytes())
+UP = read((ROOT / "cases" / "up.case").read_bytes())
 FALLS = {f"{name}_fall": name for name in ("mature", "emerging", "private", "property", "currency", "commodities")}
 
 

@@ -25,7 +25,7 @@ from casetext.fields import forwards_out_of_limits
 
 C1 = reference.encode(examples.c1(), False, False, True)
 UP = reference.encode(examples.up(), True, True, True)
-FUND = (ROOT / "samples" / "fund.case").read_bytes()
+FUND = (ROOT / "cases" / "fund.case").read_bytes()
 STEEP = C1[:121] + b"\x01\x00" + C1[123:]  # rate 256 at term 60, behind zeros: refused with 6
 
 
@@ -152,7 +152,7 @@ class Explained(unittest.TestCase):
         words = tomllib.loads((ROOT / "hosts" / "words.toml").read_text("utf-8"))
         sentences = {row["number"]: row["sentence"] for row in words["refusal"]}
         for number in range(1, 13):
-            data = (ROOT / "hosts" / "vectors" / f"refused_{number:02}.case").read_bytes()
+            data = (ROOT / "cases" / f"refused_{number:02}.case").read_bytes()
             text, good = explain(data)
             *_, specific, general = text.splitlines()
             self.assertFalse(good)
@@ -197,7 +197,7 @@ class CommandLine(unittest.TestCase):
         said = "".join(f"warning: {warning}\n" for warning in warnings_of(read(C1)))
         self.assertEqual(self.run_tool("decode", "-", given=C1), (0, to_toml(read(C1)).encode(), said))
         self.assertEqual(self.run_tool("explain", "-", given=C1), (0, explain(C1)[0].encode(), said))
-        self.assertEqual(self.run_tool("encode", str(ROOT / "examples" / "c1.toml")), (0, C1, said))
+        self.assertEqual(self.run_tool("encode", str(ROOT / "cases" / "c1.toml")), (0, C1, said))
 
     def test_refused(self):
         status, out, _ = self.run_tool("explain", os.devnull)
@@ -221,7 +221,7 @@ class CommandLine(unittest.TestCase):
 
     def test_lost_output(self):
         """Output that is lost is 2, and so are warnings that are lost."""
-        sample = ROOT / "samples" / "fund.case"
+        sample = ROOT / "cases" / "fund.case"
         for line in ('"$@" >/dev/full', '"$@" >&-', '"$@" -o /dev/full'):
             self.assertEqual(self.shell(line, "decode", sample)[0], 2, line)
         nobody, pipe = os.pipe()
@@ -230,7 +230,7 @@ class CommandLine(unittest.TestCase):
         os.close(pipe)
         self.assertEqual((run.returncode, run.stderr.count(b"\n")), (2, 1), run.stderr)
         self.assertEqual(self.shell('"$@" >/dev/full', "--help")[0], 2)
-        self.assertEqual(self.shell('"$@" >/dev/null 2>&-', "decode", ROOT / "samples" / "c1.case")[0], 2)
+        self.assertEqual(self.shell('"$@" >/dev/null 2>&-', "decode", ROOT / "cases" / "c1.case")[0], 2)
 
     def test_output_whole_or_not_at_all(self):
         with tempfile.TemporaryDirectory() as folder:

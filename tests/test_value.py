@@ -308,8 +308,68 @@ class Several(Checkout):
             self.assertEqual((row["refusal"], row["verdict"]), ("", verdict))
 
 
+class Texts(Checkout):
+    def setUp(self):
+        super().setUp()
+        for name in ("fund.toml", "fund-days.csv", "fund.case"):
+            shutil.copy(ROOT / "cases" / name, self.folder)
+        self.text, self.listing = self.folder / "fund.toml", (ROOT / "cases/fund.txt").read_bytes()
+        self.value(self.c1)
+
+    def edit(self, old, new):
+        text = self.text.read_text()
+        self.assertEqual(text.count(old), 1)
+        self.text.write_text(text.replace(old, new))
+
+    def test_listing(self):
+        run = self.value(self.text)
+        self.assertEqual((run.returncode, run.stdout, run.stderr), (0, self.listing, b""))
+        other = self.text.rename(self.folder / "fund.text")
+        self.assertEqual(self.value(other).stdout, b"R 3\n")  # text under any other name is bytes like all others
+        self.assertEqual(self.value("--toml", other).stdout, self.listing)
+        run = self.value("--toml", "-", input=other.read_bytes(), cwd=self.folder)
+        self.assertEqual((run.returncode, run.stdout), (0, self.listing))
+
+    def test_the_slip_that_turned_a_verdict(self):
+        """25 for 25 %: without its unit it is an error, and in thousandths it is warned of."""
+        self.edit('mature_fall = "25 %"', "mature_fall = 25")
+        self.assertNoAnswer(self.value(self.text), "shocks.mature_fall is 25 without a unit")
+        self.edit("mature_fall = 25", 'mature_fall = "25 thousandths"')
+        run = self.value(self.text)
+        self.assertEqual(run.returncode, 0)
+        self.assertNotEqual(run.stdout, self.listing)
+        self.assertIn(b"fund.toml: warning: shocks.mature_fall is 2.5 %, below 5 %", run.stderr)
+
+    def test_no_case(self):
+        self.edit('unit = "%"', 'unit = "promille"')
+        self.edit("heads = 4180", "head = 4180")
+        run = self.value(self.text, self.c1)
+        self.assertEqual(run.returncode, 2)
+        said = run.stderr.decode()
+        self.assertTrue("days.unit" in said and "people.head is no key of a case; did you mean people.heads?" in said, said)
+        self.text.write_bytes(b"\x80\x00")
+        self.assertNoAnswer(self.value(self.text), "no TOML")
+
+    def test_json(self):
+        row = json.loads(self.value("--json", self.text).stdout)["valuations"][0]
+        self.assertEqual(row["sha256"], hashlib.sha256(self.text.read_bytes()).hexdigest())
+        self.assertEqual(row["case_sha256"], hashlib.sha256((self.folder / "fund.case").read_bytes()).hexdigest())
+        self.assertEqual((row["verdict"], row["warnings"]), ("RESERVETEKORT", []))
+
+
 class Repository(unittest.TestCase):
     """./value of the repository itself."""
+
+    def test_examples(self):
+        """Every example is valued or refused as the text beside it says, alone and all at once."""
+        files = sorted((ROOT / "cases").glob("*.case"))
+        blocks = [file.name + "\n" + file.with_suffix(".txt").read_text() for file in files]
+        run = subprocess.run([ROOT / "value", *(file.name for file in files)], cwd=ROOT / "cases", capture_output=True, text=True)
+        self.assertEqual((run.returncode, run.stdout), (1, "\n".join(blocks)))
+        for file in files:
+            run = subprocess.run([ROOT / "value", file], capture_output=True, text=True)
+            expected = file.with_suffix(".txt").read_text()
+            self.assertEqual((run.returncode, run.stdout), (int(expected.startswith("R")), expected), file.name)
 
     def test_a_call_costs_little(self):
         """A call on a built tree stays near the bare program's time: no proving, no Python. docs/DECISIONS.md has the ratio."""

@@ -45,6 +45,14 @@ class Bare:
     text: str
 
 
+def decoded(data: bytes) -> str:
+    """The text of TOML, which is UTF-8; UTF-16 is known by its byte order mark."""
+    try:
+        return data.decode("utf-16" if data.startswith((b"\xff\xfe", b"\xfe\xff")) else "utf-8-sig")
+    except UnicodeDecodeError as error:
+        raise Wrong([f"this is no TOML: it is no text in UTF-8 from byte {error.start} on"]) from None
+
+
 def from_toml(text: str, folder: Path = Path()) -> Case:
     """The case in a TOML text; CSV files that it names are looked for in the folder. Raises Wrong."""
     return Text(parsed(text), folder).case()

@@ -1,4 +1,4 @@
-//! Calls with buffers and files of every kind, and the stored vectors of hosts/vectors, whose numbers are those of
+//! Calls with buffers and files of every kind, and the example files of cases/, whose numbers are those of
 //! tests/reference.py.
 use ginghamowl::{
     listing, rates_part, refusal, refusal_sentence, value, value_into, verdict_word, window_point, Bracket, Judged,
@@ -7,8 +7,9 @@ use ginghamowl::{
 use std::fs;
 use std::path::PathBuf;
 
-fn vectors() -> Vec<(String, Vec<u8>, String)> {
-    let folder = PathBuf::from(env!("CARGO_MANIFEST_DIR")).join("../vectors");
+/// Name, bytes, and listing and curve of each example.
+fn cases() -> Vec<(String, Vec<u8>, String)> {
+    let folder = PathBuf::from(env!("CARGO_MANIFEST_DIR")).join("../../cases");
     let mut names: Vec<PathBuf> = fs::read_dir(folder)
         .unwrap()
         .map(|entry| entry.unwrap().path())
@@ -18,17 +19,18 @@ fn vectors() -> Vec<(String, Vec<u8>, String)> {
     names
         .into_iter()
         .map(|path| {
-            let expected = fs::read_to_string(path.with_extension("txt")).unwrap();
+            let text = |end| fs::read_to_string(path.with_extension(end)).unwrap();
+            let expected = text("txt") + &text("curve");
             (path.file_stem().unwrap().to_str().unwrap().to_owned(), fs::read(&path).unwrap(), expected)
         })
         .collect()
 }
 
 fn file(name: &str) -> Vec<u8> {
-    vectors().into_iter().find(|vector| vector.0 == name).unwrap().1
+    cases().into_iter().find(|case| case.0 == name).unwrap().1
 }
 
-/// What the vectors' texts have: document 01's listing, then the curve (F and Z) and the rates' part (P).
+/// What stands beside an example: document 01's listing, then the curve (F and Z) and the rates' part (P).
 fn text_of(file: &[u8]) -> String {
     let answer = value(file);
     let mut text = listing(answer.as_ref().map(|v| v.judged()).map_err(|refusal| *refusal));
@@ -49,8 +51,8 @@ fn text_of(file: &[u8]) -> String {
 }
 
 #[test]
-fn stored_vectors() {
-    let all = vectors();
+fn stored_cases() {
+    let all = cases();
     assert!(all.len() >= 16);
     for (name, file, expected) in all {
         assert_eq!(text_of(&file), expected, "{name}");
@@ -135,7 +137,7 @@ fn words_and_version() {
     );
     assert_eq!((verdict_word(3), verdict_word(5)), ("VRIJ VERMOGEN", "no verdict has this number"));
     assert!(Verdict::Onbeslist.sentence().starts_with("undecided: "));
-    assert_eq!(vectors().iter().map(|vector| vector.1.len()).max(), Some(FILE_BYTES));
+    assert_eq!(cases().iter().map(|case| case.1.len()).max(), Some(FILE_BYTES));
 }
 
 #[test]

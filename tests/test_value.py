@@ -235,8 +235,7 @@ class Statuses(Checkout):
             self.program(f"#!/bin/sh\ncat > /dev/null\n{script}\n")
             self.write("crates.txt", script)
             self.assertEqual(self.value("--json", self.c1).returncode, 2, script)
-            if "V VRIJ" not in script:  # a listing that is cut in its last word: the several-file form looks closer
-                self.assertNoAnswer(self.value(self.c1), "no answer")
+            self.assertNoAnswer(self.value(self.c1), "no answer")
 
     def test_lost_output(self):
         self.value(self.c1)
@@ -291,7 +290,7 @@ class Several(Checkout):
                 self.assertIn("forward rate", row["refusal_sentence"])
                 continue
             figures, verdict = self.figures(name)
-            self.assertEqual({key: (ends["lower"], ends["upper"]) for key, ends in row["figures"].items()}, figures)
+            self.assertEqual({key: tuple(ends) for key, ends in row["figures"].items()}, figures)
             self.assertEqual((row["refusal"], row["verdict"]), (None, verdict))
 
     def test_csv(self):

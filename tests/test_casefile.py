@@ -232,6 +232,19 @@ class CommandLine(unittest.TestCase):
         self.assertEqual(self.shell('"$@" >/dev/full', "--help")[0], 2)
         self.assertEqual(self.shell('"$@" >/dev/null 2>&-', "decode", ROOT / "cases" / "c1.case")[0], 2)
 
+    def test_output_that_is_an_input(self):
+        """Neither the text nor a sheet that it names is written over, under no name."""
+        with tempfile.TemporaryDirectory() as folder:
+            for name in ("fund.toml", "fund-days.csv"):
+                Path(folder, name).write_bytes((ROOT / "cases" / name).read_bytes())
+                os.link(Path(folder, name), Path(folder, name + ".link"))
+            before = {path.name: path.read_bytes() for path in Path(folder).iterdir()}
+            for name in before:
+                found = self.run_tool("encode", str(Path(folder, "fund.toml")), "-o", str(Path(folder, name)))
+                self.assertEqual(found[:2], (2, b""), name)
+                self.assertIn("is read for this, so it cannot be written too", found[2])
+            self.assertEqual({path.name: path.read_bytes() for path in Path(folder).iterdir()}, before)
+
     def test_output_whole_or_not_at_all(self):
         with tempfile.TemporaryDirectory() as folder:
             text, out, link = Path(folder, "a.toml"), Path(folder, "a.case"), Path(folder, "link")

@@ -3,9 +3,9 @@
 from .explaining import explain
 from .fields import Case
 from .filebytes import Fault, Part, Reader, read, refusal, write
-from .parsing import Wrong, decoded, from_toml
+from .parsing import Wrong, decoded, from_toml, sheets_of
 from .plausible import warnings_of
 from .printing import template, to_toml
 
-__all__ = ["Case", "Fault", "Part", "Reader", "Wrong", "decoded", "explain", "from_toml", "read", "refusal", "template", "to_toml",
-           "warnings_of", "write"]
+__all__ = ["Case", "Fault", "Part", "Reader", "Wrong", "decoded", "explain", "from_toml", "read", "refusal", "sheets_of",
+           "template", "to_toml", "warnings_of", "write"]

@@ -58,6 +58,12 @@ def from_toml(text: str, folder: Path = Path()) -> Case:
     return Text(parsed(text), folder).case()
 
 
+def sheets_of(text: str) -> list[str]:
+    """The names of the CSV files that a TOML text, which holds a case, names."""
+    tables = parsed(text)
+    return [name for table in ("days", "flows") for key, name in tables[table].items() if key.endswith("csv")]
+
+
 def parsed(text: str) -> dict:
     if len(text) > LARGEST_TEXT:
         raise Wrong([f"the text has {len(text):,} characters, more than {LARGEST_TEXT:,}"])
@@ -78,6 +84,7 @@ def dotted(table: str, key: str) -> str:
 
 def likely(table: str, key: str) -> str | None:
     """The key that was likely meant: one of the same table, or else one of another."""
+    key = key.casefold()
     same = difflib.get_close_matches(key, KEYS[table] + ([] if table else TABLES), 1)
     if same:
         return dotted(table, same[0])

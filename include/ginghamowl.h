@@ -65,8 +65,7 @@ enum {
 /* hosts/words writes: refusals */
 enum {
     GINGHAMOWL_ACCEPTED = 0,
-    /* the file ends inside the map or inside a field whose bit is set; the map and each such
-     * field must be whole */
+    /* the file is too short; its map, and each field that the map announces, must be whole */
     GINGHAMOWL_REFUSED_ENDS_EARLY = 1,
     /* bytes follow the last field; the file must end there */
     GINGHAMOWL_REFUSED_BYTES_FOLLOW = 2,

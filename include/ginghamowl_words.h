@@ -9,8 +9,8 @@ static inline const char *ginghamowl_refusal_sentence(unsigned number)
 {
     switch (number) {
     case GINGHAMOWL_REFUSED_ENDS_EARLY:
-        return "the file ends inside the map or inside a field whose bit is set; the map and each "
-               "such field must be whole";
+        return "the file is too short; its map, and each field that the map announces, must be "
+               "whole";
     case GINGHAMOWL_REFUSED_BYTES_FOLLOW:
         return "bytes follow the last field; the file must end there";
     case GINGHAMOWL_REFUSED_MAP:

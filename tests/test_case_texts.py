@@ -135,6 +135,7 @@ class Texts(unittest.TestCase):
     def test_unknown_keys(self):
         for old, new, words in (
                 ("[shocks]", "[shoks]", "shoks is no key of a case; did you mean shocks?"),
+                ("ufr = ", "UFR = ", "UFR is no key of a case; did you mean ufr?"),
                 ("heads =", "head =", "people.head is no key of a case; did you mean people.heads?"),
                 ("mean_age =", "meanage =", "did you mean people.mean_age?"),
                 ("heads =", 'ufr = "4 %"\nheads =', "people.ufr is no key of a case; did you mean ufr?"),

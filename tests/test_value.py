@@ -10,6 +10,7 @@ import io
 import json
 import os
 import shutil
+import signal
 import subprocess
 import sys
 import tempfile
@@ -154,6 +155,38 @@ class Proved(Checkout):
         self.order("edits")
         self.assertNoAnswer(self.value(self.c1), "the sources changed while they were proved")
 
+    def test_sources_behind_links(self):
+        other = self.folder / "elsewhere.rt"
+        other.write_text("one")
+        (self.root / "crates/a/src/lib.rt").unlink()
+        (self.root / "crates/a/src/lib.rt").symlink_to(other)
+        self.assertAnswers(self.value(self.c1), 1)
+        other.write_text("two")
+        self.assertAnswers(self.value(self.c1), 2)
+
+    def test_an_input_that_is_read_once(self):
+        """A pipe is not drained by a program whose answer is then thrown away."""
+        self.value(self.c1)
+        for count, words in enumerate((("/dev/stdin",), ("-",), ("--csv", "-")), 2):
+            self.write("crates.txt", f"edit {count}")
+            run = self.value(*words, input=C1)
+            self.assertEqual((run.returncode, self.calls()), (0, count), run.stderr)
+            self.assertIn(b"110000000", run.stdout)
+
+    def test_interrupted(self):
+        """An interrupt ends the check, and the next call proves anew."""
+        self.order("slow")
+        run = subprocess.Popen([self.root / "value", self.c1], stdout=subprocess.PIPE, stderr=subprocess.PIPE,
+                               env=self.environment(), start_new_session=True)
+        while not self.calls():
+            time.sleep(0.01)
+        os.killpg(run.pid, signal.SIGINT)
+        out, _ = run.communicate()
+        self.assertNotIn(run.returncode, (0, 1))
+        self.assertEqual(out, b"")
+        self.assertFalse((self.root / "target/value/proved").exists())
+        self.assertAnswers(self.value(self.c1), 2)
+
     def test_first_calls_at_once(self):
         self.order("slow")
         runs = [subprocess.Popen([self.root / "value", self.c1], stdout=subprocess.PIPE, stderr=subprocess.PIPE,
@@ -174,6 +207,26 @@ class Places(Checkout):
         self.assertAnswers(self.value("../c1.case", program="./value", cwd=self.root), 1)
         self.assertAnswers(self.value("value", "../c1.case", program="sh", cwd=self.root), 1)
         self.assertIn(VERSION.encode(), self.value("--version", program=near).stdout)
+
+    def test_other_folders_of_the_same_name(self):
+        """CDPATH names a folder with a checkout of the same name, which is not proved."""
+        other = self.folder / "others"
+        shutil.copytree(self.root, other / "checkout")
+        self.program("#!/bin/sh\necho 'R 9'\n")
+        self.value(self.c1, program=other / "checkout" / "value")
+        self.program(f"#!/bin/sh\nexec {ROOT}/target/bin/valuation\n")
+        for word in (str(other), f"{other}:.", ".:/"):
+            run = self.value("c1.case", program="checkout/value", cwd=self.folder, env=self.environment() | {"CDPATH": word})
+            self.assertAnswers(run, 2)
+
+    def test_without_its_parts(self):
+        for name in ("tools/proved.sh", "tools/report"):
+            (self.root / name).rename(self.root / "gone")
+            words = ["--json", self.c1] if name == "tools/report" else [self.c1]
+            for shell in ([], ["sh"], ["bash"], ["bash", "--posix"]):
+                run = subprocess.run([*shell, self.root / "value", *words], capture_output=True, env=self.environment())
+                self.assertEqual((run.returncode, run.stdout), (2, b""), (name, shell))
+            (self.root / "gone").rename(self.root / name)
 
     def as_reader(self, *words, **options):
         """A call by someone who may read the checkout and write nothing there."""
@@ -229,9 +282,25 @@ class Statuses(Checkout):
         self.addCleanup(os.close, folder)
         self.assertNoAnswer(self.value("-", stdin=folder), "could not be read to its end")
         self.assertNoAnswer(self.value("--json", "-", stdin=folder), "")
+        self.assertNoAnswer(self.value("--json", "-", "-", input=C1), "only once")
+        self.assertNoAnswer(self.value("--toml", "/dev/zero"), "has more than")
+
+    def test_an_input_that_does_not_wait(self):
+        """What came before the input had no more bytes is not the file."""
+        self.value(self.c1)
+        for data in (b"", C1[:100]):
+            for words in (["-"], ["--csv", "-"]):
+                end, start = os.pipe()
+                os.set_blocking(end, False)
+                os.write(start, data)
+                run = self.value(*words, stdin=end)
+                os.close(end)
+                os.close(start)
+                self.assertEqual(run.returncode, 2, words)
+                self.assertNotIn(b"R 1", run.stdout)
 
     def test_a_program_that_breaks_off(self):
-        for script in ("echo 'L 1 1'", "printf 'R'", "exit 3", "kill -9 $$", "printf 'L 1 1\nV VRIJ'", "echo 'X'"):
+        for script in ("echo 'L 1 1'", "printf 'R'", "exit 3", "echo 'R 3'; exit 3", "kill -9 $$", "printf 'L 1 1\nV VRIJ'", "echo 'X'"):
             self.program(f"#!/bin/sh\ncat > /dev/null\n{script}\n")
             self.write("crates.txt", script)
             self.assertEqual(self.value("--json", self.c1).returncode, 2, script)
@@ -338,6 +407,15 @@ class Texts(Checkout):
         self.assertEqual(run.returncode, 0)
         self.assertNotEqual(run.stdout, self.listing)
         self.assertIn(b"fund.toml: warning: shocks.mature_fall is 2.5 %, below 5 %", run.stderr)
+
+    def test_standard_error_closed(self):
+        """Warnings go nowhere then, and never to standard output."""
+        self.edit('mature_fall = "25 %"', 'mature_fall = "25 thousandths"')
+        for words in ([self.text], ["--json", self.text]):
+            run = subprocess.run(["sh", "-c", '"$0" "$@" 2>&-', self.root / "value", *words], env=self.environment(),
+                                 stdout=subprocess.PIPE)
+            self.assertEqual(run.returncode, 0)
+            self.assertTrue(run.stdout.startswith((b"L ", b"{\n")), run.stdout)
 
     def test_no_case(self):
         self.edit('unit = "%"', 'unit = "promille"')

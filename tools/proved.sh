@@ -6,9 +6,9 @@
 kept=$root/target/value
 program=$kept/valuation
 
-# The names of all that the check may read, from the root on. A name in a crate has no blank in it.
+# The names of all that the check may read, from the root on, behind links too. A name in a crate has no blank in it.
 sources() {
-  (cd "$root" && find crates.txt crates -type f ! -path '*/must-fail/*' | LC_ALL=C sort)
+  (cd "$root" && find -L crates.txt crates -type f ! -path '*/must-fail/*' | LC_ALL=C sort)
 }
 
 # Checksum, length and name of each file that standard input names.
@@ -47,7 +47,8 @@ show_progress() { # PID
 check_once() {
   rm -f "$kept/proved" "$root"/target/log/*.res
   before=$(sources | checksums)
-  (cd "$root" && exec rt check valuation) > "$kept/log" 2>&1 < /dev/null 9<&- &
+  (cd "$root" && exec rt check valuation) > "$kept/log" 2>&1 < /dev/null & # it keeps the lock for as long as it runs
+  trap "kill $! 2> /dev/null; exit 2" INT TERM HUP
   show_progress $!
   if ! wait $!; then
     tail -n 20 "$kept/log" >&2
@@ -68,7 +69,7 @@ prove() {
     return 2
   fi
   (
-    flock 9
+    flock 9 || exit 2
     is_proved && exit 0
     echo 'value: proving and building the program, which takes a few minutes the first time' >&2
     tries=0

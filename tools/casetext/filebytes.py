@@ -34,7 +34,7 @@ class Reader:
         end = self.at + length
         if end > len(self.data):
             raise Fault(1, len(self.data), f"the file ends here, but its {field} would end with byte {end - 1}; "
-                                           "the map and each field whose bit stands must be whole")
+                                           "the map, and each field that it announces, must be whole")
 
     def take(self, length: int) -> int:
         self.at += length

@@ -47,12 +47,15 @@ def answered() -> tuple[int, str]:
 
 def contents(path: str) -> bytes:
     """The file, or as much of it as decides the refusal."""
-    if path != "-":
-        with open(path, "rb") as file:
-            return file.read(FILE_BYTES + 1)
-    if sys.stdin is None:
+    if path == "-" and sys.stdin is None:
         raise OSError("standard input is closed")
-    return sys.stdin.buffer.read(FILE_BYTES + 1)
+    data = b""
+    with open(0 if path == "-" else path, "rb", buffering=0, closefd=path != "-") as file:
+        while part := file.read(FILE_BYTES + 1 - len(data)):
+            data += part
+    if part is None:
+        raise OSError(f"{path} does not wait for its bytes, and has not come to its end")
+    return data
 
 
 def write(stream: TextIO | None, text: str) -> bool:

@@ -134,7 +134,7 @@ class Package(unittest.TestCase):
                 replace(valuation, factors=(Bracket(1, 1),) * count).window_point(1)
 
     def test_refused(self):
-        with self.assertRaisesRegex(Refused, "^refused, 1: the file ends inside the map") as caught:
+        with self.assertRaisesRegex(Refused, "^refused, 1: the file is too short") as caught:
             ginghamowl.value(b"")
         self.assertEqual(pickle.loads(pickle.dumps(caught.exception)).number, 1)
         self.assertEqual(ginghamowl.refusal(bytes(ginghamowl.FILE_BYTES + 1)), 3)

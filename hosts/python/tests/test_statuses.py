@@ -85,6 +85,14 @@ class Statuses:
             self.assertEqual(self.run_program("-", stdin=file).returncode, 0)
         run = self.run_program("-", redirected="<&-")
         self.assertEqual((run.returncode, run.stdout), (2, b""))
+        for data in (b"", ACCEPTED.read_bytes()[:100]):  # a pipe that does not wait for the rest
+            reader, writer = os.pipe()
+            os.set_blocking(reader, False)
+            os.write(writer, data)
+            run = self.run_program("-", stdin=reader)
+            os.close(reader)
+            os.close(writer)
+            self.assertEqual((run.returncode, run.stdout), (2, b""))
 
 
 class CExample(Statuses, unittest.TestCase):

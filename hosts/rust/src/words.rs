@@ -5,7 +5,7 @@
 #[rustfmt::skip]
 pub fn refusal_sentence(number: u8) -> &'static str {
     match number {
-        1 => "the file ends inside the map or inside a field whose bit is set; the map and each such field must be whole",
+        1 => "the file is too short; its map, and each field that the map announces, must be whole",
         2 => "bytes follow the last field; the file must end there",
         3 => "the map has a wrong bit; bits 1, 2, 5 and 6 must be set, and bits 7 to 15 must not",
         4 => "the number of days is out of limits; it must be 1 to 70",

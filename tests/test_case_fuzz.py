@@ -15,7 +15,8 @@ from casetext import Fault, Wrong, explain, from_toml, read, template, to_toml, 
 UP = read((ROOT / "cases" / "up.case").read_bytes())
 DAYS = (ROOT / "cases" / "fund-days.csv").read_text("utf-8")
 FUND = (ROOT / "cases" / "fund.toml").read_text("utf-8")
-FLOWS = "term;flow\n1;31.415.927\n2;27182818\n3;€ 16.180.339,00\n"
+FLOWS = ["term;flow\n1;31.415.927\n2;27182818\n3;€ 16.180.339,00\n", "1;2;3\n31.415.927;27182818;€ 16.180.339,00\n",
+         "jaar,1,2\nflow,31415927,27182818\n"]
 PIECES = ["", "0", "1", "-1", "25", "4.2", "1.000", "1,000", "1.000.000", "nan", "inf", "1e999999999", "0x" + "f" * 50, "9" * 60,
           "true", "[]", "{}", "[[", '"', "'", '"""', "\\", "\\u0000", "#", "=", ",", ";", "\t", "\n", "\r", "\x00", "\x1b", "\ufeff",
           "é", "€", "%", " %", '"25 %"', '"25"', '"1 step"', '"66 years 3 months"', '"5 euros"', "2025-01-02", "[days]",
@@ -80,15 +81,19 @@ class Fuzz(unittest.TestCase):
         with tempfile.TemporaryDirectory() as name:
             folder = Path(name)
             for _ in range(1_500):
-                encoding = rng.choice(["utf-8", "utf-8", "utf-8-sig", "utf-16"])
-                for file, sheets in (("fund-days.csv", [DAYS, english, turned]), ("flows.csv", [FLOWS])):
+                encoding, touched = rng.choice(["utf-8", "utf-8", "utf-8-sig", "utf-16"]), False
+                for file, sheets in (("fund-days.csv", [DAYS, english, turned]), ("flows.csv", FLOWS)):
                     sheet = rng.choice(sheets)
-                    sheet = changed(rng, sheet) if rng.random() < 0.6 else sheet
-                    (folder / file).write_bytes(sheet.encode(encoding, "replace"))
-                unit = rng.choice(['unit = "%"', 'unit = "%"', 'unit = "bp"', ""])
-                seen[self.judge(text.replace('unit = "%"', unit), folder)] += 1
-        self.assertGreater(seen["wrong"], 500)
-        self.assertGreater(seen["case"], 100)
+                    new = changed(rng, sheet) if rng.random() < 0.6 else sheet
+                    touched |= new != sheet
+                    (folder / file).write_bytes(new.encode(encoding, "replace"))
+                unit = rng.choice(['unit = "%"', 'unit = "%"', 'unit = "%"', 'unit = "bp"', ""])
+                seen[self.judge(text.replace('unit = "%"', unit), folder), touched, "%" in unit] += 1
+        self.assertEqual(seen["wrong", False, True], 0)
+        self.assertGreater(seen["case", False, True], 100)
+        self.assertGreater(seen["case", True, True], 10)
+        self.assertGreater(seen["wrong", True, True], 500)
+        self.assertEqual(seen["case", False, False], 0)
 
     def test_garbage(self):
         rng = random.Random(33)

@@ -1,4 +1,7 @@
-"""CSV files as spreadsheets write them, of days and of flows. What could be read in two ways is never guessed."""
+"""CSV files as spreadsheets write them, of days and of flows.
+
+Terms, dates and numbers of days are recognised as labels. All else must be said, and what could be read in two ways is refused.
+"""
 
 import sys
 import tempfile
@@ -86,7 +89,7 @@ class Days(Sheets):
         self.assertEqual(from_toml(self.text('unit = "%"'), self.folder).days, CASE.days)
         self.good([[f'"{cell}"' for cell in line] for line in COMMA], between=",")
         self.good([["sep=;"], *COMMA])
-        self.good(labelled(["één", *DATES], [["terme " + term for term in TERMS], *COMMA]), encoding="cp1252")
+        self.good(labelled(["één", *DATES], [[term + " jaar" for term in TERMS], *COMMA]), encoding="cp1252")
         self.good(labelled(['"a\nb"', *DATES], [TERMS, *COMMA]), end="\r\n")
 
     def test_cells_with_units(self):
@@ -102,17 +105,82 @@ class Days(Sheets):
 
     def test_header_and_labels(self):
         for cells in (PERCENT, COMMA):
+            for days in (DATES, ["1", "2", "3"]):
+                self.good(labelled(days, cells))
+                self.good([days, *columns(cells)])
+                for corner in ("", "date", "2012", "1", "03-09-2012", "-"):
+                    self.good(labelled([corner, *days], [TERMS, *cells]))
+                    self.good(labelled([corner, *TERMS], [days, *columns(cells)]))
             self.good([TERMS, *cells])
-            self.good(labelled(DATES, cells))
-            self.good(labelled(["date", *DATES], [TERMS, *cells]))
-            self.good(labelled(["", *DATES], [[term + " jaar" for term in TERMS], *cells]))
-            self.good([DATES, *columns(cells)])
             self.good(labelled(TERMS, columns(cells)))
-            self.good(labelled([term + ",0" for term in TERMS], columns(cells)))
-            self.good(labelled(["term", *TERMS], [DATES, *columns(cells)]))
-            self.good(labelled(["term", *TERMS], [["rate"] * 3, *columns(cells)]))
-        self.good(labelled(["45658", "45659", "45660"], PERCENT))  # dates as a spreadsheet counts them
         self.good(labelled(["date", *DATES], [TERMS, *BP]), 'unit = "bp"')
+        for day in DATES:  # one day; a lone 1 could be a rate
+            self.good(labelled([day], PERCENT[:1]), days=CASE.days[:1])
+            self.good([[day], *columns(PERCENT[:1])], days=CASE.days[:1])
+        self.bad(labelled(["1"], PERCENT[:1]), "has 1 line of 61 cells")
+        self.bad([["1"], *columns(PERCENT[:1])], "has 61 lines of 1 cell")
+
+    def test_terms_as_labels(self):
+        for word in ("", ",0", ".0", "y", "Y", " yr", "yrs", " Year", " years", "j", "J.", " jr.", "jr", " jaar", "JAAR", " jaren"):
+            labels = [term + word for term in TERMS]
+            self.good([labels, *PERCENT])
+            self.good(labelled(labels, columns(PERCENT)))
+            self.good(labelled(["", *labels], [DATES, *columns(PERCENT)]))
+        for form in ("{}M", "{} maand", "{}e kwartaal", "t-{}", "{},5 jaar", "{}/12", "{}e jaar", "year {}", "{} jaar t/m", "({})"):
+            labels = [form.format(term) for term in TERMS]
+            for lines in ([labels, *PERCENT], labelled(labels, columns(PERCENT))):
+                self.bad(lines, f'days.csv, line 1, cell 1 of sheet.csv, is "{labels[0]}"', count=60)
+            self.bad(labelled(["", *DATES], [labels, *PERCENT]), "has 4 lines of 61 cells")
+            for lines, keys in (([labels, *PERCENT], "header = true"), (labelled(labels, columns(PERCENT)), "labels = true")):
+                self.bad(lines, f'has at line 1, cell 1 of sheet.csv, "{labels[0]}" where the term 1 must stand', f'unit = "%"\n{keys}')
+
+    def test_dates(self):
+        for good in ("2012-09-{:02}", "{:02}-09-2012", "{}/9/2012", "{}.9.2012", "201209{:02}", "{}-9-12", "{:02}.09.12", "2012/9/{}"):
+            dates = [good.format(day) for day in (3, 4, 28)]
+            self.good(labelled(dates, PERCENT))
+            self.good([dates, *columns(PERCENT)])
+        for bad in ("2012-13-{:02}", "{:02}-09-3012", "9/{}/2012/1", "{}.9-2012", "2012{:02}", "dag {}", "4115{}", "{} sep", "3{}-09-2012",
+                    "2012-W{}", "{}:00", "0,{}", "", "-", "2012-09-{} x"):
+            dates = [bad.format(day) for day in (3, 4, 28)]
+            self.bad(labelled(dates, PERCENT), "has 3 lines of 61 cells; it must have 60 rates in each")
+            self.bad([["x" + date for date in dates], *columns(PERCENT)], "has 61 lines of 3 cells; it must have 60 rates in each")
+            self.good(labelled(dates, PERCENT), 'unit = "%"\nlabels = true')
+            self.good([["x" + date for date in dates], *columns(PERCENT)], 'unit = "%"\nheader = true')
+        words = "where a date must stand, another than those before it"
+        self.bad(labelled([DATES[0], DATES[1], DATES[1]], PERCENT), f'has at line 3, cell 1 of sheet.csv, "{DATES[1]}" {words}')
+        self.bad([[DATES[0], DATES[0], DATES[1]], *columns(PERCENT)], f'has at line 1, cell 2 of sheet.csv, "{DATES[0]}" {words}')
+        for other in ("Gemiddelde", "Stdev 2012", "", "31-02"):
+            self.bad(labelled([*DATES, other], [*PERCENT, PERCENT[0]]), f'has at line 4, cell 1 of sheet.csv, "{other}" {words}')
+            self.bad(labelled(["", *DATES, other], [TERMS, *PERCENT, PERCENT[0]]), f'has at line 5, cell 1 of sheet.csv, "{other}"')
+            if other:
+                self.bad([[*DATES, other], *columns([*PERCENT, PERCENT[0]])], f'line 1, cell 4 of sheet.csv, "{other}" {words}')
+        self.bad([DATES + ["07-01-2025"], *columns(PERCENT)], "has 4 cells in line 1, where most lines have 3")
+
+    def test_said(self):
+        """What is said to be labels may be anything; over the terms, anything without a digit, or the terms."""
+        for label in ("rente", "-", "#N/A", ""):
+            self.good([[label] * 59 + ["x"], *PERCENT], 'unit = "%"\nheader = true')
+            self.good(labelled([label] * 60, columns(PERCENT)), 'unit = "%"\nlabels = true')
+            self.good(labelled([label] * 3, PERCENT), 'unit = "%"\nlabels = true')
+            self.good(labelled(["x", *DATES], [[label] * 59 + ["x"], *PERCENT]), 'unit = "%"\nheader = true')
+        self.good([["title"], *PERCENT], 'unit = "%"\nheader = true')
+        words = labelled(["", *DATES], [["rente"] * 60, *PERCENT])
+        for keys in ("", "\nheader = false"):
+            self.bad(words, "has 4 lines of 61 cells", 'unit = "%"' + keys)
+        self.bad(words, 'line 1, cell 2 of sheet.csv, is "rente"', 'unit = "%"\nlabels = true', count=60)
+        self.bad([["title 2012"], *PERCENT], '"title 2012" where the term 1 must stand', 'unit = "%"\nheader = true')
+        self.bad([["rente"] * 59 + ["60"], *PERCENT], '"rente" where the term 1 must stand', 'unit = "%"\nheader = true')
+
+    def test_first_of_rates(self):
+        """A first line or column that is no labels is rates; what is no number in it is an error by its place."""
+        for cell in ("-", "#N/A", "n/a", "rente", "x"):
+            for lines, place in (([[cell] * 60, *PERCENT], "line 1, cell 2"), ([[cell] * 3, *columns(PERCENT)[1:]], "line 1, cell 2"),
+                                 (labelled([cell] * 3, [day[1:] for day in PERCENT]), "line 2, cell 1"),
+                                 (labelled([cell] * 60, columns(PERCENT)), "line 2, cell 1")):
+                self.put(lines)
+                faults = self.faults(self.text('unit = "%"'))
+                self.assertEqual(faults[1].split("; ")[0], f'days.csv, {place} of sheet.csv, is "{cell}"')
+                self.assertEqual(len(faults), sum(line.count(cell) for line in lines))
 
     def test_rates_or_labels(self):
         """Where 1, 2, 3, ... could be rates, the text must say."""
@@ -129,24 +197,59 @@ class Days(Sheets):
 
     def test_labels_in_order(self):
         for wrong, at in ((TERMS[::-1], 1), (["0", *TERMS[:-1]], 1), ([*TERMS[1:], "61"], 1), ([*TERMS[:30], *TERMS[31:], "61"], 31),
-                          (sorted(TERMS), 2), ([str(12 * int(term)) for term in TERMS], 1)):
-            words = f"labels must be the terms 1, 2, 3, ... in order, here {at}"
-            self.bad(labelled(wrong, columns(PERCENT)), words)
-            self.bad([wrong, *PERCENT], words)
-            self.bad(labelled([term + "Y" for term in wrong], columns(PERCENT)), words)
-            self.bad(labelled(wrong, columns(BP)), "write labels = true or false", 'unit = "bp"')
-            self.bad(labelled(wrong, columns(BP)), words, 'unit = "bp"\nlabels = true')
+                          (sorted(TERMS), 2), ([str(12 * int(term)) for term in TERMS], 1), ([str(2012 + int(term)) for term in TERMS], 1),
+                          (["-" + term for term in TERMS], 1), (["ON", *TERMS[:-1]], 1),
+                          (["0,5", *TERMS[:-1]], 1), ([*TERMS[:-1], "gemiddelde"], 60)):
+            for labels in (wrong, [label + "Y" if label.isdigit() else label for label in wrong]):
+                words = f"where the term {at} must stand"
+                for unit, cells in (("%", PERCENT), ("bp", BP), ("steps", STEPS)):
+                    for lines, key in (([labels, *cells], "header"), (labelled(labels, columns(cells)), "labels")):
+                        self.bad(lines, "has rates of day 1 that count as labels do, from ", f'unit = "{unit}"')
+                        self.bad(lines, words, f'unit = "{unit}"\n{key} = true')
+                    self.bad(labelled(["", *DATES], [labels, *cells]), words, f'unit = "{unit}"')
+                    self.bad(labelled(["", *labels], [DATES, *columns(cells)]), words, f'unit = "{unit}"')
+
+    def test_more_or_fewer_terms(self):
+        dates = [f"2025-{1 + day // 28:02}-{1 + day % 28:02}" for day in range(60)]
+        for labels in (["0", *TERMS], [*TERMS, "61", "62", "63", "64", "65"], TERMS[:59]):
+            for days in (DATES, dates):
+                rates = [["0.5"] * len(labels) for _ in days]
+                for word in (" jaar",) if labels == TERMS[:59] else ("", " jaar"):  # 1 to 59 are numbers of days too
+                    named = [label + word for label in labels]
+                    for lines in (labelled(["", *days], [named, *rates]), labelled(["", *named], [days, *columns(rates)]),
+                                  [named, *rates], labelled(named, columns(rates)), labelled(days, rates), [days, *columns(rates)]):
+                        self.put(lines)
+                        self.faults(self.text('unit = "%"'))
+        self.bad(labelled(["", *TERMS, "61"], [dates, *[["0.5"] * 60] * 61]), "has 62 lines of 61 cells")
 
     def test_orientation(self):
-        square = [[f"{0.5 + 0.001 * term + 0.002 * day:.3f}" for term in range(60)] for day in range(60)]
-        days = [[500 + term + 2 * day for term in range(60)] for day in range(60)]
-        self.bad(square, 'could be read in 2 ways; write lines = "days" or "terms" (what a line is) in [days]')
-        self.good(square, 'unit = "%"\nlines = "days"', days)
-        self.good(square, 'unit = "%"\nlines = "terms"', columns(days))
-        self.good([TERMS, *square], days=days)
-        self.good(labelled(TERMS, square), days=columns(days))
-        self.good(labelled([f"2025-01-{day}" for day in range(60)], square), days=days)
-        self.bad(PERCENT, "it must have 60 lines of 1 to 70 rates, a line a term", 'unit = "%"\nlines = "terms"')
+        square = [[f"{0.5 + 0.001 * term + 0.002 * day:.3f}" for term in range(60)] for day in range(65)]
+        days = [[500 + term + 2 * day for term in range(60)] for day in range(65)]
+        dates = [f"2025-{1 + day // 28:02}-{1 + day % 28:02}" for day in range(65)]
+        numbers, years = [str(day) for day in range(1, 66)], [term + " jaar" for term in TERMS]
+        ask, by_day, by_term = 'ways; write lines = "days" or "terms" (what a line is) in [days]', *(
+            f'unit = "%"\nlines = "{lines}"' for lines in ("days", "terms"))
+        for count in (60, 61, 65):
+            some, their = square[:count], days[:count]
+            for lines in (some, labelled(numbers, some)):
+                self.bad(lines, ask)
+                self.bad(columns(lines), ask)
+                self.good(lines, by_day, their)
+                self.good(columns(lines), by_term, their)
+            for lines in ([years, *some], labelled(dates, some), labelled(["", *dates], [TERMS, *some]),
+                          labelled(["", *numbers], [years, *some])):
+                self.good(lines, days=their)
+                self.good(columns(lines), days=their)
+            told = self.good if count > 60 else lambda lines, days: self.bad(lines, ask)  # 1 to 60 could be 60 days as well
+            told([TERMS, *some], days=their)
+            told(labelled(TERMS, columns(some)), days=their)
+            told(labelled(["", *numbers], [TERMS, *some]), days=their)
+        self.good([TERMS, *square[:60]], by_day, days[:60])
+        self.good([TERMS, *square[:60]], by_term, columns(days[:60]))
+        self.good(square[:59], days=days[:59])
+        self.good(columns(square[:59]), days=days[:59])
+        self.bad([["rente"] * 60, *square[:60]], ask, 'unit = "%"\nheader = true')
+        self.bad(PERCENT, "it must have 60 lines of 1 to 70 rates, a line a term", by_term)
 
     def test_commas(self):
         """A comma between cells could be a decimal comma where the number of cells does not tell."""
@@ -166,15 +269,20 @@ class Days(Sheets):
                                                "a line a day or 60 lines of 1 to 70 rates, a line a term")
         self.bad([PERCENT[0]] * 71, "has 71 lines of 60 cells")
         self.bad([["title"]], "has 1 line of 1 cell; it must have")
-        self.good([["title"], *PERCENT])
-        self.bad([["title"], TERMS, ["more"], *PERCENT], "has 1 cell in line 1, where most lines have 60")
+        for top in ([["title"]], [["title", "more"]], [["title 2012"]], [["title"], ["more"]]):
+            self.bad([*top, *PERCENT], "in line 1, where most lines have 60")
+            self.bad([*top, *labelled(["", *DATES], [TERMS, *PERCENT])], "in line 1, where most lines have 61")
+        self.bad([["title"], ["more"], *PERCENT], "has 1 cell in line 1, where most", 'unit = "%"\nheader = true')
+        self.bad(labelled([""] * 4, [TERMS, *PERCENT]), "has 4 lines of 61 cells")
+        self.bad(labelled([""] * 3, PERCENT), "has 3 lines of 61 cells")
+        self.bad(labelled([""] * 4, labelled(["", *DATES], [TERMS, *PERCENT])), "has 4 lines of 62 cells")
 
     def test_second_labels(self):
         """A second line or column of labels is never taken for rates."""
         for keys, cells in (('unit = "%"', PERCENT), ('unit = "bp"', BP), ('unit = "steps"', STEPS)):
             for lines in ([["title"], TERMS, *cells], labelled([term + "Y" for term in TERMS], labelled(TERMS, columns(cells)))):
-                for more in ("", "\nheader = true" if lines[0] == ["title"] else "\nlabels = true"):
-                    self.bad(lines, "has rates of day 1 that count as labels do, from 1 on", keys + more)
+                more = "\nheader = true" if lines[0] == ["title"] else "\nlabels = true"
+                self.bad(lines, "has rates of day 1 that count as labels do, from 1 on", keys + more)
         for days in (2, 3):  # numbers of days above or before 59 rates are no rates either
             numbers = [str(day) for day in range(1, days + 1)]
             for unit, cells in (("%", PERCENT), ("bp", BP), ("steps", STEPS)):
@@ -183,7 +291,7 @@ class Days(Sheets):
                 self.bad(labelled(numbers, [day[1:] for day in cells[:days]]), "it must have 60 rates in", f'unit = "{unit}"')
         counting = [[str(100 + int(term)) for term in TERMS]]
         days = [[1_000 + 10 * int(term) for term in TERMS]]
-        self.bad([["title"], *counting], "has rates of day 1 that count", 'unit = "bp"')
+        self.bad(counting, "has rates of day 1 that count", 'unit = "bp"')
         self.good([[cell + " bp" for cell in counting[0]]], 'unit = "bp"', days)
         self.good(counting, 'unit = "bp"\nheader = false', days)
 
@@ -239,44 +347,107 @@ class Flows(Sheets):
 
     def test_read(self):
         column = [[cell] for cell in self.PLAIN]
-        for lines in (column, [self.PLAIN], [["pensions", *self.PLAIN]], [["flow"], *column],
-                      labelled("123", column), labelled(["term", "1", "2", "3"], [["flow"], *column]),
-                      labelled(["1 jaar", "2 jaar", "3 jaar"], column), [["1", "2", "3"], self.PLAIN],
-                      labelled(["term", "flow"], [["1", "2", "3"], self.PLAIN]),
-                      [["31.415.927"], ["0"], ["27.182.818"]], [["€ 31.415.927,00"], ["€ 0,00"], ["€ 27.182.818,00"]],
+        for flows in (column, [["31.415.927"], ["0"], ["27.182.818"]], [["€ 31.415.927,00"], ["€ 0,00"], ["€ 27.182.818,00"]],
                       [["31415927 euros"], ["0"], ["27182818,00"]]):
-            self.good(lines, end=";\n")
-            self.good(lines, between="\t", end="\t\r\n", encoding="utf-16")
+            for word in ("", " jaar", "Y", ",0"):
+                terms = [term + word for term in "123"]
+                [line] = columns(flows)
+                for lines in (labelled(terms, flows), labelled(["term", *terms], [["flow"], *flows]),
+                              labelled(["Jaar", *terms], [["Kasstroom (€)"], *flows]), [terms, line],
+                              labelled(["term", "flow"], [terms, line])):
+                    self.good(lines, end=";\n")
+                    self.good(lines, end=";;\r\n\r\n;;\r\n")
+                    self.good(lines, between="\t", end="\t\r\n", encoding="utf-16")
         self.good(labelled("123", column), between=",")
-        self.good([["5000000"]], [5_000_000])
+        self.good([["1", '"31,415,927"'], ["2", "0"], ["3", "27182818"]], between=",")
+        self.good([["1", "5000000"]], [5_000_000])
+        self.good([["term", "flow"], ["1", "5000000"]], [5_000_000])
+        self.good([["term", "1"], ["flow", "5000000"]], [5_000_000])
         self.good([["1", "5000000"], ["2", "4000000"]], [5_000_000, 4_000_000])
+        self.good([["1", "2"], ["5000000", "4000000"]], [5_000_000, 4_000_000])
+        self.good([["1", "2"], ["3", "4"]], [3, 4])
+        self.good([["a", "b"], ["1", "2"], ["2", "4"]], [2, 4])
 
-    def test_refused(self):
+    def refused(self, lines, words, **how):
+        self.bad(lines, words, **how)
+        self.bad(lines, "write in each line a term and its flow, or two lines, the terms above and the flows below; the terms are", **how)
+
+    def test_without_terms(self):
+        column = [[cell] for cell in self.PLAIN]
+        for lines, size in ((column, "3 lines of 1 cell"), ([self.PLAIN], "1 line of 3 cells"), ([["flow"], *column], "4 lines of 1 cell"),
+                            ([["pensions", *self.PLAIN]], "1 line of 4 cells"), ([["5000000"]], "1 line of 1 cell"),
+                            ([["1"], ["5000000"]], "2 lines of 1 cell"), ([["2025"], ["5000000"]], "2 lines of 1 cell"),
+                            ([["1"], ["2"], ["3"]], "3 lines of 1 cell"), ([["1", "2", "3"]], "1 line of 3 cells"),
+                            ([["1", "2", "3"]] * 3, "3 lines of 3 cells"), ([["term"]], "1 line of 1 cell"),
+                            ([["term", "flow"]], "1 line of 2 cells")):
+            self.refused(lines, f"has {size}; ", end=";\n")
+            self.bad(lines, "or write the flows in the text itself", end=";\n")
+
+    def test_not_the_terms(self):
+        for labels, at, word in (("0123", 1, "0"), ("2345", 1, "2"), ("4321", 1, "4"), ("1345", 2, "3"), ("1223", 3, "2"),
+                                 (["1", "2", "", "4"], 3, ""),
+                                 (["2013", "2014", "2015", "2016"], 1, "2013"), (["5Y", "10Y", "15Y", "20Y"], 1, "5Y"),
+                                 (["1-5 jaar", "6-10 jaar", "11-15 jaar", "16-20 jaar"], 1, "1-5 jaar"),
+                                 (["1M", "2M", "3M", "4M"], 1, "1M"),
+                                 (["1e kwartaal", "2", "3", "4"], 1, "1e kwartaal"), (["1", "2 maand", "3", "4"], 2, "2 maand"),
+                                 (["jan", "feb", "mrt", "apr"], 1, "jan"), (["t-1", "t-2", "t-3", "t-4"], 1, "t-1"),
+                                 (["1", "2", "3", "Totaal"], 4, "Totaal"), (["1", "2", "3", ""], 4, ""), (["1", "2", "3", "> 3"], 4, "> 3"),
+                                 (["-1", "-2", "-3", "-4"], 1, "-1"), (["1/12", "2/12", "3/12", "4/12"], 1, "1/12"),
+                                 (["0,5 jaar", "1 jaar", "2 jaar", "3 jaar"], 1, "0,5 jaar")):
+            flows = ["5000000", "4000000", "3000000", "12000000"]
+            words = f'"{word}" where the term {at} must stand'
+            self.refused(labelled(labels, [[flow] for flow in flows]), f"has at line {at}, cell 1 of sheet.csv, {words}")
+            if labels[-1]:
+                self.refused([list(labels), flows], f"has at line 1, cell {at} of sheet.csv, ")
+                self.refused(labelled(["term", "flow"], [list(labels), flows]), f"has at line 1, cell {at + 1} of sheet.csv, {words}")
+
+    def test_header_or_not(self):
+        """A header is words only; a first flow that is no number is an error by its place."""
+        for cell in ("-", "n/a", "8 560 000", "#N/A", "flow", "?"):
+            self.bad([["1", cell], ["2", "5000000"], ["3", "5000000"]], f'line 1, cell 2 of sheet.csv, is "{cell}"')
+            self.bad([["1", "2", "3"], [cell, "5000000", "5000000"]], f'line 2, cell 1 of sheet.csv, is "{cell}"')
+            self.bad([["1", "5000000"], ["2", cell]], f'line 2, cell 2 of sheet.csv, is "{cell}"')
+            self.refused([[cell, "5000000"], ["1", "5000000"]], f'line 1, cell 1 of sheet.csv, "{cell}" where the term 1 must')
+        for header in (["term", "2013"], ["term", "flow 1"], ["", "flow"], ["term", "€"], ["(term)", "flow"], ["term 1", "flow"]):
+            self.refused([header, ["1", "5000000"], ["2", "5000000"]], f'line 1, cell 1 of sheet.csv, "{header[0]}" where the term 1')
+        for header in (["flows"], ["term", "flow", "total"]):
+            self.refused([header, ["1", "5000000"], ["2", "5000000"]], "in line 1, where most lines have 2")
+        self.refused([["a", "b"], ["c", "d"], ["1", "5000000"]], 'line 2, cell 1 of sheet.csv, "c" where the term 1')
+        for names in (["", "flow"], ["2013", "flow"], ["term", "2013"], ["term", ""], ["-", "flow"], ["term", "-"]):
+            self.refused(labelled(names, [["1", "2", "3"], self.PLAIN]), f'line 1, cell 1 of sheet.csv, "{names[0]}" where the term 1')
+        self.bad(labelled(["1", "flow"], [["2", "3"], ["5000000", "5000000"]]), 'line 2, cell 1 of sheet.csv, is "flow"')
+
+    def test_shapes(self):
+        self.refused([["1", "5"], ["2"], ["3", "5"]], "has 1 cell in line 2, where most lines have 2", end=";\n")
+        self.refused([["1", "5", "5"], ["2", "6", "11"]] * 2, "has 4 lines of 3 cells")
+        self.refused([["1", "5"], ["2", "6"], ["3", "5", "9"]], "has 3 cells in line 3, where most lines have 2")
+        self.refused([["1", "2", "3"], ["5", "6"]], "has 2 cells in line 2, where most lines have 3")
+        self.refused([["1", "2", "3"], ["5", "6", "7", "18"]], "has 4 cells in line 2, where most lines have 3")
+        self.refused([["1", "2", "3"], ["5", "6", "7"], ["8", "9", "9"]], "has 3 lines of 3 cells")
+        self.refused([["title"], ["1", "2", "3"], ["5", "6", "7"]], "has 1 cell in line 1, where most lines have 3")
+        self.bad([["1", "2", "3"], ["5", "", "7"]], "line 2, cell 2 of sheet.csv, is empty")
+        self.bad([["1", "2"], ["2", "9"]], "could be read in 2 ways; write a header line")
+        self.bad([[str(term), "5"] for term in range(1, 122)], "has 121 flows; it must have 1 to 120")
+
+    def test_values(self):
         for lines, words in (
-                ([["1.000"], ["2.000"]], 'line 1, cell 1 of sheet.csv, is "1.000", which could be read in two ways'),
                 ([["1", "1.000"], ["2", "2.000"]], 'line 1, cell 2 of sheet.csv, is "1.000", which could be read in two ways'),
-                ([["31415927"], ["-"]], 'line 2, cell 1 of sheet.csv, is "-"'),
-                ([["31415927"], ["8,65E+06"]], 'is "8,65E+06"'),
-                ([["31415927"], ["0,50"]], "no whole number of euros; the nearest are 0 euros and 1 euro"),
-                ([["31415927"], ["100000001"]], "it must be 0 euros to 100000000 euros"),
-                ([["2", "5000000"], ["3", "5000000"]], "labels must be the terms 1, 2, 3, ... in order, here 1"),
-                ([["1", "5000000"], ["3", "5000000"]], "labels must be the terms 1, 2, 3, ... in order, here 2"),
-                ([["2025", "5000000"], ["2026", "5000000"]], "labels must be the terms"),
-                ([["1", "5000000"], ["Total", "5000000"]], 'line 2, cell 1 of sheet.csv, the label "Total"'),
-                ([["1", "5000000"]], "could be term 1 and its flow or two flows"),
-                ([["2025"], ["5000000"]], "starts with 2025, a flow or the year of a header"),
-                ([["1", "2", "3"]] * 3, "must have in each line one flow, or a term and its flow"),
-                ([["1", "2", "4"], ["5", "6", "7"]], "labels must be the terms"),
-                ([["1", "2", "3"], ["5", "6"]], "has 3 cells in line 1, but 2 in line 2"),
-                ([["1"], ["2"], ["3"]], "has flows that count as terms do, from 1 on"),
-                ([["1", "2", "3"]], "has flows that count as terms do, from 1 on"),
-                ([["5"]] * 121, "has 121 flows; it must have 1 to 120")):
-            self.bad(lines, words, end=";\n")
-        self.bad([["1,234"], ["2,345"]], "has commas only, which could stand between thousands")
-        self.bad([["31,415"]], "has commas only, which could stand between thousands")
-        self.bad([["1,234,567"], ["2,345,678"]], "must be the terms")
-        self.bad([["1,234,567"]] * 3, "if commas stand inside numbers, write semicolons")
-        self.bad([["31415927,00"], ["0,00"]], "if commas stand inside numbers, write semicolons")
+                ([["1", "31415927"], ["2", "8,65E+06"]], 'is "8,65E+06"'),
+                ([["1", "31415927"], ["2", "0,50"]], "no whole number of euros; the nearest are 0 euros and 1 euro"),
+                ([["1", "31415927"], ["2", "100000001"]], "it must be 0 euros to 100000000 euros"),
+                (labelled("123", [["2013"], ["2014"], ["2015"]]), "has flows that count as terms do, from 2013 on"),
+                ([["1", "2", "3"]] * 2, "has flows that count as terms do, from 1 on")):
+            self.bad(lines, words)
+
+    def test_commas(self):
+        inside = "has commas only, which could stand inside numbers"
+        for lines in (["1,234", "2,345"], ["1,234"], ["term,flow", "1,234", "2,345"], ["1,00", "2,00"], ["1,0", "2,500"],
+                      ["1,2,3", "8,651,000"]):
+            self.bad([[line] for line in lines], inside)
+        for lines in (["1,8,651,000"], ["1,8,651,000", "2,8,884,000"], ["1,31415927,00", "2,0,00"], ["31415927,00", "0,00"],
+                      ["1,234,567", "2,345,678"], ["1,234,567"] * 3):
+            self.refused([[line] for line in lines], "if commas stand inside numbers, write semicolons")
+        self.good([["1,5000000"], ["2,0"]], [5_000_000, 0])
 
 
 if __name__ == "__main__":

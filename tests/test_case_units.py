@@ -7,7 +7,7 @@ from pathlib import Path
 
 sys.path[:0] = [str(Path(__file__).resolve().parents[1] / "tools")]
 from casetext.fields import AMOUNT_NUMBERS, FLOW_NUMBER, PEOPLE_NUMBERS, RATE_NUMBER, SHOCK_NUMBERS, UFR_NUMBER
-from casetext.units import AGE, COUNT, MONEY, RATE, Bad, in_unit, is_number, shown, six_decimals, whole
+from casetext.units import AGE, COUNT, MONEY, RATE, Bad, in_unit, shown, six_decimals, whole
 
 NUMBERS = {number.name: number for number in [UFR_NUMBER, RATE_NUMBER, FLOW_NUMBER, *AMOUNT_NUMBERS, *SHOCK_NUMBERS,
                                               *PEOPLE_NUMBERS]}
@@ -113,12 +113,6 @@ class Read(unittest.TestCase):
                     self.assertEqual(whole(shown(value, number.kind), number), value)
         self.assertEqual([shown(months, AGE) for months in (0, 1, 12, 13, 795)],
                          ["0 years", "1 month", "1 year", "1 year 1 month", "66 years 3 months"])
-
-    def test_is_number(self):
-        for text in ("0,226", "-0.1 %", "206", "1.234.567", "€ 5", "5 bp"):
-            self.assertTrue(is_number(text), text)
-        for text in ("", "31-12-2025", "31.12.2025", "2025-01-02", "1/2/2025", "7 jaar", "term 1", "n/a", "%"):
-            self.assertFalse(is_number(text), text)
 
     def test_six_decimals(self):
         self.assertEqual([six_decimals(Fraction(*pair)) for pair in ((1, 8), (-1, 3), (12, 1), (-5, 10 ** 7))],

@@ -53,7 +53,7 @@ def template() -> str:
 
 # Zero rates of the terms 1 to {TERMS}, on 1 to {MOST_DAYS} days; each {RATE_NUMBER.limits}. They stand in a CSV file, or here:
 #   rates = [[0.226, 0.246, ...], ...], a list of {TERMS} for each day.
-# Three keys for a sheet that could be read in two ways:
+# Terms and dates are recognised as labels. Three keys for a sheet with other labels, or that could be read in two ways:
 #   lines = "days" or "terms": what a line of the sheet is
 #   header = true or false: whether its first line is a header
 #   labels = true or false: whether its first column is labels
@@ -62,7 +62,7 @@ unit = ""  # of rates that carry none: "%", "bp" or "steps"; optional where each
 csv = ""  # the name of the CSV file, beside this file
 
 # Flows from term 1 on, in whole euros; each {FLOW_NUMBER.limits}. Here, or in a CSV file:
-#   pension_csv = "pension.csv" and bonds_csv = "bonds.csv", with a flow in each line, behind its term or alone.
+#   pension_csv = "pension.csv" and bonds_csv = "bonds.csv", with a term and its flow in each line.
 [flows]
 pension = []  # 1 to {MOST_PENSION} flows, such as [{FLOW_NUMBER.example}, {FLOW_NUMBER.example}]
 bonds = []  # 1 to {MOST_BONDS} flows; optional; without it there are none

@@ -1,6 +1,7 @@
 """CSV files as spreadsheets write them: cells, header and labels, and which way the terms go.
 
-A sheet that could be read in two ways is an error that says how to tell which is meant; nothing is guessed.
+Terms, dates and numbers of days are recognised as labels; all else is a number or must be said. A sheet that could be read
+in two ways is an error that says how to tell which is meant; nothing is guessed.
 """
 
 import csv
@@ -13,7 +14,7 @@ from pathlib import Path
 from typing import Callable
 
 from .fields import MOST_DAYS, TERMS
-from .units import Bad, counted, is_number, printable
+from .units import Bad, counted, printable
 
 LARGEST_SHEET = 4_000_000  # bytes; the largest case takes less than 100,000
 SEPARATORS = "\t", ";", ","  # the first one that a sheet has stands between its cells
@@ -91,47 +92,52 @@ def read_sheet(name: object, folder: Path) -> Sheet:
 
 # ---------------------------------------------------------------- labels
 
-def is_text(cells: list[str]) -> bool:
-    return not any(is_number(cell) for cell in cells)
-
-
-def whole_number(cell: str) -> int | None:
-    """A bare whole number; "7,0" is one too, as some programs write 7."""
-    found = re.fullmatch(r"([0-9]{1,9})(?:[.,]0{1,2})?", cell)
-    return int(found[1]) if found else None
+TERM = re.compile(r"([0-9]{1,9})(?:[.,]0{1,2})?\s*(?:(?:y|yrs?|years?|j|jr|jaar|jaren)\.?)?", re.IGNORECASE)
+DAY, MONTH, YEAR = "(?:0?[1-9]|[12][0-9]|3[01])", "(?:0?[1-9]|1[0-2])", "(?:19|20)[0-9]{2}"
+DATE = re.compile(rf"{YEAR}([-/.]){MONTH}\1{DAY}|{DAY}([-/.]){MONTH}\2(?:{YEAR}|[0-9]{{2}})"
+                  rf"|{YEAR}(?=[0-9]{{4}}){MONTH}{DAY}")
 
 
 def term_in(label: str) -> int | None:
-    """The one number in a label: 7 in "7", "7 jaar" and "7Y"; a date has several."""
-    numbers = re.findall("[0-9]+", label)
-    return whole_number(numbers[0] if len(numbers) == 1 else label)
+    """The term that a label says: a whole number, bare or of years; "7,0" is one too, as some programs write 7."""
+    found = TERM.fullmatch(label)
+    return int(found[1]) if found else None
 
 
-def are_counting(cells: list[str]) -> bool:
-    """Whether the cells count, as labels do and rates hardly ever: most go up or down by 1, or by the 12 months of a year."""
-    values = [whole_number(cell) for cell in cells]
-    if len(cells) < 3 or None in values:
-        return False
-    steps = [b - a for a, b in zip(values, values[1:])]
-    return (2 * max(steps.count(step) for step in (1, -1, 12)) > len(steps)
-            or sorted(values) == list(range(1, len(values) + 1)))
+def has_digit(cell: str) -> bool:
+    return any(mark.isnumeric() for mark in cell)
 
 
-def are_numbered(cells: list[str]) -> bool:
-    """Whether the cells are 1, 2, 3, ... and more than one."""
-    return len(cells) > 1 and [whole_number(cell) for cell in cells] == list(range(1, len(cells) + 1))
+def is_word(cell: str) -> bool:
+    return cell[:1].isalpha() and not has_digit(cell)
 
 
 def are_terms(cells: list[str]) -> bool:
-    return len(cells) == TERMS and are_numbered(cells)
+    return [term_in(cell) for cell in cells] == list(range(1, TERMS + 1))
 
 
-def wrong_label(labels: list[Cell]) -> Bad | None:
-    """The first label that is not its term."""
+def are_dates(cells: list[str]) -> bool:
+    return len(set(cells)) == len(cells) and all(map(DATE.fullmatch, cells))
+
+
+def are_days(cells: list[str]) -> bool:
+    """Dates, or the numbers of the days; a lone 1 could as well be a rate."""
+    return are_dates(cells) or len(cells) > 1 and cells == [str(day) for day in range(1, len(cells) + 1)]
+
+
+def are_counting(cells: list[Cell]) -> bool:
+    """Whether cells count, as labels do and rates hardly ever: most go up or down by 1, or by the 12 months of a year."""
+    values = [term_in(cell.text.lstrip("+-\u2212")) for cell in cells]
+    steps = [b - a for a, b in zip(values, values[1:]) if a is not None and b is not None]
+    return len(values) > 2 and (2 * max(steps.count(step) for step in (1, -1, 12)) > len(values) - 1
+                                or set(values) == set(range(1, len(values) + 1)))
+
+
+def wrong_term(labels: list[Cell]) -> str | None:
+    """What is wrong with the first label that is not its term."""
     for term, label in enumerate(labels, 1):
         if term_in(label.text) != term:
-            return Bad(f'has at {label.place} the label "{printable(label.text)}"; labels must be the terms 1, 2, 3, ... '
-                       f"in order, here {term}")
+            return f'has at {label.place} "{printable(label.text)}" where the term {term} must stand'
     return None
 
 
@@ -148,163 +154,169 @@ class Layout:
     labels: bool | None
 
 
+ADVICE = {"lines": 'lines = "days" or "terms" (what a line is)', "header": "header = true or false (whether line 1 is a header)",
+          "labels": "labels = true or false (whether column 1 is labels)"}
+
+
+@dataclass(frozen=True)
+class Edge:
+    """A sheet's first line or column, as a layout has it."""
+    cells: list[Cell]
+    over_terms: bool  # whether it goes along the terms, and not along the days
+    are_labels: bool
+    said: bool | None  # what the text says of it
+
+    @property
+    def texts(self) -> list[str]:
+        return [cell.text for cell in self.cells]
+
+
 def days_in(sheet: Sheet, asked: Layout, could_be_rates: Callable[[list[str]], bool]) -> list[list[Cell]]:
     """The cells of each day, term by term; raises Bad."""
-    layouts = [layout for layout in all_layouts(asked) if fits(sheet, layout, asked, could_be_rates)]
-    if not layouts:
-        raise sheet.bad(shape_fault(sheet, asked))
-    if len(layouts) > 1:
-        raise sheet.bad(f"could be read in {len(layouts)} ways; write {differences(layouts)} in [days]")
-    layout = layouts[0]
-    body = sheet.rows[layout.header:]
-    check_labels(sheet, layout)
-    block = [[sheet.cell(row, column) for column in range(layout.labels, len(row.cells))] for row in body]
+    layout, both = the_layout(sheet, asked, could_be_rates)
+    block = [[sheet.cell(row, column) for column in range(layout.labels, len(row.cells))] for row in sheet.rows[layout.header:]]
     by_day = layout.lines == "days"
     if not by_day and sheet.commas and commas_could_be_decimal(block):
         raise sheet.bad(f"has commas only, which could stand between numbers or inside them; {COMMA_ADVICE}")
     days = block if by_day else [list(day) for day in zip(*block)]
+    if not asked.lines and len(days) >= TERMS and not any(map(tells, both)):  # the terms 0 to 60 on 60 days look like 61 days
+        raise sheet.bad(f"could be read in 2 ways; write {ADVICE['lines']} in [days]")
     if (asked.header if by_day else asked.labels) is not False:
         check_counting(sheet, days)
     return days
 
 
+def the_layout(sheet: Sheet, asked: Layout, could_be_rates: Callable[[list[str]], bool]) -> tuple[Layout, tuple[Edge, Edge]]:
+    """The one layout that a sheet has, and the edges; raises Bad."""
+    shaped = {layout: edges(sheet, layout, asked) for layout in all_layouts(asked) if has_shape(sheet, layout, asked)}
+    found = [(layout, both) for layout, both in shaped.items() if all(fits(edge, could_be_rates) for edge in both)]
+    if not found:
+        faults = filter(None, (label_fault(edge) for both in shaped.values() for edge in both if edge.are_labels))
+        raise Bad(next(faults, None) or f"is {sheet.name}, which {shape_fault(sheet, asked)}")
+    if len(found) > 1:
+        unclear = [ADVICE[key] for key in ADVICE if len({getattr(layout, key) for layout, _ in found}) > 1]
+        raise sheet.bad(f"could be read in {len(found)} ways; write {' and '.join(unclear)} in [days]")
+    return found[0]
+
+
 def all_layouts(asked: Layout) -> list[Layout]:
-    """Every layout that agrees with what the text says."""
-    every = [Layout(*chosen) for chosen in product(("days", "terms"), (False, True), (False, True))]
+    """Every layout that agrees with what the text says, those with labels first, where a fault is looked for first."""
+    every = [Layout(*chosen) for chosen in product(("days", "terms"), (True, False), (True, False))]
     return [layout for layout in every if asked.lines in (None, layout.lines) and asked.header in (None, layout.header)
             and asked.labels in (None, layout.labels)]
 
 
-def fits(sheet: Sheet, layout: Layout, asked: Layout, could_be_rates: Callable[[list[str]], bool]) -> bool:
-    """Whether a sheet has this layout's shape, and its first line and column what the layout says."""
-    body = sheet.rows[layout.header:]
-    widths = {len(row.cells) - layout.labels for row in body}
+def has_shape(sheet: Sheet, layout: Layout, asked: Layout) -> bool:
+    """Whether the lines are of one length, and of a length and number that the layout may have."""
+    lines = len(sheet.rows) - layout.header
+    widths = {len(row.cells) - layout.labels for row in sheet.rows[bool(asked.header):]}  # a header that was said may be a title
     if len(widths) != 1:
         return False
-    width, by_day = widths.pop(), layout.lines == "days"
-    if (width if by_day else len(body)) != TERMS or not 1 <= (len(body) if by_day else width) <= MOST_DAYS:
-        return False
-    first_line = sheet.rows[0].cells[layout.labels:]
-    first_column = [row.cells[0] for row in body]
-    header = may_be_header(first_line, by_day) if layout.header else may_be_rates(first_line, could_be_rates)
-    labels = may_be_labels(first_column, by_day) if layout.labels else may_be_rates(first_column, could_be_rates)
-    return (header or asked.header is not None) and (labels or asked.labels is not None)
+    terms, days = (widths.pop(), lines) if layout.lines == "days" else (lines, widths.pop())
+    return terms == TERMS and 1 <= days <= MOST_DAYS
 
 
-def may_be_rates(cells: list[str], could_be_rates: Callable[[list[str]], bool]) -> bool:
-    """Not words, nor the numbers of the days; numbers that count may be rates if they are within the limits of one."""
-    if is_text(cells) or are_numbered(cells) and not are_terms(cells):
-        return False
-    return not are_counting(cells) or could_be_rates(cells)
+def edges(sheet: Sheet, layout: Layout, asked: Layout) -> tuple[Edge, Edge]:
+    """The first line without the corner above a label column, and the first column without that above it."""
+    by_day, top = layout.lines == "days", sheet.rows[0]
+    line = [sheet.cell(top, column) for column in range(layout.labels, len(top.cells))]
+    column = [sheet.cell(row, 0) for row in sheet.rows[layout.header:]]
+    return Edge(line, by_day, layout.header, asked.header), Edge(column, not by_day, layout.labels, asked.labels)
 
 
-def may_be_header(cells: list[str], by_day: bool) -> bool:
-    return is_text(cells) or (are_counting(cells) or are_numbered(cells)) and (by_day or not are_terms(cells))
+def fits(edge: Edge, could_be_rates: Callable[[list[str]], bool]) -> bool:
+    """Whether an edge is what the layout takes it for: because the text says so, or by itself."""
+    if edge.are_labels and edge.over_terms:
+        return are_terms(edge.texts) or bool(edge.said) and not any(map(has_digit, edge.texts))
+    if edge.said is not None:
+        return True
+    if edge.are_labels:
+        return are_days(edge.texts)
+    if are_terms(edge.texts):
+        return could_be_rates(edge.texts)
+    return not are_days(edge.texts)
 
 
-def may_be_labels(cells: list[str], by_day: bool) -> bool:
-    if not by_day:
-        return are_counting(cells) or is_text(cells) and all(term_in(cell) is not None for cell in cells)
-    if is_text(cells):  # dates or names, but not the word "date" above dates, which is part of a header
-        return len({bool(re.search("[0-9]", cell)) for cell in cells}) == 1
-    return (are_counting(cells) or are_numbered(cells)) and not are_terms(cells)
+def tells(edge: Edge) -> bool:
+    """Whether labels tell which way the terms go; numbers of days do not, since they could be terms."""
+    return edge.are_labels and (are_terms if edge.over_terms else are_dates)(edge.texts)
 
 
-def check_labels(sheet: Sheet, layout: Layout) -> None:
-    """Labels over the terms must be the terms, in order. A header may also be words without numbers."""
-    if layout.lines == "terms":
-        labels = [sheet.cell(row, 0) for row in sheet.rows[layout.header:]] if layout.labels else []
-    else:
-        columns = range(layout.labels, len(sheet.rows[0].cells)) if layout.header else []
-        labels = [sheet.cell(sheet.rows[0], column) for column in columns]
-        if any(term_in(label.text) is None for label in labels):
-            return
-    fault = wrong_label(labels)
-    if fault:
-        raise fault
+def label_fault(edge: Edge) -> str | None:
+    """The label to blame where no layout fits: one among terms that is not its term, or one among dates that is none."""
+    if edge.over_terms:
+        return wrong_term(edge.cells) if edge.said or are_counting(edge.cells) else None
+    odd = [cell for place, cell in enumerate(edge.cells) if not DATE.fullmatch(cell.text) or cell.text in edge.texts[:place]]
+    if edge.said is None and 0 < 2 * len(odd) < len(edge.cells) and odd[0] is not edge.cells[0]:  # that may be of a header
+        return f'has at {odd[0].place} "{printable(odd[0].text)}" where a date must stand, another than those before it'
+    return None
 
 
 def check_counting(sheet: Sheet, days: list[list[Cell]]) -> None:
-    """A second line or column of labels must not be taken for rates."""
+    """Labels that are not the terms, or a second line or column of labels, must not be taken for rates."""
     for place, day in enumerate(days, 1):
-        if are_counting([cell.text for cell in day]):
-            raise sheet.bad(f"has rates of day {place} that count as labels do, from {printable(day[0].text)} on; "
-                            "one line or column of labels is read; rates that count must carry their unit in each cell")
+        if are_counting(day):
+            raise sheet.bad(f"has rates of day {place} that count as labels do, from {printable(day[0].text)} on; labels are the "
+                            f"terms 1 to {TERMS}, in one line or column; rates that count must carry their unit in each cell")
 
 
 def commas_could_be_decimal(block: list[list[Cell]]) -> bool:
     """Whether pairs of cells between commas could as well be numbers with a decimal comma, as in 0,226 for one day."""
-    return all(len(row) % 2 == 0 and all(re.fullmatch(r"[+-]?[0-9]+", whole.text) and re.fullmatch(r"[0-9]+\D*", rest.text)
+    return all(len(row) % 2 == 0 and all(re.fullmatch(r"[+\-\u2212]?[0-9]+", whole.text) and re.fullmatch(r"[0-9]+\D*", rest.text)
                                          for whole, rest in zip(row[::2], row[1::2])) for row in block)
 
 
-def differences(layouts: list[Layout]) -> str:
-    """The keys that would tell the layouts apart."""
-    said = [("lines", ' = "days" or "terms" (what a line is)'), ("header", " = true or false (whether line 1 is a header)"),
-            ("labels", " = true or false (whether column 1 is labels)")]
-    return " and ".join(key + choice for key, choice in said if len({getattr(layout, key) for layout in layouts}) > 1)
-
-
-def shape_fault(sheet: Sheet, asked: Layout) -> str:
+def size_of(sheet: Sheet) -> str:
     usual = Counter(len(row.cells) for row in sheet.rows).most_common(1)[0][0]
     for row in sheet.rows:
         if len(row.cells) != usual:
             return f"has {counted(len(row.cells), CELLS)} in line {row.line}, where most lines have {usual}"
+    return f"has {counted(len(sheet.rows), LINES)} of {counted(usual, CELLS)}"
+
+
+def shape_fault(sheet: Sheet, asked: Layout) -> str:
     wanted = {"days": f"{TERMS} rates in each of 1 to {MOST_DAYS} lines, a line a day",
               "terms": f"{TERMS} lines of 1 to {MOST_DAYS} rates, a line a term"}
-    hint = f"; if its commas are decimal marks, {COMMA_ADVICE}" if sheet.commas else ""
-    return (f"has {counted(len(sheet.rows), LINES)} of {counted(usual, CELLS)}; it must have "
-            + (wanted[asked.lines] if asked.lines else " or ".join(wanted.values()))
-            + ", beside a header line (header = true) and a column of labels (labels = true)" + hint)
+    return (f"{size_of(sheet)}; it must have " + (wanted[asked.lines] if asked.lines else " or ".join(wanted.values()))
+            + ", beside labels; what is a label, but no term, date or number of a day, is said by header = true or labels = true"
+            + (f"; if its commas are decimal marks, {COMMA_ADVICE}" if sheet.commas else ""))
 
 
 # ---------------------------------------------------------------- a sheet of flows
 
+FLOW_FORMS = ("write in each line a term and its flow, or two lines, the terms above and the flows below; "
+              "the terms are 1, 2, 3, ... in order")
+
+
 def flows_in(sheet: Sheet) -> list[Cell]:
-    """The cell of each term's flow: a line a term, the flow in its last cell, or all in one line; raises Bad."""
-    flows = flow_cells(sheet)
-    if are_counting([flow.text for flow in flows]):
-        raise sheet.bad(f"has flows that count as terms do, from {printable(flows[0].text)} on; write the flows behind them")
+    """The cell of each term's flow, which stands behind its term or below it; raises Bad."""
+    forms = [pairs for pairs in (pairs_in_lines(sheet), pairs_across(sheet)) if pairs]
+    faults = [wrong_term([term for term, _ in pairs]) for pairs in forms]
+    if faults.count(None) > 1:
+        raise sheet.bad("could be read in 2 ways; write a header line, or a name before each of the two lines")
+    if None not in faults:
+        hint = f"; if commas stand inside numbers, {COMMA_ADVICE}" if sheet.commas else ""
+        raise (Bad(f"{faults[0]}; {FLOW_FORMS}{hint}") if faults else
+               sheet.bad(f"{size_of(sheet)}; {FLOW_FORMS}, or write the flows in the text itself{hint}"))
+    flows = [flow for _, flow in forms[faults.index(None)]]
+    if sheet.commas and all(re.fullmatch("[0-9]{1,3}", flow.text) for flow in flows):
+        raise sheet.bad(f"has commas only, which could stand inside numbers; {COMMA_ADVICE}")
+    if are_counting(flows):
+        raise sheet.bad(f"has flows that count as terms do, from {printable(flows[0].text)} on; write the flows in their place")
     return flows
 
 
-def flow_cells(sheet: Sheet) -> list[Cell]:
-    rows = sheet.rows[1:] if len(sheet.rows) > 1 and is_text(sheet.rows[0].cells) else sheet.rows
-    if len(rows) == 2 and len(rows[0].cells) > 2:
-        return flows_below_terms(sheet, *rows)
-    if len(rows) == 1:
-        return flows_in_line(sheet, rows[0])
-    widths = {len(row.cells) for row in rows}
-    if not widths <= {1} and not widths <= {2}:
-        raise sheet.bad("must have in each line one flow, or a term and its flow; or all flows in one line"
-                        + (f"; if commas stand inside numbers, {COMMA_ADVICE}" if sheet.commas else ""))
-    if widths == {2}:
-        fault = wrong_label([sheet.cell(row, 0) for row in rows])
-        if fault:
-            raise Bad(f"{fault}; if commas stand inside numbers, {COMMA_ADVICE}") if sheet.commas else fault
-        if sheet.commas and all(re.fullmatch("[0-9]{3}", row.cells[1]) for row in rows):
-            raise sheet.bad(f"has commas only, which could stand between thousands; {COMMA_ADVICE}")
-    elif re.fullmatch("(19|20)[0-9]{2}", rows[0].cells[0]):
-        raise sheet.bad(f"starts with {rows[0].cells[0]}, a flow or the year of a header; write the terms 1, 2, 3, ... "
-                        "before the flows")
-    return [sheet.cell(row, len(row.cells) - 1) for row in rows]
+def pairs_in_lines(sheet: Sheet) -> list[tuple[Cell, Cell]]:
+    """The two cells of each line, but for a header of words; none where a line has more or less."""
+    if {len(row.cells) for row in sheet.rows} != {2}:
+        return []
+    return [(sheet.cell(row, 0), sheet.cell(row, 1)) for row in sheet.rows[all(map(is_word, sheet.rows[0].cells)):]]
 
 
-def flows_in_line(sheet: Sheet, row: Row) -> list[Cell]:
-    start = 1 if is_text(row.cells[:1]) and len(row.cells) > 1 else 0
-    if len(row.cells) == 2 and row.cells[0] == "1":
-        raise sheet.bad("has one line of two numbers, which could be term 1 and its flow or two flows; "
-                        "write the flows in the case itself")
-    if sheet.commas and not start and len(row.cells) > 1 and all(re.fullmatch("[0-9]{3}", cell) for cell in row.cells[1:]):
-        raise sheet.bad(f"has commas only, which could stand between thousands; {COMMA_ADVICE}")
-    return [sheet.cell(row, column) for column in range(start, len(row.cells))]
-
-
-def flows_below_terms(sheet: Sheet, terms: Row, flows: Row) -> list[Cell]:
-    start = 1 if is_text(terms.cells[:1]) else 0
-    fault = wrong_label([sheet.cell(terms, column) for column in range(start, len(terms.cells))])
-    if fault:
-        raise fault
-    if len(flows.cells) != len(terms.cells):
-        raise sheet.bad(f"has {len(terms.cells)} cells in line {terms.line}, but {len(flows.cells)} in line {flows.line}")
-    return [sheet.cell(flows, column) for column in range(start, len(flows.cells))]
+def pairs_across(sheet: Sheet) -> list[tuple[Cell, Cell]]:
+    """The cells of two lines, one above the other, but for a name before each; none where the lines are not so."""
+    width = len(sheet.rows[0].cells)
+    if [len(row.cells) for row in sheet.rows] != [width] * 2 or width < 2:  # one above one is more likely two flows
+        return []
+    start = all(is_word(row.cells[0]) for row in sheet.rows)
+    return [(sheet.cell(sheet.rows[0], column), sheet.cell(sheet.rows[1], column)) for column in range(start, width)]

@@ -144,13 +144,6 @@ def magnitude(digits: str, marks_are_decimal: bool) -> Fraction | None:
     return thousands + Fraction(int(groups[3] or 0), 10 ** len(groups[3] or ""))
 
 
-def is_number(text: str) -> bool:
-    """Whether the text is a number, with some unit or none, whatever it may be worth."""
-    written = WRITTEN.fullmatch(EURO_IN_FRONT.sub("", text.strip(), 1))
-    known = written and (not written[3] or any(kind.unit(written[3]) for kind in (RATE, SHARE, MONEY)))
-    return bool(known and (ONE_MARK.fullmatch(written[2]) or GROUPS.fullmatch(written[2]) or written[2].isdigit()))
-
-
 def is_bare(text: str) -> bool:
     return bool(BARE.fullmatch(text.strip()))
 

@@ -167,6 +167,10 @@ class Days(Sheets):
         words = labelled(["", *DATES], [["rente"] * 60, *PERCENT])
         for keys in ("", "\nheader = false"):
             self.bad(words, "has 4 lines of 61 cells", 'unit = "%"' + keys)
+        labels = labelled(["", *DATES, "Gemiddelde"], [["rente 1"] * 60, *PERCENT, PERCENT[0]])
+        self.good(labels[1:], 'unit = "%"\nlabels = true', [*CASE.days, CASE.days[0]])
+        for lines in (labels, columns(labels)):
+            self.bad(lines, '"rente 1" where the term 1 must stand', 'unit = "%"\nheader = true\nlabels = true')
         self.bad(words, 'line 1, cell 2 of sheet.csv, is "rente"', 'unit = "%"\nlabels = true', count=60)
         self.bad([["title 2012"], *PERCENT], '"title 2012" where the term 1 must stand', 'unit = "%"\nheader = true')
         self.bad([["rente"] * 59 + ["60"], *PERCENT], '"rente" where the term 1 must stand', 'unit = "%"\nheader = true')
@@ -197,7 +201,8 @@ class Days(Sheets):
 
     def test_labels_in_order(self):
         for wrong, at in ((TERMS[::-1], 1), (["0", *TERMS[:-1]], 1), ([*TERMS[1:], "61"], 1), ([*TERMS[:30], *TERMS[31:], "61"], 31),
-                          (sorted(TERMS), 2), ([str(12 * int(term)) for term in TERMS], 1), ([str(2012 + int(term)) for term in TERMS], 1),
+                          (sorted(TERMS), 2), (TERMS[::2] + TERMS[1::2], 2), ([str(12 * int(term)) for term in TERMS], 1),
+                          ([str(2012 + int(term)) for term in TERMS], 1),
                           (["-" + term for term in TERMS], 1), (["ON", *TERMS[:-1]], 1),
                           (["0,5", *TERMS[:-1]], 1), ([*TERMS[:-1], "gemiddelde"], 60)):
             for labels in (wrong, [label + "Y" if label.isdigit() else label for label in wrong]):
@@ -244,6 +249,7 @@ class Days(Sheets):
             told([TERMS, *some], days=their)
             told(labelled(TERMS, columns(some)), days=their)
             told(labelled(["", *numbers], [TERMS, *some]), days=their)
+            self.bad(labelled([f"dag {day}" for day in numbers], some), ask, 'unit = "%"\nlabels = true')
         self.good([TERMS, *square[:60]], by_day, days[:60])
         self.good([TERMS, *square[:60]], by_term, columns(days[:60]))
         self.good(square[:59], days=days[:59])
@@ -257,6 +263,8 @@ class Days(Sheets):
             for unit in ("%", "steps"):
                 keys = f'unit = "{unit}"\nlabels = {"true" if lines[0][0] == "1" else "false"}'
                 self.bad(lines, "has commas only, which could stand between numbers or inside them", keys, between=",")
+        minus = [["\u22120", "206"], *[["0", "206"]] * 59]
+        self.bad(minus, "has commas only, which could stand between numbers or inside them", 'unit = "steps"', between=",")
         self.bad(COMMA, "if its commas are decimal marks, write semicolons between the cells", between=",")
         self.good(columns(COMMA[:1]), days=CASE.days[:1], end=";\n")
         self.good(STEPS, 'unit = "steps"', between=",")
@@ -382,6 +390,8 @@ class Flows(Sheets):
                             ([["term", "flow"]], "1 line of 2 cells")):
             self.refused(lines, f"has {size}; ", end=";\n")
             self.bad(lines, "or write the flows in the text itself", end=";\n")
+        self.put(column)
+        self.assertNotIn("comma", self.faults(self.text())[0])
 
     def test_not_the_terms(self):
         for labels, at, word in (("0123", 1, "0"), ("2345", 1, "2"), ("4321", 1, "4"), ("1345", 2, "3"), ("1223", 3, "2"),

@@ -87,7 +87,7 @@ def read_sheet(name: object, folder: Path) -> Sheet:
         raise Bad(f"is {said}, which cannot be read at line {reader.line_num}: {printable(str(error))}") from None
     if not rows:
         raise Bad(f"is {said}, which holds nothing")
-    return Sheet(said, rows, separator == ",")
+    return Sheet(said, rows, separator == "," and "," in text)
 
 
 # ---------------------------------------------------------------- labels
@@ -191,8 +191,8 @@ def the_layout(sheet: Sheet, asked: Layout, could_be_rates: Callable[[list[str]]
     shaped = {layout: edges(sheet, layout, asked) for layout in all_layouts(asked) if has_shape(sheet, layout, asked)}
     found = [(layout, both) for layout, both in shaped.items() if all(fits(edge, could_be_rates) for edge in both)]
     if not found:
-        faults = filter(None, (label_fault(edge) for both in shaped.values() for edge in both if edge.are_labels))
-        raise Bad(next(faults, None) or f"is {sheet.name}, which {shape_fault(sheet, asked)}")
+        fault = next(filter(None, (label_fault(edge) for both in shaped.values() for edge in both)), None)
+        raise Bad(fault) if fault else sheet.bad(shape_fault(sheet, asked))
     if len(found) > 1:
         unclear = [ADVICE[key] for key in ADVICE if len({getattr(layout, key) for layout, _ in found}) > 1]
         raise sheet.bad(f"could be read in {len(found)} ways; write {' and '.join(unclear)} in [days]")
@@ -200,8 +200,8 @@ def the_layout(sheet: Sheet, asked: Layout, could_be_rates: Callable[[list[str]]
 
 
 def all_layouts(asked: Layout) -> list[Layout]:
-    """Every layout that agrees with what the text says, those with labels first, where a fault is looked for first."""
-    every = [Layout(*chosen) for chosen in product(("days", "terms"), (True, False), (True, False))]
+    """Every layout that agrees with what the text says."""
+    every = [Layout(*chosen) for chosen in product(("days", "terms"), (False, True), (False, True))]
     return [layout for layout in every if asked.lines in (None, layout.lines) and asked.header in (None, layout.header)
             and asked.labels in (None, layout.labels)]
 

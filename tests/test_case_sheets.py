@@ -105,12 +105,15 @@ class Days(Sheets):
 
     def test_header_and_labels(self):
         for cells in (PERCENT, COMMA):
-            for days in (DATES, ["1", "2", "3"]):
-                self.good(labelled(days, cells))
-                self.good([days, *columns(cells)])
+            numbers = ["1", "2", "3"]
+            for days, said in ((DATES, ("", "")), (numbers, ('\nlines = "days"', '\nlines = "terms"'))):
+                self.good(labelled(days, cells), 'unit = "%"' + said[0])
+                self.good([days, *columns(cells)], 'unit = "%"' + said[1])
                 for corner in ("", "date", "2012", "1", "03-09-2012", "-"):
                     self.good(labelled([corner, *days], [TERMS, *cells]))
                     self.good(labelled([corner, *TERMS], [days, *columns(cells)]))
+            for lines in (labelled(numbers, cells), [numbers, *columns(cells)]):  # the first three terms of 60 days look so too
+                self.bad(lines, 'could be read in 2 ways; write lines = "days" or "terms"')
             self.good([TERMS, *cells])
             self.good(labelled(TERMS, columns(cells)))
         self.good(labelled(["date", *DATES], [TERMS, *BP]), 'unit = "bp"')
@@ -294,7 +297,7 @@ class Days(Sheets):
         for days in (2, 3):  # numbers of days above or before 59 rates are no rates either
             numbers = [str(day) for day in range(1, days + 1)]
             for unit, cells in (("%", PERCENT), ("bp", BP), ("steps", STEPS)):
-                self.good([numbers, *columns(cells[:days])], f'unit = "{unit}"', CASE.days[:days])
+                self.good([numbers, *columns(cells[:days])], f'unit = "{unit}"\nlines = "terms"', CASE.days[:days])
                 self.bad([numbers, *columns(cells[:days])[1:]], "it must have 60 rates in each", f'unit = "{unit}"')
                 self.bad(labelled(numbers, [day[1:] for day in cells[:days]]), "it must have 60 rates in", f'unit = "{unit}"')
         counting = [[str(100 + int(term)) for term in TERMS]]

@@ -179,7 +179,8 @@ def days_in(sheet: Sheet, asked: Layout, could_be_rates: Callable[[list[str]], b
     if not by_day and sheet.commas and commas_could_be_decimal(block):
         raise sheet.bad(f"has commas only, which could stand between numbers or inside them; {COMMA_ADVICE}")
     days = block if by_day else [list(day) for day in zip(*block)]
-    if not asked.lines and len(days) >= TERMS and not any(map(tells, both)):  # the terms 0 to 60 on 60 days look like 61 days
+    # The terms 0 to 60 on 60 days look like 61 days, and the terms 1 to 30 on 60 days like days that are numbered.
+    if not asked.lines and (len(days) >= TERMS or any(map(is_numbered, both))) and not any(map(tells, both)):
         raise sheet.bad(f"could be read in 2 ways; write {ADVICE['lines']} in [days]")
     if (asked.header if by_day else asked.labels) is not False:
         check_counting(sheet, days)
@@ -240,6 +241,11 @@ def fits(edge: Edge, could_be_rates: Callable[[list[str]], bool]) -> bool:
 def tells(edge: Edge) -> bool:
     """Whether labels tell which way the terms go; numbers of days do not, since they could be terms."""
     return edge.are_labels and (are_terms if edge.over_terms else are_dates)(edge.texts)
+
+
+def is_numbered(edge: Edge) -> bool:
+    """Whether labels were recognised as the numbers of days."""
+    return edge.are_labels and not edge.over_terms and edge.said is None and not are_dates(edge.texts)
 
 
 def label_fault(edge: Edge) -> str | None:

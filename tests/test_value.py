@@ -177,7 +177,8 @@ class Proved(Checkout):
         """An interrupt ends the check, and the next call proves anew."""
         self.order("slow")
         run = subprocess.Popen([self.root / "value", self.c1], stdout=subprocess.PIPE, stderr=subprocess.PIPE,
-                               env=self.environment(), start_new_session=True)
+                               env=self.environment(), start_new_session=True,
+                               preexec_fn=lambda: signal.signal(signal.SIGINT, signal.SIG_DFL))  # a shell's & ignores it
         while not self.calls():
             time.sleep(0.01)
         os.killpg(run.pid, signal.SIGINT)

@@ -29,14 +29,16 @@ C1 = reference.encode(examples.c1(), False, False, True)
 C1_LISTING = reference.listing(C1)
 VERSION = (ROOT / "VERSION").read_text().strip()
 
-# Counts its calls; --edit once and --fail for as long as the file of that name is there; hands out the file `program`.
+# Counts its calls and hands out the file `program`. A file `edit` has it change a source once; `edits`, `slow` and `fails` have
+# it change one, wait or fail for as long as they are there.
 RT = """#!/bin/sh
 [ "$1 $2" = 'check valuation' ] || exit 2
 echo call >> "$STAND_IN/calls"
-[ ! -e "$STAND_IN/slow" ] || sleep 0.7
+mkdir -p target/log && echo proved > target/log/b.res
+[ ! -e "$STAND_IN/slow" ] || { echo failed > target/log/a.res; sleep 0.7; echo proved > target/log/a.res; }
 [ ! -e "$STAND_IN/edit" ] || { rm -f "$STAND_IN/edit"; echo '// edited' >> crates/a/src/lib.rt; }
 [ ! -e "$STAND_IN/edits" ] || echo '// edited' >> crates/a/src/lib.rt
-mkdir -p target/bin target/log && cp "$STAND_IN/program" target/bin/valuation || exit 2
+mkdir -p target/bin && cp "$STAND_IN/program" target/bin/valuation || exit 2
 [ ! -e "$STAND_IN/fails" ] || { echo 'rt: a NOT PROVED'; exit 1; }
 """
 
@@ -187,6 +189,13 @@ class Proved(Checkout):
         self.assertEqual(out, b"")
         self.assertFalse((self.root / "target/value/proved").exists())
         self.assertAnswers(self.value(self.c1), 2)
+
+    def test_progress(self):
+        """While one waits, the crate that is being proved is named, once; a crate that is only looked up is not."""
+        self.order("slow")
+        run = self.value(self.c1)
+        self.assertAnswers(run, 1)
+        self.assertEqual(run.stderr.decode().splitlines()[1:], ["value: proving a"])
 
     def test_first_calls_at_once(self):
         self.order("slow")

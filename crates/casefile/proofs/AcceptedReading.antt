@@ -7,7 +7,7 @@ use Rattle.model.specs.Held.{held}
 use Rattle.model.specs.Limits.{WithinLimits}
 use Rattle.model.specs.Reading.{caseOf}
 use Rattle.model.specs.Refusals.{refusal}
-use Rattle.model.proofs.Accepted.{within-limits}
+use Rattle.theory.proofs.Accepted.{within-limits}
 use Rattle.casefile.specs.Answers.{numberOf, answerOf, caseAfter, readingOf}
 use Rattle.casefile.specs.declared.Answer.the-variants.{Accepted}
 use Rattle.casefile.specs.declared.Reading.{Reading}

@@ -11,7 +11,7 @@ use Rattle.model.specs.Case.{noAmounts, s}
 use Rattle.model.specs.Curve.{base, movedSum, curve, natural, P}
 use Rattle.model.specs.Held.{padded, held}
 use Rattle.model.specs.Reading.{daysAt, dayCount, pensionAt, pensionCount, bondsAt, bondCount, rateEntry, daysOf, amountsOf, shocksOf, caseOf}
-use Rattle.model.proofs.Lists.{length-table}
+use Rattle.theory.proofs.Lists.{length-table}
 use Rattle.numbers.specs.Rates.{daysFrom, sumWith}
 use Rattle.casefile.specs.Fields.{amountsFrom, shocksFrom}
 

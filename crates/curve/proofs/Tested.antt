@@ -10,8 +10,8 @@ use lib.Dec.{T, leb, leb→le}
 use Rattle.arith.specs.Rounding.{End, low, high, divide}
 use Rattle.arith.proofs.Rounding.{divide-floor, divide-le}
 use Rattle.model.specs.Rounded.{scaled, tested}
-use Rattle.model.proofs.Conditions.{below, at}
-use Rattle.model.proofs.Search.{scaled-ends, tested-small}
+use Rattle.theory.proofs.Conditions.{below, at}
+use Rattle.theory.proofs.Search.{scaled-ends, tested-small}
 use Rattle.curve.specs.Ranges.{Small, StepWithin}
 use Rattle.curve.proofs.Years.{scaled-suc}
 

@@ -17,10 +17,10 @@ use Rattle.model.specs.Refusals.{Check, firstOf, checks, refusal}
 use Rattle.model.specs.Curve.{base, curve}
 use Rattle.model.specs.Rounded as Rounded
 use Rattle.model.specs.Buffers.{valuationRefusal, byTerm, factorEntries, rateEntries, factorsAfter, ratesAfter, valuationOf}
-use Rattle.model.proofs.Acceptance.{accepted-keeps, keeps-accepted}
-use Rattle.model.proofs.Entries.{length-byTerm, lower-entry, upper-entry}
-use Rattle.model.proofs.Files.{demand3-of-files}
-use Rattle.model.proofs.Lists.{and-first, and-second}
+use Rattle.theory.proofs.Acceptance.{accepted-keeps, keeps-accepted}
+use Rattle.theory.proofs.Entries.{length-byTerm, lower-entry, upper-entry}
+use Rattle.theory.proofs.Files.{demand3-of-files}
+use Rattle.theory.proofs.Lists.{and-first, and-second}
 use Rattle.engine.specs.Guarantee.{RefusedCall, AcceptedCall, AcceptedExactly}
 use Rattle.engine.proofs.Valued.{passes, fails}
 

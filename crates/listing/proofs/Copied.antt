@@ -7,7 +7,7 @@ use lib.ListN.{length, take, drop}
 use lib.Seq.{sets-eq, length-sets, length-take-le, take-at}
 use Rattle.model.specs.Listing.{listing, listingAfter, listingLength}
 use Rattle.model.specs.declared.figures.Valuation.{Valuation}
-use Rattle.model.proofs.Conditions.{cond-le, cond-gt}
+use Rattle.theory.proofs.Conditions.{cond-le, cond-gt}
 use Rattle.listing.specs.Wrote.{Wrote}
 
 -- the bytes that are written to the front of a buffer

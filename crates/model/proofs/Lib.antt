@@ -1,32 +1,5 @@
--- Theorems about the definitions of specs/. Demand 3 of every accepted file is in Files, acceptance both ways in Acceptance.
-pub mod Conditions
-pub mod Differences
-pub mod Lists
-pub mod Checks
-pub mod Tests
-pub mod Accepted
-pub mod Encoding
-pub mod Bitmap
-pub mod Parts
-pub mod Written
-pub mod Read
-pub mod Acceptance
-pub mod Bracket
-pub mod CaseCurves
-pub mod Steps
-pub mod Growth
-pub mod Factor
-pub mod Width
-pub mod ZeroRate
-pub mod Search
-pub mod Sizes
-pub mod Money
-pub mod MoneyWidth
-pub mod MoneySizes
-pub mod Verdicts
-pub mod Demand3Proved
-pub mod Files
-pub mod Entries
+-- Statements about the definitions of specs/ that are computed: each number here is worked out by the definitions themselves. The theorems
+-- are in the crate `theory`.
 pub mod Computing
 pub mod Worked
 pub mod Pinned

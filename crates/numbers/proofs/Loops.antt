@@ -10,7 +10,7 @@ use native.Mathlib.Omega.{arith}
 use lib.ListN.{getD, length, set, take, List·getD-eq-default}
 use lib.Seq.{take-suc-set}
 use Rattle.model.specs.Numbers.{number, every, table}
-use Rattle.model.proofs.Lists.{length-table}
+use Rattle.theory.proofs.Lists.{length-table}
 
 -- a number of one byte is that byte
 pub one-byte : (file : List ℕ) (at : ℕ) → number file at 1 ≡ getD file at 0

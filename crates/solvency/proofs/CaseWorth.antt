@@ -18,10 +18,10 @@ use Rattle.model.specs.Buffers.{byTerm, entryOf}
 use Rattle.model.specs.Rounded as Rounded
 use Rattle.model.specs.Rounded.{bracket, worth}
 use Rattle.model.specs.declared.figures.Bracket.{Bracket}
-use Rattle.model.proofs.CaseCurves.{curve-within}
-use Rattle.model.proofs.Entries.{length-byTerm, lower-entry, upper-entry}
-use Rattle.model.proofs.Lists.{length-table, getD-table}
-use Rattle.model.proofs.MoneySizes.{factor-most, L-most, B-most, A-most, S-most}
+use Rattle.theory.proofs.CaseCurves.{curve-within}
+use Rattle.theory.proofs.Entries.{length-byTerm, lower-entry, upper-entry}
+use Rattle.theory.proofs.Lists.{length-table, getD-table}
+use Rattle.theory.proofs.MoneySizes.{factor-most, L-most, B-most, A-most, S-most}
 use Rattle.solvency.specs.Ranges.{FlowsFit, UpTo, WorthsFit}
 use Rattle.solvency.proofs.Flows.{factor-low, factor-high}
 use Rattle.solvency.specs.Figures.{worths}

@@ -9,29 +9,29 @@ use native.Mathlib.Omega.{arith}
 use native.Mathlib.Nat.{mul-le-mul, mul-le-mul-left, mul-le-mul-right, le-of-mul-le-mul-right, pow-suc, pow-zero, le-dest, le-trans, le-of-mul-le-mul-left, lt-of-not-le, not-suc-le-self, not-suc-le-zero}
 use native.Mathlib.Numerals.{add-one}
 use native.Mathlib.Decide.{decLe}
 use Rattle.model.specs.Curve.{Curve, P}
 use Rattle.model.specs.Exact as Exact
 use Rattle.model.specs.Exact.{G, weight, weights}
 use Rattle.arith.specs.Rounding.{End, low, high, divide}
 use Rattle.model.specs.Constants.{unit}
 use Rattle.model.specs.Rounded as Rounded
 use Rattle.model.specs.Rounded.{scaled}
-use Rattle.model.proofs.Bracket.{Bounded}
+use Rattle.theory.proofs.Bracket.{Bounded}
 use Rattle.model.specs.CurveWithin.{BaseWithin}
 use Rattle.model.specs.Constants.{stepsPerOne}
 use Rattle.model.specs.Limits.{Between}
 use Rattle.model.specs.Curve.{natural}
 use Rattle.model.specs.Rounded.{stepAt, lowerTest, upperTest, largest, smallest}
 use Rattle.model.specs.Demand3.{RateBounds}
-use Rattle.model.proofs.Differences.{Diff, again, diff-pos, diff-sum, diff-neg, diff-minus, le-diff, lt-diff, natural-is}
+use Rattle.theory.proofs.Differences.{Diff, again, diff-pos, diff-sum, diff-neg, diff-minus, le-diff, lt-diff, natural-is}
 use lib.IntN.{pos, negℤ, _+ℤ_}
 use lib.Signed.{_≤ℤ_, _<ℤ_}
-use Rattle.model.proofs.Steps.{wider, above, beneath, scaled-in}
-use Rattle.model.proofs.Growth.{growth-in, growth-width, G-pos, G-suc, P-pos, pow-pos, forward, mean}
-use Rattle.model.proofs.Conditions.{cond-le, cond-gt}
-use Rattle.model.proofs.Factor.{factor-in, product-pos, weighed-to-60, weighed-from-61, weighed-pos, rounded-factor-first, rounded-factor-next}
-use Rattle.model.proofs.Width.{scaled-most, factor-width}
-use Rattle.model.proofs.Conditions.{below, at}
+use Rattle.theory.proofs.Steps.{wider, above, beneath, scaled-in}
+use Rattle.theory.proofs.Growth.{growth-in, growth-width, G-pos, G-suc, P-pos, pow-pos, forward, mean}
+use Rattle.theory.proofs.Conditions.{cond-le, cond-gt}
+use Rattle.theory.proofs.Factor.{factor-in, product-pos, weighed-to-60, weighed-from-61, weighed-pos, rounded-factor-first, rounded-factor-next}
+use Rattle.theory.proofs.Width.{scaled-most, factor-width}
+use Rattle.theory.proofs.Conditions.{below, at}
 
 -- ---- the growths of a base curve: from 0.98 to 1.15
 base-least : (c : Curve) → BaseWithin c → (j : ℕ) → suc j ≤ 60 → Bounded low 100 98 (G c (suc j))

@@ -9,18 +9,18 @@ use native.Mathlib.Nat.{mul-le-mul-left, mul-le-mul-right, le-of-mul-le-mul-righ
 use native.Mathlib.Decide.{decLe}
 use Rattle.arith.specs.Rounding.{low, high, divide}
 use Rattle.arith.proofs.Rounding.{divide-le}
 use Rattle.model.specs.Constants.{unit}
 use Rattle.model.specs.Curve.{Curve, P}
 use Rattle.model.specs.Exact.{weight, weights}
 use Rattle.model.specs.Rounded as Rounded
 use Rattle.model.specs.Rounded.{scaled, ufrGrowth}
 use Rattle.model.specs.CurveWithin.{CurveWithin}
-use Rattle.model.proofs.Conditions.{below, at}
-use Rattle.model.proofs.Steps.{scaled-in, scaled-width}
-use Rattle.model.proofs.Growth.{growth-suc, P-pos, N-pos, pow-pos}
-use Rattle.model.proofs.Factor.{rounded-factor-first, rounded-factor-next, weighed-from-61, least}
-use Rattle.model.proofs.Width.{scaled-most, factorMost, middle}
-use Rattle.model.proofs.ZeroRate.{backward}
+use Rattle.theory.proofs.Conditions.{below, at}
+use Rattle.theory.proofs.Steps.{scaled-in, scaled-width}
+use Rattle.theory.proofs.Growth.{growth-suc, P-pos, N-pos, pow-pos}
+use Rattle.theory.proofs.Factor.{rounded-factor-first, rounded-factor-next, weighed-from-61, least}
+use Rattle.theory.proofs.Width.{scaled-most, factorMost, middle}
+use Rattle.theory.proofs.ZeroRate.{backward}
 
 -- r + i p is at most (i + 1) q for each i up to j, if it is so at j
 earlier : (p q r j i : ℕ) → i ≤ j → r ≤ q → r + j * p ≤ suc j * q → r + i * p ≤ suc i * q

@@ -7,19 +7,19 @@ use native.Mathlib.Omega.{arith}
 use native.Mathlib.Nat.{mul-le-mul, mul-le-mul-right, mul-lt-mul-of-pos-right, mul-pos, le-of-mul-le-mul-left, lt-of-mul-lt-mul-left}
 use native.Mathlib.Decide.{decLe}
 use Rattle.arith.specs.Rounding.{End, low, high}
 use Rattle.model.specs.Fraction.{Fraction, _∸ᶠ_, _*ᶠ_, square, whole, _≤ᶠ_}
 use Rattle.model.specs.Case.{FileCase}
 use Rattle.model.specs.Limits.{WithinLimits}
 use Rattle.model.specs.Curve.{base}
 use Rattle.model.specs.Exact as Exact
 use Rattle.model.specs.Rounded as Rounded
 use Rattle.model.specs.Margins.{WL, WB, NearFirst, NearSecond, firstMargin, secondMargin}
 use Rattle.model.specs.declared.figures.Verdict.the-variants.{Dekkingstekort, Reservetekort, VrijVermogen, Onbeslist}
-use Rattle.model.proofs.Bracket.{Bounded}
-use Rattle.model.proofs.Conditions.{cond-le, cond-gt}
-use Rattle.model.proofs.Steps.{sum, minus, prod, multiple, ends}
-use Rattle.model.proofs.Money.{L-in, A-in, S-in, L-den, A-den, S-den}
-use Rattle.model.proofs.MoneyWidth.{L-width, A-width, S-width}
+use Rattle.theory.proofs.Bracket.{Bounded}
+use Rattle.theory.proofs.Conditions.{cond-le, cond-gt}
+use Rattle.theory.proofs.Steps.{sum, minus, prod, multiple, ends}
+use Rattle.theory.proofs.Money.{L-in, A-in, S-in, L-den, A-den, S-den}
+use Rattle.theory.proofs.MoneyWidth.{L-width, A-width, S-width}
 
 -- an upper end of x below a lower end of y, or at most it
 apart : {u n m : ℕ} {x y : Fraction} → 0 < x .den → 0 < y .den → Bounded high u n x → Bounded low u m y → n < m → x .num * y .den < y .num * x .den

@@ -5,16 +5,16 @@ use mathlib.Core.Path.{_≡_}
 use native.Mathlib.Omega.{arith}
 use native.Mathlib.Nat.{mul-le-mul-left, mul-le-mul-right, pow-zero, pow-suc, le-dest, mul-pos, one-le-pow}
 use native.Mathlib.Decide.{decLe}
 use Rattle.model.specs.Fraction.{_//_, _*ᶠ_, _÷ᶠ_, _^ᶠ_, _≈_}
 use Rattle.model.specs.Curve.{Curve, P}
 use Rattle.model.specs.Exact.{G, onePlusR}
 use Rattle.arith.specs.Rounding.{End, low, high, divide}
 use Rattle.model.specs.Constants.{unit}
 use Rattle.model.specs.Rounded as Rounded
 use Rattle.model.specs.Rounded.{scaled}
-use Rattle.model.proofs.Bracket.{Bounded}
+use Rattle.theory.proofs.Bracket.{Bounded}
 use Rattle.model.specs.CurveWithin.{CurveWithin}
-use Rattle.model.proofs.Steps.{step, same, scaled-in, scaled-width, wider}
+use Rattle.theory.proofs.Steps.{step, same, scaled-in, scaled-width, wider}
 
 sub-one : (j : ℕ) → suc j - 1 ≡ j
 sub-one j = omega arith

@@ -3,22 +3,22 @@
 use Prim.Native.Nat.{ℕ, _<_}
 use native.Mathlib.Omega.{arith}
 use Rattle.arith.specs.Rounding.{End, low, high}
 use Rattle.model.specs.Constants.{unit}
 use Rattle.model.specs.Fraction.{Fraction, _*ᶠ_, whole}
 use Rattle.model.specs.Case.{FileCase}
 use Rattle.model.specs.Limits.{WithinLimits}
 use Rattle.model.specs.Curve.{Curve, base, curve}
 use Rattle.model.specs.Exact as Exact
 use Rattle.model.specs.Demand3.{Bounds, Demand3}
-use Rattle.model.proofs.Bracket.{Bounded}
+use Rattle.theory.proofs.Bracket.{Bounded}
 use Rattle.model.specs.CurveWithin.{CurveWithin}
-use Rattle.model.proofs.CaseCurves.{curve-within, base-within}
-use Rattle.model.proofs.Factor.{factor-in, product-pos}
-use Rattle.model.proofs.Width.{factor-width}
-use Rattle.model.proofs.ZeroRate.{rate-found, rate-in, rate-width}
-use Rattle.model.proofs.Money.{L-in, B-in, A-in, S1-in, S2-in, S3-in, S4-in, S5-in, S6-in, S-in, L-den, B-den, A-den, S1-den, S6-den, S-den}
-use Rattle.model.proofs.MoneyWidth.{L-width, B-width, A-width, S-width}
-use Rattle.model.proofs.Verdicts.{verdict-right, verdict-margin}
+use Rattle.theory.proofs.CaseCurves.{curve-within, base-within}
+use Rattle.theory.proofs.Factor.{factor-in, product-pos}
+use Rattle.theory.proofs.Width.{factor-width}
+use Rattle.theory.proofs.ZeroRate.{rate-found, rate-in, rate-width}
+use Rattle.theory.proofs.Money.{L-in, B-in, A-in, S1-in, S2-in, S3-in, S4-in, S5-in, S6-in, S-in, L-den, B-den, A-den, S1-den, S6-den, S-den}
+use Rattle.theory.proofs.MoneyWidth.{L-width, B-width, A-width, S-width}
+use Rattle.theory.proofs.Verdicts.{verdict-right, verdict-margin}
 
 -- a number that counts a figure in whole cents bounds it
 bounds : {e : End} {n : ℕ} {x : Fraction} → 0 < x .den → Bounded e 1 n x → Bounds e n x

@@ -9,12 +9,12 @@ use native.Mathlib.Nat.{mul-le-mul-left}
 use lib.ListN.{length, getD}
 use lib.IntN.{ℤ, pos, negsuc, negℤ, _+ℤ_, _-ℤ_, _*ℤ_}
 use lib.Signed.{_≤ℤ_}
 use Rattle.model.specs.Constants.{stepsPerOne}
 use Rattle.model.specs.Case.{FileCase, s}
 use Rattle.model.specs.Limits.{Between, DayWithin, DaysWithin, WithinLimits, forward}
 use Rattle.model.specs.Curve.{Move, base, up, down, shift, movedSum, curve, natural, P}
-use Rattle.model.proofs.Differences.{Diff, again, diff-pos, diff-sum, diff-neg, diff-minus, diff-times, diff-le, le-diff, natural-is}
+use Rattle.theory.proofs.Differences.{Diff, again, diff-pos, diff-sum, diff-neg, diff-minus, diff-times, diff-le, le-diff, natural-is}
 use Rattle.model.specs.CurveWithin.{CurveWithin, BaseWithin}
 
 diff-minus-pos : (n : ℕ) → Diff (negℤ (pos n)) 0 n
 diff-minus-pos n = diff-neg (pos n) n 0 (diff-pos n)

@@ -7,14 +7,14 @@ use Rattle.arith.specs.Rounding.{low, high}
 use Rattle.arith.specs.Root.{root}
 use Rattle.arith.proofs.Rounding.{divide-width}
 use Rattle.arith.proofs.Root.{unsquare, root-floor, root-le}
 use Rattle.model.specs.Case.{FileCase, ageGap}
 use Rattle.model.specs.Limits.{WithinLimits}
 use Rattle.model.specs.Curve.{Move, base, up, down, curve}
 use Rattle.model.specs.Rounded as Rounded
 use Rattle.model.specs.Rounded.{mortality, buffer}
 use Rattle.model.specs.Margins.{WL, WB}
-use Rattle.model.proofs.CaseCurves.{curve-within}
-use Rattle.model.proofs.Money.{worth-width}
+use Rattle.theory.proofs.CaseCurves.{curve-within}
+use Rattle.theory.proofs.Money.{worth-width}
 
 -- what stands under the root of the buffer, times 1,000
 abbrev squares : ℕ → ℕ → ℕ → ℕ → ℕ → ℕ → ℕ → ℕ

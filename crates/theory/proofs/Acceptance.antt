@@ -2,15 +2,15 @@
 use mathlib.Core.Path.{_≡_, refl, sym, _∙_}
 use mathlib.Core.List.{List}
 use Prim.Native.Nat.{ℕ}
 use Rattle.model.specs.Numbers.{Bytes}
 use Rattle.model.specs.Layout.{Keeps}
 use Rattle.model.specs.Reading.{fileMap, caseOf}
 use Rattle.model.specs.Refusals.{refusal}
-use Rattle.model.proofs.Checks.{accepted-passed, passed-accepted}
-use Rattle.model.proofs.Accepted.{within-limits}
-use Rattle.model.proofs.Bitmap.{shown}
-use Rattle.model.proofs.Written.{agrees, written-back}
-use Rattle.model.proofs.Read.{case-read, passed}
+use Rattle.theory.proofs.Checks.{accepted-passed, passed-accepted}
+use Rattle.theory.proofs.Accepted.{within-limits}
+use Rattle.theory.proofs.Bitmap.{shown}
+use Rattle.theory.proofs.Written.{agrees, written-back}
+use Rattle.theory.proofs.Read.{case-read, passed}
 
 -- an accepted file keeps the layout and limits, and the case read is the case that it holds
 pub accepted-keeps : (file : List ℕ) → Bytes file → refusal file ≡ 0 → (x : Keeps file) × (x .held ≡ caseOf file)

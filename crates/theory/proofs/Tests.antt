@@ -9,10 +9,10 @@ use lib.Dec.{T, leb}
 use lib.ListN.{length, getD}
 use lib.IntN.{ℤ, pos, negℤ}
 use lib.Signed.{leZ, _≤ℤ_}
 use Rattle.model.specs.Numbers.{every, table}
 use Rattle.model.specs.Limits.{Between, FlowsWithin, DayWithin, forward}
 use Rattle.model.specs.Refusals.{within, withinZ}
-use Rattle.model.proofs.Lists.{and-first, and-second, and-both, every-at, every-all, length-table, getD-table}
+use Rattle.theory.proofs.Lists.{and-first, and-second, and-both, every-at, every-all, length-table, getD-table}
 
 -- ---- one number
 

@@ -11,23 +11,23 @@ use Rattle.arith.specs.Rounding.{End, low, high, other, divide}
 use Rattle.arith.specs.Root.{root}
 use Rattle.arith.proofs.Rounding.{divide-floor, divide-ceiling}
 use Rattle.arith.proofs.Root.{root-floor, root-ceiling}
 use Rattle.model.specs.Constants.{unit}
 use Rattle.model.specs.Fraction.{Fraction, _//_, _+ᶠ_, _*ᶠ_, square, whole, larger}
 use Rattle.model.specs.Case.{FileCase, allExceptCurrency, ageGap}
 use Rattle.model.specs.Limits.{WithinLimits}
 use Rattle.model.specs.Curve.{Curve, Move, base, up, down, curve}
 use Rattle.model.specs.Exact as Exact
 use Rattle.model.specs.Exact.{loss, S², S6²}
 use Rattle.model.specs.Rounded as Rounded
 use Rattle.model.specs.Rounded.{mortality}
 use Rattle.model.specs.Margins.{weightedSum, W}
-use Rattle.model.proofs.Bracket.{Bounded}
+use Rattle.theory.proofs.Bracket.{Bounded}
 use Rattle.model.specs.CurveWithin.{CurveWithin}
-use Rattle.model.proofs.CaseCurves.{curve-within}
-use Rattle.model.proofs.Conditions.{cond-le, cond-gt}
-use Rattle.model.proofs.Steps.{same, sum, minus, prod}
-use Rattle.model.proofs.Factor.{factor-in, product-pos}
-use Rattle.model.proofs.Width.{factor-width}
+use Rattle.theory.proofs.CaseCurves.{curve-within}
+use Rattle.theory.proofs.Conditions.{cond-le, cond-gt}
+use Rattle.theory.proofs.Steps.{same, sum, minus, prod}
+use Rattle.theory.proofs.Factor.{factor-in, product-pos}
+use Rattle.theory.proofs.Width.{factor-width}
 
 -- one flow, and the flows
 flow : {e : End} {f : ℕ} {F : Fraction} (x : ℕ) → Bounded e unit f F → Bounded e 1 (divide e (x * f) (10 ^ 10)) (whole (100 * x) *ᶠ F)

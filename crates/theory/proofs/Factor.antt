@@ -8,19 +8,19 @@ use lib.Arith.{lt→nleb}
 use native.Mathlib.Omega.{arith}
 use native.Mathlib.Nat.{mul-le-mul-left, pow-zero, mul-pos}
 use native.Mathlib.Decide.{decLe}
 use Rattle.model.specs.Fraction.{_÷ᶠ_, _^ᶠ_, _≈_}
 use Rattle.model.specs.Curve.{Curve, P}
 use Rattle.model.specs.Exact as Exact
 use Rattle.model.specs.Exact.{G, onePlusR, onePlusUfr, weight}
 use Rattle.arith.specs.Rounding.{End, low, high, other, divide}
 use Rattle.model.specs.Constants.{unit}
 use Rattle.model.specs.Rounded as Rounded
 use Rattle.model.specs.Rounded.{scaled, ufrGrowth}
-use Rattle.model.proofs.Bracket.{Bounded}
+use Rattle.theory.proofs.Bracket.{Bounded}
 use Rattle.model.specs.CurveWithin.{CurveWithin}
-use Rattle.model.proofs.Conditions.{cond-yes, cond-no}
-use Rattle.model.proofs.Steps.{same, cross, weigh, ends, above, start, scaled-in}
-use Rattle.model.proofs.Growth.{growth-in, growth-width, growth-least, G-pos, G-suc, P-pos, pow-pos}
+use Rattle.theory.proofs.Conditions.{cond-yes, cond-no}
+use Rattle.theory.proofs.Steps.{same, cross, weigh, ends, above, start, scaled-in}
+use Rattle.theory.proofs.Growth.{growth-in, growth-width, growth-least, G-pos, G-suc, P-pos, pow-pos}
 
 -- which growth, by the term
 pub growth-to-20 : (c : Curve) (t : ℕ) → t ≤ 20 → Exact.growth c t ≡ G c t

@@ -12,10 +12,10 @@ use lib.Dec.{ltb, lit<, leb→le}
 use lib.ListN.{length, getD, drop, length-append, length-drop, length-map}
 use lib.Seq.{drop-cons, drop-drop, drop-at, getD-drop, getD-at}
 use lib.IntN.{ℤ, pos, negsuc, negℤ, _-ℤ_}
 use Rattle.model.specs.Numbers.{number, entry, twosComplement, bytesOf, bytesOfRun, unsigned, table, Bytes}
 use Rattle.model.specs.Limits.{Between, DayWithin}
 use Rattle.model.specs.Layout.{ratesOf}
-use Rattle.model.proofs.Lists.{table-none, table-first, table-same, map-table}
+use Rattle.theory.proofs.Lists.{table-none, table-first, table-same, map-table}
 
 -- ---- lengths
 

@@ -6,11 +6,11 @@ use mathlib.Core.Path.{ap}
 use native.Mathlib.Omega.{arith}
 use native.Mathlib.Nat.{mul-le-mul-left, mul-le-mul-right, le-of-mul-le-mul-right, lt-of-mul-lt-mul-right, pow-zero, pow-suc, le-dest, mul-sub, mul-comm}
 use native.Mathlib.Decide.{decLe}
 use Rattle.model.specs.Fraction.{Fraction, _//_, _+ᶠ_, _∸ᶠ_, _*ᶠ_, _÷ᶠ_, _^ᶠ_, _≈_}
 use Rattle.arith.specs.Rounding.{End, low, high, other, divide}
 use Rattle.model.specs.Constants.{unit}
 use Rattle.model.specs.Rounded.{scaled}
-use Rattle.model.proofs.Bracket.{Bounded}
+use Rattle.theory.proofs.Bracket.{Bounded}
 
 -- × a ÷ b keeps the bracket
 pub step : {e : End} {u n : ℕ} {x : Fraction} (a b : ℕ) → 0 < b → Bounded e u n x → Bounded e u (divide e (n * a) b) (x *ᶠ (a // b))

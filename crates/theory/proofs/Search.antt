@@ -9,12 +9,12 @@ use native.Mathlib.Decide.{decLe}
 use lib.Dec.{T, leb, leb→le, le→leb}
 use Rattle.arith.specs.Rounding.{End, low, high, divide}
 use Rattle.arith.proofs.Rounding.{divide-floor, divide-ceiling, divide-le, le-divide, divide-mono, divide-ends}
 use Rattle.model.specs.Constants.{stepsPerOne}
 use Rattle.model.specs.Curve.{Curve}
 use Rattle.model.specs.Rounded as Rounded
 use Rattle.model.specs.Rounded.{scaled, tested, lowerTest, upperTest, largest, smallest}
-use Rattle.model.proofs.Conditions.{below, at}
-use Rattle.model.proofs.ZeroRate.{largest-found, smallest-found}
+use Rattle.theory.proofs.Conditions.{below, at}
+use Rattle.theory.proofs.ZeroRate.{largest-found, smallest-found}
 
 -- a larger divisor gives no larger quotient
 divide-anti : (e : End) (a b c : ℕ) → 0 < b → b ≤ c → divide e a c ≤ divide e a b

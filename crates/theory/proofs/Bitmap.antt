@@ -6,11 +6,11 @@ use native.Mathlib.Nat.{pow-suc, add-suc, add-zero, div-div-eq-div-mul, div-eq-o
 use native.Mathlib.Omega.{arith}
 use borrow.Author.Tests.{eqb-true, eqb-false, not-true}
 use lib.Dec.{eqb, lit<}
 use Rattle.model.specs.Numbers.{every}
 use Rattle.model.specs.Layout.{Present, mapOf}
 use Rattle.model.specs.Reading.{stands}
 use Rattle.model.specs.Refusals.{bitsRight}
-use Rattle.model.proofs.Lists.{and-first, and-second, every-at}
+use Rattle.theory.proofs.Lists.{and-first, and-second, every-at}
 
 -- the optional fields that a map shows
 abbrev pub shown : ℕ → Present

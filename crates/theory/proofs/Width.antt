@@ -7,17 +7,17 @@ use lib.Dec.{T, leb, leb→le}
 use native.Mathlib.Omega.{arith}
 use native.Mathlib.Nat.{add-suc, le-dest, mul-le-mul, mul-le-mul-left, mul-le-mul-right, mul-lt-mul-of-pos-right, le-of-mul-le-mul-right, lt-of-mul-lt-mul-right}
 use native.Mathlib.Decide.{decLe}
 use Rattle.model.specs.Curve.{Curve, P}
 use Rattle.model.specs.Exact.{weight, weights}
 use Rattle.arith.specs.Rounding.{low, high, divide}
 use Rattle.model.specs.Constants.{unit}
 use Rattle.model.specs.Rounded as Rounded
 use Rattle.model.specs.Rounded.{scaled, ufrGrowth}
 use Rattle.model.specs.CurveWithin.{CurveWithin}
-use Rattle.model.proofs.Steps.{wider, scaled-width, ends}
-use Rattle.model.proofs.Growth.{growth-width, P-pos}
-use Rattle.model.proofs.Factor.{least, weighed-least, weighed-to-60, weighed-from-61, weighed-in, growth-fraction-pos, rounded-factor-first, rounded-factor-next}
-use Rattle.model.proofs.Conditions.{below, at}
+use Rattle.theory.proofs.Steps.{wider, scaled-width, ends}
+use Rattle.theory.proofs.Growth.{growth-width, P-pos}
+use Rattle.theory.proofs.Factor.{least, weighed-least, weighed-to-60, weighed-from-61, weighed-in, growth-fraction-pos, rounded-factor-first, rounded-factor-next}
+use Rattle.theory.proofs.Conditions.{below, at}
 
 -- to 20
 pub scaled-most : (a b p q j : ℕ) → 0 < b → 0 < q → a * q ≤ p * b → scaled high a b j ≤ scaled high p q j

@@ -8,18 +8,18 @@ use lib.ListN.{length, getD}
 use Rattle.arith.specs.Rounding.{End, low, high}
 use Rattle.arith.proofs.Rounding.{divide-le}
 use Rattle.arith.proofs.Root.{root-le}
 use Rattle.model.specs.Case.{FileCase, ageGap}
 use Rattle.model.specs.Limits.{WithinLimits}
 use Rattle.model.specs.Curve.{Curve, Move, base, up, down, curve}
 use Rattle.model.specs.Exact as Exact
 use Rattle.model.specs.Rounded as Rounded
 use Rattle.model.specs.Rounded.{mortality, buffer}
 use Rattle.model.specs.CurveWithin.{CurveWithin}
-use Rattle.model.proofs.CaseCurves.{curve-within}
-use Rattle.model.proofs.Steps.{ends}
-use Rattle.model.proofs.Factor.{factor-in, product-pos}
-use Rattle.model.proofs.Sizes.{factor-size}
-use Rattle.model.proofs.MoneyWidth.{share}
+use Rattle.theory.proofs.CaseCurves.{curve-within}
+use Rattle.theory.proofs.Steps.{ends}
+use Rattle.theory.proofs.Factor.{factor-in, product-pos}
+use Rattle.theory.proofs.Sizes.{factor-size}
+use Rattle.theory.proofs.MoneyWidth.{share}
 
 factor-den : (c : Curve) → CurveWithin c → (t : ℕ) → 0 < Exact.factor c t .den
 unfolding Exact.factor

@@ -33,12 +33,12 @@ use Rattle.model.specs.Reading.{
   peopleOf,
   caseOf,
 }
 use Rattle.model.specs.Refusals.{mapChecks, ufrChecks, daysChecks, flowsChecks, amountsChecks, shocksChecks, peopleChecks, endChecks}
-use Rattle.model.proofs.Lists.{and-first, length-table, table-none}
-use Rattle.model.proofs.Checks.{Passed}
-use Rattle.model.proofs.Encoding.{number-small, number-written, byte-written, run-written, rates-written, dayFrom}
-use Rattle.model.proofs.Parts.{fromPeople, fromShocks, fromAmounts, fromBonds, fromPension, fromDays, fromUfr, in-order}
-use Rattle.model.proofs.Bitmap.{shown, map-shown}
+use Rattle.theory.proofs.Lists.{and-first, length-table, table-none}
+use Rattle.theory.proofs.Checks.{Passed}
+use Rattle.theory.proofs.Encoding.{number-small, number-written, byte-written, run-written, rates-written, dayFrom}
+use Rattle.theory.proofs.Parts.{fromPeople, fromShocks, fromAmounts, fromBonds, fromPension, fromDays, fromUfr, in-order}
+use Rattle.theory.proofs.Bitmap.{shown, map-shown}
 
 -- two parts that stand one behind the other
 then : (file xs ys : List ℕ) (at next end : ℕ) → xs ++ drop next file ≡ drop at file → ys ++ drop end file ≡ drop next file

@@ -57,13 +57,13 @@ use Rattle.model.specs.Refusals.{
   peopleChecks,
   endChecks,
 }
 use Rattle.model.specs.declared.case.Amounts.{Amounts}
 use Rattle.model.specs.declared.case.Shocks.{Shocks}
 use Rattle.model.specs.declared.case.People.{People}
-use Rattle.model.proofs.Lists.{_also_, length-table, getD-table, table-none}
-use Rattle.model.proofs.Checks.{Hold, Passed}
-use Rattle.model.proofs.Tests.{within-test, flows-test, rates-test, forward-test}
-use Rattle.model.proofs.Encoding.{
+use Rattle.theory.proofs.Lists.{_also_, length-table, getD-table, table-none}
+use Rattle.theory.proofs.Checks.{Hold, Passed}
+use Rattle.theory.proofs.Tests.{within-test, flows-test, rates-test, forward-test}
+use Rattle.theory.proofs.Encoding.{
   length-bytes,
   length-run,
   length-rates,
@@ -77,8 +77,8 @@ use Rattle.model.proofs.Encoding.{
   run-read,
   rates-read,
 }
-use Rattle.model.proofs.Bitmap.{shown, map-right, map-small, shown-map}
-use Rattle.model.proofs.Parts.{fromPeople, fromShocks, fromAmounts, fromBonds, fromPension, fromDays, fromUfr, in-order}
+use Rattle.theory.proofs.Bitmap.{shown, map-right, map-small, shown-map}
+use Rattle.theory.proofs.Parts.{fromPeople, fromShocks, fromAmounts, fromBonds, fromPension, fromDays, fromUfr, in-order}
 
 -- ---- one field
 

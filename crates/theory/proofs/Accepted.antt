@@ -30,10 +30,10 @@ use Rattle.model.specs.Reading.{
   peopleOf,
   caseOf,
 }
 use Rattle.model.specs.Refusals.{ufrChecks, daysChecks, flowsChecks, amountsChecks, shocksChecks, peopleChecks, endChecks, refusal}
-use Rattle.model.proofs.Lists.{and-first, and-second, every-at, length-table, getD-table}
-use Rattle.model.proofs.Tests.{flows-true, day-true, forward-true}
-use Rattle.model.proofs.Checks.{Passed, accepted-passed}
+use Rattle.theory.proofs.Lists.{and-first, and-second, every-at, length-table, getD-table}
+use Rattle.theory.proofs.Tests.{flows-true, day-true, forward-true}
+use Rattle.theory.proofs.Checks.{Passed, accepted-passed}
 
 module _ (file : List ℕ) (p : Passed file) where
   ufr-within : cond (hasUfr file) (number file 2 2) defaultUfr ≤ 5000

@@ -9,6 +9,7 @@ import sys
 from collections import Counter
 
 import files
+import limits
 import programs
 from reference import encode
 
@@ -28,6 +29,7 @@ def kinds(rng, quick):
     yield "long cut", [data[:rng.randrange(len(data))] for data in valid]
     yield "bytes behind", [data + rng.randbytes(rng.randint(1, 300)) for data in valid]
     yield "one fault", [bad for data in (rich, days) for bad in files.damaged_once(data)]
+    yield "limits and order", [data for _, _, rows in limits.groups() for _, data in rows]
     twice = list(files.damaged_twice(rng, rich))
     yield "two faults", rng.sample(twice, 1_000) if quick else twice + list(files.damaged_twice(rng, days))
     values = [0, 1, 2, 4, 8, 16, 32, 64, 127, 128, 255]

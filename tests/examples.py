@@ -1,9 +1,9 @@
-"""Cases for the tests: three fixed ones, whose numbers tests/pinned.py writes down, and random ones."""
+"""Cases for the tests: fixed ones, whose numbers tests/pinned.py writes down, and random ones."""
 
 from dataclasses import replace
 
 import reference
-from reference import AMOUNTS, LOWER, SHOCK_LIMITS, SHOCKS, Case, Rounded
+from reference import AMOUNTS, LOWER, SHOCK_LIMITS, SHOCKS, Case, Exact, Rounded
 
 
 def flat(*rates):
@@ -19,7 +19,7 @@ def c1(**changes):
     return replace(case, **changes)
 
 
-# ---------------------------------------------------------------- three fixed cases
+# ---------------------------------------------------------------- fixed cases
 
 def bent():
     """Three days that rise, fall, rise and fall with the term; the short rates are negative."""
@@ -72,6 +72,56 @@ def down():
                                    10_293_847])),
         shocks=dict(zip(SHOCKS, [140, 260, 239, 337, 419, 157, 211, 353, 890, 613, 8_765, 437])),
         heads=4_321, pension_age=816, mean_age=577)
+
+
+def long():
+    """Two days, 120 pension and 60 bond flows, most of them past term 60 large, and both shifts: WL and WB are in the thousands."""
+    terms = range(1, 61)
+    return Case(
+        ufr=3_333,
+        days=[[200 + 17 * t for t in terms], [260 + 15 * t + t % 2 for t in terms]],
+        pension=[1_000_000 + 10_007 * t for t in terms] + [100_000_000 - 30_011 * (t - 60) for t in range(61, 121)],
+        bonds=[90_000_000 - 700_001 * t for t in terms],
+        amounts=dict(zip(AMOUNTS, [2_345_678_901, 987_654_321, 123_456_789, 345_678_912, 45_678_913, 567_891_234, 678_912_345,
+                                   789_123_456])),
+        shocks=dict(zip(SHOCKS, [250, 410, 251, 353, 307, 149, 457, 349, 509, 401, 2_345, 73])),
+        heads=54_321, pension_age=811, mean_age=563)
+
+
+def no_flows():
+    """C1 with three pension flows and two bond flows of 0: Q is 0 on both sides."""
+    return c1(pension=[0, 0, 0], bonds=[0, 0])
+
+
+def whole_quotient():
+    """C1 with a flow of 100,000,000 at term 5, whose 4 x t x t x flow is 10^10: Q is 1, with nothing to round."""
+    return c1(pension=[0, 0, 0, 0, 100_000_000])
+
+
+def undecided(border, exact):
+    """C1 with flat 100 whose rounded verdict is undecided at a border, and whose exact verdict is the one given: the first such flow.
+
+    border gives 20 x A - 21 x L or the like of a rounded working: the cash is set so that it comes close to 0 from below or above.
+    """
+    flow = 1_000_000
+    while True:
+        case = c1(days=flat(100), pension=[flow])
+        cash = border(Rounded(replace(case, amounts=dict.fromkeys(AMOUNTS, 0))))
+        case = replace(case, amounts=case.amounts | {"cash": cash})
+        if Rounded(case).verdict == reference.ONBESLIST and Exact(case).verdict == exact:
+            return case
+        flow += 1
+
+
+def first_border(rounded):
+    """The least cash in euros with which 20 x A reaches 21 x lower L."""
+    return -(-21 * rounded.L[LOWER] // 2_000)
+
+
+def second_border(rounded):
+    """The least cash in euros with which A reaches lower L + lower S."""
+    return -(-(rounded.L[LOWER] + rounded.S[LOWER]) // 100)
+
 
 
 # ---------------------------------------------------------------- random cases

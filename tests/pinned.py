@@ -1,141 +1,107 @@
-"""Writes crates/model/proofs/Pinned.antt: numbers of tests/reference.py as computed statements about the definitions.
+"""Writes numbers of tests/reference.py as computed statements about the definitions, in three files (PATHS below).
 
-Command line: python3 tests/pinned.py           writes the file
-              python3 tests/pinned.py --check   ends with 1 if the file is another
+Command line: python3 tests/pinned.py           writes the files
+              python3 tests/pinned.py --check   ends with 1 if one of them is another
 """
 
 import os
 import sys
+from fractions import Fraction
+from types import SimpleNamespace
 
 import examples
+import limits
 import reference
-from reference import AMOUNTS, LOWER, MONEY, SHOCKS, UPPER, Exact, ExactCurve, Rounded, encode
+from antt import (both_ends, case_definition, computed, computed_fraction, definition, file_term, holds, integer, refusal, refuted,
+                  short_list)
+from reference import LOWER, MONEY, UPPER, Exact, ExactCurve, Rounded, encode
 
-PATH = os.path.join(os.path.dirname(os.path.abspath(__file__)), "..", "crates", "model", "proofs", "Pinned.antt")
-ENDS = ((LOWER, "low"), (UPPER, "high"))
+ROOT = os.path.join(os.path.dirname(os.path.abspath(__file__)), "..")
 VERDICTS = {reference.DEKKINGSTEKORT: "Dekkingstekort", reference.RESERVETEKORT: "Reservetekort",
             reference.VRIJ_VERMOGEN: "VrijVermogen", reference.ONBESLIST: "Onbeslist"}
+
+WRITTEN = """\
+-- tests/pinned.py wrote this file, from an implementation in Python that was written from the paper alone (tests/reference.py): change
+-- that, not this. Assumes nothing.
+"""
+
+PINNED_HEAD = """\
+-- Numbers of case files and cases as computed statements about the definitions: what an edit of a definition is held against first.
+-- What takes longer to compute is in the crate `pinned`.
+""" + WRITTEN + """\
+use Prim.Native.Nat.{ℕ}
+use mathlib.Core.Path.{_≡_, refl}
+use mathlib.Core.Bool.{true, false}
+use mathlib.Core.List.{List, [], _∷_, _++_}
+use native.Mathlib.Nat.{not-le-of-lt}
+use lib.Dec.{lit<, lit≤}
+use lib.ListN.{replicate}
+use lib.IntN.{pos, negℤ}
+use Rattle.arith.specs.Rounding.{low, high}
+use Rattle.model.specs.Case.{FileCase, s}
+use Rattle.model.specs.Layout.{fileOf}
+use Rattle.model.specs.Reading.{caseOf}
+use Rattle.model.specs.Fraction.{_//_, _≐_, whole}
+use Rattle.model.specs.Curve.{Curve, base, up, down, curve, P}
+use Rattle.model.specs.Exact as Exact
+use Rattle.model.specs.Rounded as Rounded
+use Rattle.model.specs.Margins.{WL, WB, NearFirst, NearSecond, firstMargin, secondMargin}
+use Rattle.model.specs.declared.figures.Verdict.the-variants.{Dekkingstekort, Reservetekort, VrijVermogen, Onbeslist}
+use Rattle.model.proofs.Computing.{pairs, all}
+"""
+
+REFUSED_HEAD = """\
+-- The refusals of files at each limit, on both sides, and in each place of the order of checks. A number that passes its check is mostly
+-- shown by a file that ends behind the field, which is refused with 1.
+""" + WRITTEN + """\
+use Prim.Native.Nat.{ℕ}
+use mathlib.Core.Path.{_≡_, refl}
+use mathlib.Core.List.{List, [], _∷_, _++_, map}
+use Rattle.model.specs.Refusals.{refusal, ratesPart}
+use Rattle.model.proofs.Computing.{pairs, all}
+"""
+
+FILES_HEAD = """\
+-- What whole case files give, and what takes longer to compute of a curve, as computed statements about the definitions.
+""" + WRITTEN + """\
+use Prim.Native.String.{String}
+use mathlib.Core.Path.{_≡_, refl}
+use mathlib.Core.List.{List, [], _∷_, _++_}
+use lib.IntN.{pos, negℤ}
+use Prim.Native.Nat.{ℕ}
+use Rattle.arith.specs.Rounding.{low, high}
+use Rattle.model.specs.Reading.{caseOf}
+use Rattle.model.specs.Refusals.{refusal}
+use Rattle.model.specs.Curve.{up, down}
+use Rattle.model.specs.Rounded as Rounded
+use Rattle.model.specs.Buffers.{valuationOf}
+use Rattle.model.specs.Listing.{listing}
+use Rattle.model.proofs.Computing.{pairs, text, all}
+use Rattle.model.proofs.Pinned.{bentFile, bentCurve, upFile, downFile, long}
+"""
 
 TITLES = {
     "bent": "A bent curve of three days: the rates rise, fall, rise and fall with the term, and the short ones are negative.",
     "up": "A fund with another number in every field, whose bonds are longer than its pensions: the up curve decides S1.",
     "down": "A fund with another number in every field, whose pensions outweigh its bonds: the down curve decides S1. S5 exceeds the credit.",
+    "long": "A fund with 120 pension and 60 bond flows and both shifts. Most of its large flows lie past term 60, so that WL and WB are large.",
 }
 
-HEAD = """\
--- Numbers of three case files as computed statements about the definitions. tests/pinned.py wrote this file, from an implementation in
--- Python that was written from the paper alone (tests/reference.py): change that, not this. Assumes nothing.
-use Prim.Native.Nat.{ℕ}
-use Prim.Native.String.{String}
-use mathlib.Core.Path.{_≡_, refl, ap}
-use mathlib.Core.Bool.{true, false}
-use mathlib.Core.List.{List, [], _∷_}
-use lib.Dec.{lit<}
-use lib.ListN.{length}
-use lib.IntN.{pos, negℤ}
-use Rattle.arith.specs.Rounding.{low, high}
-use Rattle.model.specs.Case.{FileCase, s}
-use Rattle.model.specs.Layout.{fileOf}
-use Rattle.model.specs.Numbers.{number}
-use Rattle.model.specs.Reading.{fileMap, daysAt, dayCount, caseOf}
-use Rattle.model.specs.Refusals.{refusal, ratesPart, ratesPartAfter}
-use Rattle.model.specs.Fraction.{_//_, _≐_}
-use Rattle.model.specs.Curve.{Curve, base, curve}
-use Rattle.model.specs.Exact as Exact
-use Rattle.model.specs.Rounded as Rounded
-use Rattle.model.specs.Margins.{WL, WB}
-use Rattle.model.specs.Buffers.{valuationOf}
-use Rattle.model.specs.Listing.{listing}
-use Rattle.model.specs.declared.figures.Verdict.the-variants.{Reservetekort, VrijVermogen}
-use Rattle.model.proofs.Computing.{text, all}
-"""
+
+def ends(one_end):
+    return [one_end(LOWER), one_end(UPPER)]
 
 
-# ---------------------------------------------------------------- terms
+# ---------------------------------------------------------------- crates/model/proofs/Pinned.antt
 
-def rows(items, most):
-    """The items with ∷ between them, at most so many to a row."""
-    return [" ∷ ".join(items[i:i + most]) for i in range(0, len(items), most)]
-
-
-def short_list(items):
-    return " ∷ ".join([str(item) for item in items] + ["[]"])
-
-
-def integer(z):
-    return f"pos {z}" if z >= 0 else f"negℤ (pos {-z})"
-
-
-def fraction(x):
-    return f"{x.numerator} // {x.denominator}"
-
-
-def both_ends(term, bracket):
-    """[term at low ≡ lower, term at high ≡ upper]; the end stands at the place of {e}."""
-    return [f"{term.format(e=name)} ≡ {bracket[end]}" for end, name in ENDS]
-
-
-# ---------------------------------------------------------------- declarations
-
-def computed(name, *equations):
-    """A statement that both sides of each equation compute to the same."""
-    statement = equations[0] if len(equations) == 1 else "\n    × ".join(f"({one})" for one in equations)
-    proof = "refl" if len(equations) == 1 else "(" + ", ".join("refl" for _ in equations) + ")"
-    return f"{name} : {statement}\nunfolding all\n{name} = {proof}\n"
-
-
-def computed_fraction(name, term, x):
-    return f"{name} : {term} ≐ {fraction(x)}\nunfolding all\n{name} = (lit< tt, lit< tt, refl)\n"
-
-
-def file_bytes(name, data, case):
-    """The file: a field, or a day of 60 rates, begins a row."""
-    byte = lambda part: [f"0x{b:02x}" for b in part]
-    cuts = [2, 2, 1] + [120] * len(case.days) + [1, 4 * len(case.pension)]
-    if case.bonds:
-        cuts += [1, 4 * len(case.bonds)]
-    cuts += [8] * 8 + [24, 8]
-    assert sum(cuts) == len(data)
-    lines, at = [], 0
-    for cut in cuts:
-        lines += rows(byte(data[at:at + cut]), 20)
-        at += cut
-    body = "\n    ∷ ".join(lines + ["[]"])
-    return f"abbrev {name}File : List ℕ\n{name}File =\n    {body}\n"
-
-
-def record(fields, indent="  "):
-    """A record literal, a field a line; fields is a list of (name, term)."""
-    quoted = lambda name: f"«{name}»" if "_" in name else name
-    return "record {\n" + "".join(f"{indent}{quoted(name)} = {term};\n" for name, term in fields) + indent[2:] + "}"
-
-
-def read_case(name, case):
-    """That the bytes hold this case, by name."""
-    deep = "    "
-    row = "\n      ∷ "
-    days = ["(" + row.join(rows([integer(rate) for rate in day], 10) + ["[]"]) + ")" for day in case.days]
-    fields = [("ufr", case.ufr), ("days", row.join(days + ["[]"])),
-              ("pension", short_list(case.pension)), ("bonds", short_list(case.bonds)),
-              ("amounts", record([(a, case.amounts[a]) for a in AMOUNTS], deep)),
-              ("shocks", record([(x, case.shocks[x]) for x in SHOCKS], deep)),
-              ("people", record([(x, getattr(case, x)) for x in ("heads", "pension_age", "mean_age")], deep))]
-    return (f"abbrev {name}Case : FileCase\n{name}Case = {record(fields)}\n", computed(f"{name}-case", f"{name} ≡ {name}Case"))
-
-
-def file_statements(name, data, case):
-    """The file, its case, and what is said of every accepted file."""
+def read_statements(name, case, data):
+    """The file, its case by name, and that each is the other's."""
     bonds = "true" if case.bonds else "false"
-    part = f"{name}-rates-part"
-    return [f"-- {TITLES[name]}\n" + file_bytes(name, data, case),
-            f"abbrev {name} : FileCase\n{name} = caseOf {name}File\n",
-            *read_case(name, case),
+    return [definition(f"{name}File", "List ℕ", file_term(data), TITLES[name]),
+            case_definition(name + "Case", case, "the case that it holds"),
+            computed(f"{name}-case", f"caseOf {name}File ≡ {name}Case"),
             computed(f"{name}-layout",
-                     f"fileOf (record {{ ufr = true; bonds = {bonds}; amounts = true }}) {name}Case ≡ {name}File"),
-            computed(f"{name}-accepted", f"refusal {name}File ≡ 0"),
-            f"{part} : length (ratesPart {name}File) ≡ {reference.rates_part(data)[1]}\n"
-            "unfolding ratesPart dayCount daysAt fileMap number\n"
-            f"{part} = ap (λ r. length (ratesPartAfter r {name}File)) {name}-accepted\n"]
+                     f"fileOf (record {{ ufr = true; bonds = {bonds}; amounts = true }}) {name}Case ≡ {name}File")]
 
 
 def bent_statements():
@@ -143,21 +109,18 @@ def bent_statements():
     rounded, exact = Rounded(case), ExactCurve(case)
     N, P = reference.points(case)
     sums = reference.sums(case.days)
-    ends = lambda one_end: [one_end(LOWER), one_end(UPPER)]
-    out = file_statements("bent", encode(case, True, False, True), case)
-    out.append("abbrev bentCurve : Curve\nbentCurve = curve bent base\n")
-    out.append(computed("bent-sums", *(f"s (bent .days) {t} ≡ {integer(sums[t])}" for t in (1, 20, 21, 60))))
-    for t in (21, 40, 60):
+    out = read_statements("bent", case, encode(case, True, False, True))
+    out.append("abbrev pub bentCurve : Curve\nbentCurve = curve bentCase base\n")
+    out.append(computed("bent-sums", *(f"s (bentCase .days) {t} ≡ {integer(sums[t])}" for t in (0, 1, 20, 21, 60))))
+    for t in (21, 60):
         out.append(computed(f"bent-growth-{t}", *both_ends(
             f"Rounded.growth bentCurve {{e}} {t}", ends(lambda end: reference.growth(N, P, t, end)))))
-    for t in (21, 40, 60, 61):
+    for t in (21, 60, 61):
         out.append(computed(f"bent-weighed-{t}", *both_ends(
             f"Rounded.weighed bentCurve {{e}} {t}", ends(lambda end: reference.weighed_growth(N, P, case.ufr, t, end)))))
-    for t in (1, 20, 21, 40, 60, 61, 120):
+    for t in (1, 20, 21, 61):
         out.append(computed(f"bent-factor-{t}", *both_ends(f"Rounded.factor bentCurve {{e}} {t}", rounded.factors[t])))
-    for t, ends_of in ((1, ENDS), (2, ENDS), (3, ENDS), (21, ENDS[1:])):
-        out.append(computed(f"bent-zero-rate-{t}", *(
-            f"Rounded.zeroRate bentCurve {end_name} {t} ≡ {integer(rounded.zero_rates[t][end])}" for end, end_name in ends_of)))
+    out.append(rate_statement(rounded, 1))
     for t in (1, 2):
         out.append(computed_fraction(f"bent-exact-factor-{t}", f"Exact.factor bentCurve {t}", exact.factor(t)))
     for t in (61, 120):
@@ -165,46 +128,206 @@ def bent_statements():
     return out
 
 
+def rate_statement(rounded, t, of=("low", "high")):
+    bracket = dict(zip(("low", "high"), rounded.zero_rates[t]))
+    return computed(f"bent-zero-rate-{t}", *(f"Rounded.zeroRate bentCurve {end} {t} ≡ {integer(bracket[end])}" for end in of))
+
+
 def fund_statements(name, case):
+    """A file, its case, and every figure of it in both workings."""
     rounded, exact = Rounded(case), Exact(case)
-    data = encode(case, True, True, True)
-    out = file_statements(name, data, case)
+    out = read_statements(name, case, encode(case, True, True, True))
     for figure in MONEY:
         moved = " base" if figure in "LB" else ""
-        out.append(computed(f"{name}-{figure}", *both_ends(f"Rounded.{figure} {name}{moved} {{e}}", getattr(rounded, figure))))
+        out.append(computed(f"{name}-{figure}", *both_ends(f"Rounded.{figure} {name}Case{moved} {{e}}", getattr(rounded, figure))))
     for figure in MONEY[:8]:
         moved = " base" if figure in "LB" else ""
-        out.append(computed_fraction(f"{name}-exact-{figure}", f"Exact.{figure} {name}{moved}", getattr(exact, figure)))
-    out.append(computed_fraction(f"{name}-exact-S6²", f"Exact.S6² {name}", exact.S6_squared))
-    out.append(computed_fraction(f"{name}-exact-S²", f"Exact.S² {name}", exact.S_squared))
-    out.append(computed(f"{name}-widths", f"WL {name} ≡ {rounded.WL}", f"WB {name} ≡ {rounded.WB}"))
-    out.append(computed(f"{name}-verdict", f"Rounded.verdict {name} ≡ {VERDICTS[rounded.verdict]}"))
-    out.append(computed(f"{name}-exact-verdict", f"Exact.verdict {name} ≡ {VERDICTS[exact.verdict]}"))
-    lines = reference.listing(data).decode().splitlines()
-    strings = "\n    ∷ ".join([f'"{line}"' for line in lines] + ["[]"])
-    out.append(f"abbrev {name}Listing : List String\n{name}Listing =\n    {strings}\n")
-    out.append(computed(f"{name}-listing", f"listing (valuationOf 240 240 {name}File) ≡ text {name}Listing"))
+        out.append(computed_fraction(f"{name}-exact-{figure}", f"Exact.{figure} {name}Case{moved}", getattr(exact, figure)))
+    out.append(computed_fraction(f"{name}-exact-S6²", f"Exact.S6² {name}Case", exact.S6_squared))
+    out.append(computed_fraction(f"{name}-exact-S²", f"Exact.S² {name}Case", exact.S_squared))
+    out.append(verdict_statement(name, name + "Case", case))
+    return out
+
+
+def verdict_statement(name, term, case):
+    return computed(f"{name}-verdicts", f"Rounded.verdict {term} ≡ {VERDICTS[Rounded(case).verdict]}",
+                    f"Exact.verdict {term} ≡ {VERDICTS[Exact(case).verdict]}")
+
+
+def width_statements():
+    """WL, WB and the margins: of a fund with large flows past term 60, of one with none, of one whose Q needs no rounding."""
+    named = [("long", examples.long(), TITLES["long"]),
+             ("noFlows", examples.no_flows(), "C1 with flows of 0 on both sides: Q is 0."),
+             ("wholeQuotient", examples.whole_quotient(), "C1 with a flow whose 4 × t × t × flow is 10^10: Q is 1, with nothing to round.")]
+    out = []
+    for name, case, comment in named:
+        rounded = Rounded(case)
+        out.append(case_definition(name, case, comment))
+        out.append(computed(f"{name}-widths", f"WL {name} ≡ {rounded.WL}", f"WB {name} ≡ {rounded.WB}"))
+    return out
+
+
+def shifted_statements():
+    """The up and the down curve of the long fund: P, and the growth on both sides of term 60, where the UFR decides."""
+    case, out = examples.long(), []
+    for move, shift in (("base", 0), ("up", case.shocks["up_shift"]), ("down", -case.shocks["down_shift"])):
+        on = f"(curve long {move})"
+        N, P = reference.points(case, shift)
+        exact = ExactCurve(case, shift)
+        out.append(computed(f"long-{move}-points", f"{on} .N ≡ {N}", f"{on} .ufr ≡ {case.ufr}",
+                            *(f"P {on} {t} ≡ {P[t]}" for t in (1, 20, 60))))
+        for t in (21, 60, 61):
+            out.append(computed(f"long-{move}-weighed-{t}", *both_ends(
+                f"Rounded.weighed {on} {{e}} {t}", ends(lambda end: reference.weighed_growth(N, P, case.ufr, t, end)))))
+        for t in (1, 21, 61):
+            out.append(computed_fraction(f"long-{move}-exact-growth-{t}", f"Exact.growth {on} {t}", exact.adjusted_growth(t)))
+    return out
+
+
+def within_margins(A, L, S, WL, WB):
+    """The reference's own answer for figures in whole cents."""
+    return reference.within_margins(SimpleNamespace(A=Fraction(A), L=Fraction(L), S_squared=Fraction(S * S)), WL, WB)
+
+
+def near_statement(name, kind, figures, fields, widths):
+    """That figures are within the margin, or that they are not, as the reference says."""
+    A, L, S, failing = figures
+    margin = {"NearFirst": "(firstMargin long)", "NearSecond": "(secondMargin long)"}[kind]
+    root = f" (whole {S * S})" if kind == "NearSecond" else ""
+    proposition = f"{kind} {margin} (whole {A}) (whole {L}){root}"
+    assert within_margins(A, L, S, *widths) == (failing is None)
+    return holds(name, proposition, fields) if failing is None else refuted(name, proposition, failing)
+
+
+def margin_statements():
+    """Both margins of the long fund, and figures one cent within and one cent beyond each side of each border."""
+    rounded = Rounded(examples.long())
+    widths = rounded.WL, rounded.WB
+    first = 20 * rounded.WB + 21 * rounded.WL
+    second = 4 * rounded.WL + 3 * rounded.WB + 8
+    out = [computed("long-margins", f"firstMargin long ≡ {first}", f"secondMargin long ≡ {second}")]
+    far = 10 ** 14  # an S with which the other border is far away
+
+    def at_first(over):
+        """A and L with 20 × A - 21 × L = over."""
+        return (10 ** 10 * 21 - over, 10 ** 10 * 20 - over, far)
+
+    def at_second(over, S):
+        """A and L with A - L - S = over, and 20 × A far from 21 × L."""
+        return (10 ** 9 + S + over, 10 ** 9, S)
+
+    for name, over, failing in (("within-above", first, None), ("within-below", -first, None), ("beyond-above", first + 1, "above"),
+                                ("beyond-below", -first - 1, "below")):
+        out.append(near_statement(f"first-border-{name}", "NearFirst", (*at_first(over), failing), ("above", "below"), widths))
+    fields = ("above", "positive", "below")
+    for name, over, S, failing in (("within-above", second, 7 * 10 ** 8, None), ("within-below", -second, 7 * 10 ** 8, None),
+                                   ("beyond-above", second + 1, 7 * 10 ** 8, "above"), ("beyond-below", -second - 1, 7 * 10 ** 8, "below"),
+                                   ("within-without-S", -second, 0, None), ("beyond-without-S", -second - 1, 0, "positive")):
+        out.append(near_statement(f"second-border-{name}", "NearSecond", (*at_second(over, S), failing), fields, widths))
+    return out
+
+
+def undecided_statements():
+    """ONBESLIST on each side of each border."""
+    named = [("firstBelow", examples.first_border, reference.DEKKINGSTEKORT, "first border, which the exact figures do not reach"),
+             ("firstAbove", examples.first_border, reference.RESERVETEKORT, "first border, which the exact figures reach"),
+             ("secondBelow", examples.second_border, reference.RESERVETEKORT, "second border, which the exact figures do not reach"),
+             ("secondAbove", examples.second_border, reference.VRIJ_VERMOGEN, "second border, which the exact figures reach")]
+    out = []
+    for name, border, exact, where in named:
+        case = examples.undecided(border, exact)
+        out.append(case_definition(name, case, f"\"Else ONBESLIST, which is undecided.\": C1 with flat 100, at the {where}."))
+        out.append(verdict_statement(name, name, case))
     return out
 
 
 def pinned():
-    sections = [HEAD]
-    sections += bent_statements()
+    sections = [PINNED_HEAD, *bent_statements()]
     for name, case in (("up", examples.up()), ("down", examples.down())):
         sections += fund_statements(name, case)
-    return "\n".join(sections)
+    return "\n".join(sections + width_statements() + shifted_statements() + margin_statements() + undecided_statements())
+
+
+# ---------------------------------------------------------------- crates/model/proofs/Refused.antt
+
+def group_statement(name, what, rows):
+    """The files of a group, and the list of their refusals."""
+    label = lambda text: text.replace('"', "'")
+    entry = lambda data: f"({file_term(data)})" if "++" in file_term(data) else file_term(data)
+    files = "\n    ∷ ".join([f"{entry(data)}  -- {label(row)}" for row, data in rows] + ["[]"])
+    numbers = short_list([refusal(data) for _, data in rows])
+    return (definition(f"{name}Files", "List (List ℕ)", files, what)
+            + f"\n{computed(f'{name}-refusals', f'map refusal {name}Files ≡ {numbers}')}")
+
+
+def part_statement():
+    """The rates' part of a file that has a UFR, by its content."""
+    data = encode(examples.c1(ufr=4_321, days=[[7 * t for t in range(1, 61)], [300] * 60], amounts=dict.fromkeys(reference.AMOUNTS, 0)),
+                  True, False, False)
+    offset, length = reference.rates_part(data)
+    return (definition("partFile", "List ℕ", file_term(data), "A file with a UFR, and the part of it that holds the rates.")
+            + f"\n{computed('rates-part', f'ratesPart partFile ≡ {file_term(data[offset:offset + length])}')}")
+
+
+def refused():
+    return "\n".join([REFUSED_HEAD, *(group_statement(*group) for group in limits.groups()), part_statement()])
+
+
+# ---------------------------------------------------------------- crates/pinned/proofs/Files.antt
+
+def listing_statement(name, data):
+    lines = reference.listing(data).decode().splitlines()
+    strings = "\n    ∷ ".join([f'"{line}"' for line in lines] + ["[]"])
+    return [definition(f"{name}Listing", "List String", strings),
+            computed(f"{name}-listing", f"listing (valuationOf 240 240 {name}File) ≡ text {name}Listing")]
+
+
+def shifted_figures():
+    """L of the long fund on the up and the down curve: 60 of its flows lie where the UFR decides."""
+    case, out = examples.long(), []
+    for move, shift in (("up", case.shocks["up_shift"]), ("down", -case.shocks["down_shift"])):
+        worth = reference.worth(case.pension, reference.rounded_factors(case, shift))
+        out.append(computed(f"long-{move}-L", *both_ends(f"Rounded.L long {move} {{e}}", worth)))
+    return out
+
+
+def files():
+    bent = Rounded(examples.bent())
+    out = [FILES_HEAD]
+    for name in ("bent", "up", "down"):
+        out.append(computed(f"{name}-accepted", f"refusal {name}File ≡ 0"))
+    for name, case in (("up", examples.up()), ("down", examples.down())):
+        out += listing_statement(name, encode(case, True, True, True))
+    for t in (40, 60, 120):
+        out.append(computed(f"bent-factor-{t}", *both_ends(f"Rounded.factor bentCurve {{e}} {t}", bent.factors[t])))
+    out += [rate_statement(bent, 2), rate_statement(bent, 3), rate_statement(bent, 21, ("high",))]
+    out.append(definition("longFile", "List ℕ", file_term(encode(examples.long(), True, True, True)), "the long fund as a file"))
+    out.append(computed("long-case", "caseOf longFile ≡ long"))
+    return "\n".join(out + shifted_figures())
+
+
+PATHS = {"crates/model/proofs/Pinned.antt": pinned, "crates/model/proofs/Refused.antt": refused, "crates/pinned/proofs/Files.antt": files}
+
+
+def others():
+    """The files that are not what this script writes."""
+    for path, text in PATHS.items():
+        with open(os.path.join(ROOT, path), encoding="utf-8") as file:
+            if file.read() != text():
+                yield path
 
 
 def main(words):
     if words not in ([], ["--check"]):
         sys.exit("usage: python3 tests/pinned.py [--check]")
-    if not words:
-        with open(PATH, "w", encoding="utf-8") as file:
-            file.write(pinned())
+    if words:
+        wrong = list(others())
+        if wrong:
+            sys.exit(f"not what tests/pinned.py writes: {', '.join(wrong)}")
         return
-    with open(PATH, encoding="utf-8") as file:
-        if file.read() != pinned():
-            sys.exit("crates/model/proofs/Pinned.antt is not what tests/pinned.py writes")
+    for path, text in PATHS.items():
+        with open(os.path.join(ROOT, path), "w", encoding="utf-8") as file:
+            file.write(text())
 
 
 if __name__ == "__main__":

@@ -12,6 +12,7 @@ from unittest import mock
 
 sys.path.insert(0, os.path.dirname(os.path.abspath(__file__)))
 import examples
+import limits
 import pinned
 import reference
 from examples import c1, flat
@@ -487,8 +488,55 @@ class Examples(unittest.TestCase):
 
     def test_pinned_numbers(self):
         # The proofs hold the numbers that the reference gives now.
-        with open(pinned.PATH, encoding="utf-8") as file:
-            self.assertEqual(file.read(), pinned.pinned())
+        self.assertEqual(list(pinned.others()), [])
+
+    def test_long(self):
+        case = examples.long()
+        self.assertEqual(read(encode(case, True, True, True)), case)
+        self.assertEqual(demand3(case), [])
+        # Q is in the thousands on both sides, so that a width counts its flows and not their number alone.
+        self.assertGreater(Rounded(case).WL, 10_000)
+        self.assertGreater(Rounded(case).WB, 1_000)
+
+    def test_rounding_of_Q(self):
+        self.assertEqual((Rounded(examples.no_flows()).WL, Rounded(examples.no_flows()).WB), (6, 4))
+        self.assertEqual(Rounded(examples.whole_quotient()).WL, 2 * 5 + 1)
+
+    def test_undecided(self):
+        for border, exact in ((examples.first_border, reference.DEKKINGSTEKORT), (examples.first_border, reference.RESERVETEKORT),
+                              (examples.second_border, reference.RESERVETEKORT), (examples.second_border, reference.VRIJ_VERMOGEN)):
+            case = examples.undecided(border, exact)
+            self.assertEqual((Rounded(case).verdict, Exact(case).verdict), (reference.ONBESLIST, exact))
+
+
+class LimitRows(unittest.TestCase):
+    """tests/limits.py: each limit on both sides, each place of the order."""
+
+    def refusals(self, group):
+        return [number_of(data) for name, _, rows in limits.groups() if name == group for _, data in rows]
+
+    def test_both_sides(self):
+        # behind the two or three files of another kind, a number that passes and one that does not take turns
+        self.assertEqual(self.refusals("amounts"), [1, 10] * 8 + [1])
+        self.assertEqual(self.refusals("shocks"), [1, 11] * 12 + [1])
+        self.assertEqual(self.refusals("rates"), [5, 1, 1, 5] * 4 + [1])
+        self.assertEqual(self.refusals("forwards"), [0, 6] * (len(self.refusals("forwards")) // 2))
+
+    def test_every_refusal(self):
+        seen = {number_of(data) for _, _, rows in limits.groups() for _, data in rows}
+        self.assertEqual(seen, set(range(13)))
+
+    def test_growth_by_one(self):
+        # the files of error 6 have the growth that their row says, and no other at or beyond a limit
+        for row, data in limits.forward_rows():
+            words = row.replace(",", "").replace(":", "").split()
+            n, term, forward = int(words[0]), int(words[3]), int(words[4])
+            days = limits.steep_days(n, term, forward)
+            s = reference.sums(days)
+            growths = {t: t * s[t] - (t - 1) * s[t - 1] for t in range(1, 61)}
+            self.assertEqual(growths.pop(term), forward)
+            self.assertTrue(all(-2_000 * n < growth < 12_000 * n for growth in growths.values()), row)
+            self.assertEqual(data[3:3 + 120 * n], limits.rates(*days)[1:])
 
 
 if __name__ == "__main__":

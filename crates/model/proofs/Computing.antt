@@ -1,5 +1,5 @@
--- What the computed statements of Worked and Pinned share. Assumes nothing.
-use Prim.Native.Nat.{ℕ}
+-- What the computed statements share. Assumes nothing.
+use Prim.Native.Nat.{ℕ, zero, suc}
 use Prim.Native.String.{String}
 use mathlib.Core.List.{List, [], _∷_, _++_}
 use lib.Ieee.{size}
@@ -44,6 +44,11 @@ use Rattle.model.specs.Margins.{weightedSum}
 use Rattle.model.specs.Buffers.{valuationRefusal, byTerm, factorEntries, factorsAfter, ratesAfter, rateEntries, valuationOf}
 use Rattle.model.specs.Window.{windowPoint}
 use Rattle.model.specs.Listing.{ascii, digits, decimal, word, line, listing}
+
+-- so many times the same two bytes
+abbrev pub pairs : ℕ → ℕ → ℕ → List ℕ
+pairs zero a b = []
+pairs (suc n) a b = a ∷ b ∷ pairs n a b
 
 -- the bytes of a text, line by line
 abbrev pub text : List String → List ℕ

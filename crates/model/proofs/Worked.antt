@@ -1,11 +1,11 @@
--- The twelve hand-worked cases of document 01 as one result about the definitions, `twelve-cases`; then the order of checks, each
--- refusal, the other two verdicts, the lent buffers and the window on small files. Each statement is computed. Assumes nothing.
-use Prim.Native.Nat.{ℕ, zero, suc, _*_, _<_}
+-- The twelve hand-worked cases of document 01 as one result about the definitions, `twelve-cases`; then 13 before all other refusals,
+-- the first border, the lent buffers and the window on small files. Each statement is computed. Assumes nothing.
+use Prim.Native.Nat.{ℕ, _*_, _<_, _≤_}
 use Prim.Native.String.{String}
 use mathlib.Core.Path.{_≡_, refl}
 use mathlib.Core.List.{List, [], _∷_, _++_}
 use native.Mathlib.Omega.{arith}
-use lib.Dec.{lit<}
+use lib.Dec.{lit<, lit≤}
 use lib.ListN.{length, getD, replicate}
 use lib.IntN.{pos, negℤ}
 use Rattle.arith.specs.Rounding.{low, high}
@@ -24,13 +24,9 @@ use Rattle.model.specs.declared.figures.Bracket.{Bracket}
 use Rattle.model.specs.declared.figures.Figures.{Figures}
 use Rattle.model.specs.declared.figures.Verdict.the-variants.{Dekkingstekort, Reservetekort, VrijVermogen, Onbeslist}
 use Rattle.model.specs.declared.window.Point.the-variants.{Factor, Money, Blank}
-use Rattle.model.proofs.Computing.{text, all}
+use Rattle.model.proofs.Computing.{pairs, text, all}
 
--- so many times the same two bytes, and so many zeros
-abbrev pub pairs : ℕ → ℕ → ℕ → List ℕ
-pairs zero a b = []
-pairs (suc n) a b = a ∷ b ∷ pairs n a b
-
+-- so many zeros
 abbrev pub zeros : ℕ → List ℕ
 zeros n = replicate n 0
 
@@ -86,9 +82,24 @@ fileC5 = withDays (2 ∷ pairs 60 0 100 ++ pairs 60 0 101)
 abbrev pub fileC8 : ℕ → ℕ → List ℕ
 fileC8 a b = withDays (1 ∷ 0 ∷ 0 ∷ pairs 59 a b)
 
+-- "S1 300, S2 400 euros, correlation 500, others 0": a bond flow of 30,300 at term 1 loses 300 on a curve that is 1 % up, mature equity
+-- of 1,000 loses 400 thousandths, and a pension flow of 0 gives no S6
+abbrev pub fileC9 : List ℕ
+fileC9 =
+    0x00 ∷ 0x7e ∷ flat 0 0
+    ++ (1 ∷ zeros 4)
+    ++ (1 ∷ 0x00 ∷ 0x00 ∷ 0x76 ∷ 0x5c ∷ [])
+    ++ (zeros 6 ++ (0x03 ∷ 0xe8 ∷ []) ++ zeros (7 * 8))
+    ++ (0x03 ∷ 0xe8 ∷ 0x00 ∷ 0x00 ∷ 0x01 ∷ 0x90 ∷ zeros (6 * 2) ++ (0x01 ∷ 0xf4 ∷ zeros (2 * 2)))
+    ++ people
+
 -- "pension age 780, mean 540"
 abbrev pub fileC10 : List ℕ
 fileC10 = likeC1 (flat 0 0) oneFlow cash noShocks (aged 0x03 0x0c 0x02 0x1c)
+
+-- "mean age above pension age": 460 and 780
+abbrev pub fileC11 : List ℕ
+fileC11 = likeC1 (flat 0 0) oneFlow cash noShocks (aged 0x01 0xcc 0x03 0x0c)
 
 abbrev pub listingC1 : List String
 listingC1 =
@@ -132,12 +143,22 @@ pub record TwelveCases : Type 0 where
       × (Exact.growth (curve (caseOf (withDays (flat 0x13 0x88))) base) 21 ≐ 1049312 // 1000000)
   -- "one day, rate 0 then 6,000 for all later terms passes; 6,001 gives 6"
   pub c8 : (refusal (fileC8 0x17 0x70) ≡ 0) × (refusal (fileC8 0x17 0x71) ≡ 6)
-  -- "S1 300, S2 400 euros, correlation 500, others 0: S is 60,827 to 60,828"
-  pub c9 : (Rounded.buffer low 500 30000 40000 0 0 0 0 ≡ 60827) × (Rounded.buffer high 500 30000 40000 0 0 0 0 ≡ 60828)
+  -- "S1 300, S2 400 euros, correlation 500, others 0: S is 60,827 to 60,828": rounded from these, and the exact S of a file that has them
+  pub c9 : (Rounded.buffer low 500 30000 40000 0 0 0 0 ≡ 60827)
+      × (Rounded.buffer high 500 30000 40000 0 0 0 0 ≡ 60828)
+      × (refusal fileC9 ≡ 0)
+      × (Exact.S1 (caseOf fileC9) ≐ 30000 // 1)
+      × (Exact.S2 (caseOf fileC9) ≐ 40000 // 1)
+      × (Exact.S² (caseOf fileC9) ≐ 3700000000 // 1)
+      × (60827 * 60827 ≤ 3700000000)
+      × (3700000000 ≤ 60828 * 60828)
   -- "pension age 780, mean 540: TSO 6.5"
   pub c10 : (refusal fileC10 ≡ 0) × (Exact.TSO (caseOf fileC10) ≐ 65 // 10)
-  -- "mean age above pension age: TSO 2", of every case
-  pub c11 : (k : FileCase) → k .people .«pension_age» < k .people .«mean_age» → Exact.TSO k ≐ 2 // 1
+  -- "mean age above pension age: TSO 2", of every case, and of a file
+  pub c11 : ((k : FileCase) → k .people .«pension_age» < k .people .«mean_age» → Exact.TSO k ≐ 2 // 1)
+      × (refusal fileC11 ≡ 0)
+      × (caseOf fileC11 .people .«pension_age» < caseOf fileC11 .people .«mean_age»)
+      × (Exact.TSO (caseOf fileC11) ≐ 2 // 1)
   -- "empty file gives 1"
   pub c12 : refusal [] ≡ 1
 
@@ -200,12 +221,25 @@ c9-buffer : (Rounded.buffer low 500 30000 40000 0 0 0 0 ≡ 60827) × (Rounded.b
 unfolding all
 c9-buffer = (refl, refl)
 
+c9-exact : (refusal fileC9 ≡ 0)
+    × (Exact.S1 (caseOf fileC9) ≐ 30000 // 1)
+    × (Exact.S2 (caseOf fileC9) ≐ 40000 // 1)
+    × (Exact.S² (caseOf fileC9) ≐ 3700000000 // 1)
+unfolding all
+c9-exact = (refl, (lit< tt, lit< tt, refl), (lit< tt, lit< tt, refl), (lit< tt, lit< tt, refl))
+
 c10-TSO : (refusal fileC10 ≡ 0) × (Exact.TSO (caseOf fileC10) ≐ 65 // 10)
 unfolding all
 c10-TSO = (refl, (lit< tt, lit< tt, refl))
 
 c11-TSO : (k : FileCase) → k .people .«pension_age» < k .people .«mean_age» → Exact.TSO k ≐ 2 // 1
 c11-TSO k h = (lit< tt, lit< tt, omega (arith, h))
+
+c11-file : (refusal fileC11 ≡ 0)
+    × (caseOf fileC11 .people .«pension_age» < caseOf fileC11 .people .«mean_age»)
+    × (Exact.TSO (caseOf fileC11) ≐ 2 // 1)
+unfolding all
+c11-file = (refl, lit< tt, (lit< tt, lit< tt, refl))
 
 c12-refusal : refusal [] ≡ 1
 unfolding all
@@ -221,94 +255,16 @@ twelve-cases = record {
   c6 = c6-factor;
   c7 = c7-growth;
   c8 = c8-refusals;
-  c9 = c9-buffer;
+  c9 = (c9-buffer .0, c9-buffer .1, c9-exact .0, c9-exact .1, c9-exact .2, c9-exact .3, lit≤ tt, lit≤ tt);
   c10 = c10-TSO;
-  c11 = c11-TSO;
+  c11 = (c11-TSO, c11-file .0, c11-file .1, c11-file .2);
   c12 = c12-refusal;
 }
 
--- "Order: 13; then the map (1, then 3)"
+-- "Order: 13; then the map"; the rest of the order is in Refused
 order-13 : (valuationRefusal 239 240 [] ≡ 13) × (valuationRefusal 240 239 [] ≡ 13) × (valuationRefusal 240 240 [] ≡ 1)
 unfolding all
 order-13 = (refl, refl, refl)
-
-order-map : (refusal (0x00 ∷ []) ≡ 1)
-    × (refusal (0x00 ∷ 0x00 ∷ []) ≡ 3)
-    × (refusal (0x00 ∷ 0x74 ∷ []) ≡ 3)
-    × (refusal (0x80 ∷ 0x76 ∷ []) ≡ 3)
-    × (refusal (0x00 ∷ 0xf6 ∷ []) ≡ 3)
-    × (refusal (0x00 ∷ 0x76 ∷ []) ≡ 1)
-unfolding all
-order-map = (refl, refl, refl, refl, refl, refl)
-
--- "then 2; then 6": C8 with 6,001 and one byte more
-order-2-before-6 : refusal (fileC8 0x17 0x71 ++ (0 ∷ [])) ≡ 2
-unfolding all
-order-2-before-6 = refl
-
--- each refusal 1 to 12; beside some, the number next to it that passes, so that the file ends too early
-refusal-1 : (refusal [] ≡ 1) × (refusal (likeC1 (flat 0 0) oneFlow cash noShocks (0 ∷ 0 ∷ 0 ∷ 100 ∷ 3 ∷ 12 ∷ 1 ∷ [])) ≡ 1)
-unfolding all
-refusal-1 = (refl, refl)
-
-refusal-2 : refusal (fileC1 ++ (0 ∷ [])) ≡ 2
-unfolding all
-refusal-2 = refl
-
--- bit 6 missing; bit 8 stands
-refusal-3 : (refusal (0x00 ∷ 0x36 ∷ []) ≡ 3) × (refusal (0x01 ∷ 0x76 ∷ []) ≡ 3)
-unfolding all
-refusal-3 = (refl, refl)
-
--- no day, and 71 days, before the missing rates are seen
-refusal-4 : (refusal (0x00 ∷ 0x76 ∷ 0 ∷ []) ≡ 4) × (refusal (0x00 ∷ 0x76 ∷ 71 ∷ []) ≡ 4) × (refusal (0x00 ∷ 0x76 ∷ 70 ∷ []) ≡ 1)
-unfolding all
-refusal-4 = (refl, refl, refl)
-
--- flat 10,001, before the missing flows are seen
-refusal-5 : (refusal (0x00 ∷ 0x76 ∷ flat 0x27 0x11) ≡ 5) × (refusal (0x00 ∷ 0x76 ∷ flat 0x27 0x10) ≡ 1)
-unfolding all
-refusal-5 = (refl, refl)
-
--- rate 1,000 and then -1,000: 2 × -1,000 - 1,000 is below -2,000
-refusal-6 : refusal (withDays (1 ∷ 0x03 ∷ 0xe8 ∷ pairs 59 0xfc 0x18)) ≡ 6
-unfolding all
-refusal-6 = refl
-
--- no pension flow, and 121; with map 0x006e, no bond flow, and 61
-refusal-7 : (refusal (0x00 ∷ 0x76 ∷ flat 0 0 ++ (0 ∷ [])) ≡ 7)
-    × (refusal (0x00 ∷ 0x76 ∷ flat 0 0 ++ (121 ∷ [])) ≡ 7)
-    × (refusal (0x00 ∷ 0x6e ∷ flat 0 0 ++ oneFlow ++ (0 ∷ [])) ≡ 7)
-    × (refusal (0x00 ∷ 0x6e ∷ flat 0 0 ++ oneFlow ++ (61 ∷ [])) ≡ 7)
-unfolding all
-refusal-7 = (refl, refl, refl, refl)
-
--- a flow of 100,000,001
-refusal-8 : refusal (0x00 ∷ 0x76 ∷ flat 0 0 ++ (1 ∷ 0x05 ∷ 0xf5 ∷ 0xe1 ∷ 0x01 ∷ [])) ≡ 8
-unfolding all
-refusal-8 = refl
-
--- a UFR of 5,001, and of 5,000
-refusal-9 : (refusal (0x00 ∷ 0x77 ∷ 0x13 ∷ 0x89 ∷ []) ≡ 9) × (refusal (0x00 ∷ 0x77 ∷ 0x13 ∷ 0x88 ∷ []) ≡ 1)
-unfolding all
-refusal-9 = (refl, refl)
-
--- a currency exposure of 100,000,000,001
-refusal-10 : refusal (likeC1 (flat 0 0) oneFlow (zeros (7 * 8) ++ (0x00 ∷ 0x00 ∷ 0x00 ∷ 0x17 ∷ 0x48 ∷ 0x76 ∷ 0xe8 ∷ 0x01 ∷ [])) [] []) ≡ 10
-unfolding all
-refusal-10 = refl
-
--- an up shift of 1,001; a credit duration of 501
-refusal-11 : (refusal (likeC1 (flat 0 0) oneFlow cash (0x03 ∷ 0xe9 ∷ zeros 22) []) ≡ 11)
-    × (refusal (likeC1 (flat 0 0) oneFlow cash (zeros 22 ++ (0x01 ∷ 0xf5 ∷ [])) []) ≡ 11)
-unfolding all
-refusal-11 = (refl, refl)
-
--- nobody; a mean age of 1,201
-refusal-12 : (refusal (likeC1 (flat 0 0) oneFlow cash noShocks (zeros 8)) ≡ 12)
-    × (refusal (likeC1 (flat 0 0) oneFlow cash noShocks (aged 0x03 0x0c 0x04 0xb1)) ≡ 12)
-unfolding all
-refusal-12 = (refl, refl)
 
 -- "DEKKINGSTEKORT if 20 × A < 21 × L": C1 with cash 1,049,999, and with 1,050,000, where both are the same
 first-border : (word (Rounded.verdict (caseOf (withCash 0x10 0x05 0x8f))) ≡ ascii "DEKKINGSTEKORT")
@@ -317,21 +273,6 @@ first-border : (word (Rounded.verdict (caseOf (withCash 0x10 0x05 0x8f))) ≡ as
     × (Exact.verdict (caseOf (withCash 0x10 0x05 0x90)) ≡ Reservetekort)
 unfolding all
 first-border = (refl, refl, refl, refl)
-
--- "Else ONBESLIST, which is undecided.": C1 with flat 100, a flow of 1,000,009 and cash 1,098,911, which is exactly VRIJ VERMOGEN, and
--- with a flow of 1,000,080 and cash 1,098,989, which is exactly RESERVETEKORT
-abbrev justOver : List ℕ
-justOver = likeC1 (flat 0 100) (1 ∷ 0x00 ∷ 0x0f ∷ 0x42 ∷ 0x49 ∷ []) (cashOnly 0x10 0xc4 0x9f) noShocks people
-
-abbrev justUnder : List ℕ
-justUnder = likeC1 (flat 0 100) (1 ∷ 0x00 ∷ 0x0f ∷ 0x42 ∷ 0x90 ∷ []) (cashOnly 0x10 0xc4 0xed) noShocks people
-
-undecided : (word (Rounded.verdict (caseOf justOver)) ≡ ascii "ONBESLIST")
-    × (Exact.verdict (caseOf justOver) ≡ VrijVermogen)
-    × (Rounded.verdict (caseOf justUnder) ≡ Onbeslist)
-    × (Exact.verdict (caseOf justUnder) ≡ Reservetekort)
-unfolding all
-undecided = (refl, refl, refl, refl)
 
 -- the paper's number of an answer
 answer-numbers : (refusalNumber (valuationOf 240 240 fileC1) ≡ 0)

@@ -1,0 +1,2 @@
+-- Computed statements on whole case files; tests/pinned.py writes them.
+pub mod Files

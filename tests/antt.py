@@ -1,0 +1,131 @@
+"""Terms and computed statements as text of antt, from numbers, bytes and cases of tests/reference.py."""
+
+from reference import AMOUNTS, LOWER, SHOCKS, UPPER, Refusal, read
+
+ENDS = ((LOWER, "low"), (UPPER, "high"))
+PEOPLE = ("heads", "pension_age", "mean_age")
+SHORTEST_RUN = 4  # pairs of bytes, or rates, in a row that are written as one
+
+
+# ---------------------------------------------------------------- terms
+
+def rows(items, most):
+    """The items with ∷ between them, at most so many to a row."""
+    return [" ∷ ".join(items[i:i + most]) for i in range(0, len(items), most)]
+
+
+def short_list(items):
+    return " ∷ ".join([str(item) for item in items] + ["[]"])
+
+
+def long_list(items, most, indent):
+    """A list over several rows."""
+    return f"\n{indent}∷ ".join(rows([str(item) for item in items], most) + ["[]"])
+
+
+def integer(z):
+    return f"pos {z}" if z >= 0 else f"negℤ (pos {-z})"
+
+
+def fraction(x):
+    return f"{x.numerator} // {x.denominator}"
+
+
+def byte(value):
+    return f"0x{value:02x}"
+
+
+def run_at(data, at):
+    """How often the two bytes at a place are there in a row."""
+    pair, count = data[at:at + 2], 0
+    while len(pair) == 2 and data[at + 2 * count:at + 2 * count + 2] == pair:
+        count += 1
+    return count
+
+
+def file_term(data):
+    """A list of bytes; where two bytes are there several times in a row, as `pairs`."""
+    parts, single, at = [], [], 0
+
+    def close():
+        if single:
+            parts.append("(" + short_list([byte(value) for value in single]) + ")")
+            single.clear()
+
+    while at < len(data):
+        count = run_at(data, at)
+        if count >= SHORTEST_RUN:
+            close()
+            parts.append(f"pairs {count} {byte(data[at])} {byte(data[at + 1])}")
+            at += 2 * count
+        else:
+            single.append(data[at])
+            at += 1
+    close()
+    return " ++ ".join(parts) or "[]"
+
+
+def record(fields, indent="  "):
+    """A record literal, a field a line; fields is a list of (name, term)."""
+    quoted = lambda name: f"«{name}»" if "_" in name else name
+    return "record {\n" + "".join(f"{indent}{quoted(name)} = {term};\n" for name, term in fields) + indent[2:] + "}"
+
+
+def day_term(day):
+    if len(set(day)) == 1:
+        return f"replicate {len(day)} ({integer(day[0])})"
+    return "(" + "\n      ∷ ".join(rows([integer(rate) for rate in day], 10) + ["[]"]) + ")"
+
+
+def case_term(case):
+    """The case as a record, a field by its name."""
+    deep = "    "
+    days = "\n      ∷ ".join([day_term(day) for day in case.days] + ["[]"])
+    return record([("ufr", case.ufr), ("days", days), ("pension", long_list(case.pension, 12, "      ")),
+                   ("bonds", long_list(case.bonds, 12, "      ")),
+                   ("amounts", record([(a, case.amounts[a]) for a in AMOUNTS], deep)),
+                   ("shocks", record([(x, case.shocks[x]) for x in SHOCKS], deep)),
+                   ("people", record([(x, getattr(case, x)) for x in PEOPLE], deep))])
+
+
+def both_ends(term, bracket):
+    """[term at low ≡ lower, term at high ≡ upper]; the end goes to the place of {e}."""
+    return [f"{term.format(e=name)} ≡ {bracket[end]}" for end, name in ENDS]
+
+
+def refusal(data):
+    """The number of the reference for a file, and 0 where it accepts."""
+    answer = read(data)
+    return answer.number if isinstance(answer, Refusal) else 0
+
+
+# ---------------------------------------------------------------- declarations
+
+def definition(name, kind, term, comment=None):
+    head = f"-- {comment}\n" if comment else ""
+    return f"{head}abbrev pub {name} : {kind}\n{name} =\n    {term}\n"
+
+
+def case_definition(name, case, comment):
+    return f"-- {comment}\nabbrev pub {name} : FileCase\n{name} = {case_term(case)}\n"
+
+
+def computed(name, *equations):
+    """A statement that both sides of each equation compute to the same."""
+    statement = equations[0] if len(equations) == 1 else "\n    × ".join(f"({one})" for one in equations)
+    proof = "refl" if len(equations) == 1 else "(" + ", ".join("refl" for _ in equations) + ")"
+    return f"{name} : {statement}\nunfolding all\n{name} = {proof}\n"
+
+
+def computed_fraction(name, term, x):
+    return f"{name} : {term} ≐ {fraction(x)}\nunfolding all\n{name} = (lit< tt, lit< tt, refl)\n"
+
+
+def holds(name, proposition, fields):
+    """A record whose fields are computed comparisons."""
+    return f"{name} : {proposition}\nunfolding all\n{name} = record {{ " + "; ".join(f"{field} = lit≤ tt" for field in fields) + " }\n"
+
+
+def refuted(name, proposition, field):
+    """That it does not hold, since one of its fields is false."""
+    return f"{name} : {proposition} → ⊥\nunfolding all\n{name} near = not-le-of-lt (lit< tt) (near .{field})\n"

@@ -18,7 +18,7 @@ from reference import LOWER, MONEY, UPPER, Exact, ExactCurve, Rounded, encode
 
 ROOT = os.path.join(os.path.dirname(os.path.abspath(__file__)), "..")
 VERDICTS = {reference.DEKKINGSTEKORT: "Dekkingstekort", reference.RESERVETEKORT: "Reservetekort",
-            reference.VRIJ_VERMOGEN: "VrijVermogen", reference.ONBESLIST: "Onbeslist"}
+            reference.VRIJ_VERMOGEN: "VrijVermogen"}  # of the exact working
 
 WRITTEN = """\
 -- tests/pinned.py wrote this file, from an implementation in Python that was written from the paper alone (tests/reference.py): change
@@ -46,7 +46,8 @@ use Rattle.model.specs.Curve.{Curve, base, up, down, curve, P}
 use Rattle.model.specs.Exact as Exact
 use Rattle.model.specs.Rounded as Rounded
 use Rattle.model.specs.Margins.{WL, WB, NearFirst, NearSecond, firstMargin, secondMargin}
-use Rattle.model.specs.declared.figures.Verdict.the-variants.{Dekkingstekort, Reservetekort, VrijVermogen, Onbeslist}
+use Rattle.model.specs.Listing.{ascii, word}
+use Rattle.model.specs.declared.figures.Verdict.the-variants.{Dekkingstekort, Reservetekort, VrijVermogen}
 use Rattle.model.proofs.Computing.{pairs, all}
 """
 
@@ -150,7 +151,7 @@ def fund_statements(name, case):
 
 
 def verdict_statement(name, term, case):
-    return computed(f"{name}-verdicts", f"Rounded.verdict {term} ≡ {VERDICTS[Rounded(case).verdict]}",
+    return computed(f"{name}-verdicts", f'word (Rounded.verdict {term}) ≡ ascii "{Rounded(case).verdict}"',
                     f"Exact.verdict {term} ≡ {VERDICTS[Exact(case).verdict]}")
 
 

@@ -19,7 +19,8 @@ use Rattle.model.specs.Curve.{Curve, base, up, down, curve, P}
 use Rattle.model.specs.Exact as Exact
 use Rattle.model.specs.Rounded as Rounded
 use Rattle.model.specs.Margins.{WL, WB, NearFirst, NearSecond, firstMargin, secondMargin}
-use Rattle.model.specs.declared.figures.Verdict.the-variants.{Dekkingstekort, Reservetekort, VrijVermogen, Onbeslist}
+use Rattle.model.specs.Listing.{ascii, word}
+use Rattle.model.specs.declared.figures.Verdict.the-variants.{Dekkingstekort, Reservetekort, VrijVermogen}
 use Rattle.model.proofs.Computing.{pairs, all}
 
 -- A bent curve of three days: the rates rise, fall, rise and fall with the term, and the short ones are negative.
@@ -336,7 +337,7 @@ up-exact-S² : Exact.S² upCase ≐ 21841899233957758837847941932022666101010162
 unfolding all
 up-exact-S² = (lit< tt, lit< tt, refl)
 
-up-verdicts : (Rounded.verdict upCase ≡ Reservetekort)
+up-verdicts : (word (Rounded.verdict upCase) ≡ ascii "RESERVETEKORT")
     × (Exact.verdict upCase ≡ Reservetekort)
 unfolding all
 up-verdicts = (refl, refl)
@@ -505,7 +506,7 @@ down-exact-S² : Exact.S² downCase ≐ 1234875575710765426925949233835776981888
 unfolding all
 down-exact-S² = (lit< tt, lit< tt, refl)
 
-down-verdicts : (Rounded.verdict downCase ≡ VrijVermogen)
+down-verdicts : (word (Rounded.verdict downCase) ≡ ascii "VRIJ VERMOGEN")
     × (Exact.verdict downCase ≡ VrijVermogen)
 unfolding all
 down-verdicts = (refl, refl)
@@ -863,7 +864,7 @@ firstBelow = record {
   };
 }
 
-firstBelow-verdicts : (Rounded.verdict firstBelow ≡ Onbeslist)
+firstBelow-verdicts : (word (Rounded.verdict firstBelow) ≡ ascii "ONBESLIST")
     × (Exact.verdict firstBelow ≡ Dekkingstekort)
 unfolding all
 firstBelow-verdicts = (refl, refl)
@@ -908,7 +909,7 @@ firstAbove = record {
   };
 }
 
-firstAbove-verdicts : (Rounded.verdict firstAbove ≡ Onbeslist)
+firstAbove-verdicts : (word (Rounded.verdict firstAbove) ≡ ascii "ONBESLIST")
     × (Exact.verdict firstAbove ≡ Reservetekort)
 unfolding all
 firstAbove-verdicts = (refl, refl)
@@ -953,7 +954,7 @@ secondBelow = record {
   };
 }
 
-secondBelow-verdicts : (Rounded.verdict secondBelow ≡ Onbeslist)
+secondBelow-verdicts : (word (Rounded.verdict secondBelow) ≡ ascii "ONBESLIST")
     × (Exact.verdict secondBelow ≡ Reservetekort)
 unfolding all
 secondBelow-verdicts = (refl, refl)
@@ -998,7 +999,7 @@ secondAbove = record {
   };
 }
 
-secondAbove-verdicts : (Rounded.verdict secondAbove ≡ Onbeslist)
+secondAbove-verdicts : (word (Rounded.verdict secondAbove) ≡ ascii "ONBESLIST")
     × (Exact.verdict secondAbove ≡ VrijVermogen)
 unfolding all
 secondAbove-verdicts = (refl, refl)

@@ -1,4 +1,4 @@
--- `window_point`: by the tests of the definition, in its order.
+-- `window_point`: each answer by the law of the points that get there.
 use mathlib.Core.Path.{sym, _∙_}
 use native.Mathlib.Omega.{arith}
 use borrow.Author.Needs.{needs}

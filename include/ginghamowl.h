@@ -181,9 +181,10 @@ ginghamowl_part ginghamowl_rates_part(const uint8_t *file, size_t file_length);
 
 /* A point of the window, over the factors that a valuation wrote and the figures that it gave:
  * 1 to 120 the factor of that term, 121 to 130 the figures L B A S1 S2 S3 S4 S5 S6 S, any other
- * number blank. After an accepted valuation no other point is blank. Of other factors or figures, a
- * point is blank also where fewer than 240 factors are lent, or where an end is above 2^53, which a
- * double need not hold. */
+ * number blank. A figure needs no factors (`factors_length` may be 0), and the factor of term t needs
+ * the entries GINGHAMOWL_LOWER(t) and GINGHAMOWL_UPPER(t). After an accepted valuation no other point
+ * is blank. Of other factors or figures, a factor is blank also where one of its two entries is not
+ * lent, and any point where an end is above 2^53, which a double need not hold. */
 ginghamowl_point ginghamowl_window_point(uint64_t point, const uint64_t *factors, size_t factors_length,
                                          ginghamowl_figures figures);
 

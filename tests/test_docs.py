@@ -188,6 +188,30 @@ class TestOfTheTest(unittest.TestCase):
         self.check("# A page, of sorts\n[a](#a-page-of-sorts)", [])
 
 
+def without_contract(source):
+    """The public functions of a source that have no `ensures`. A signature ends in the first { that ends a line."""
+    heads = re.findall(r'^ *pub (?:extern "C" )?fn (\w+)(.*?\{)$', source, re.M | re.S)
+    return [name for name, head in heads if "ensures" not in head]
+
+
+class Contracts(unittest.TestCase):
+    """Every public function has a contract, as docs/GUARANTEES.md says."""
+
+    SOURCES = sorted(path for path in TREE if path.startswith("crates/") and path.endswith(".rt"))
+
+    def test_every_public_function(self):
+        found = [f"{path}: {name}" for path in self.SOURCES for name in without_contract(read_page(path))]
+        self.assertEqual(found, [])
+        self.assertGreater(sum(read_page(path).count("ensures") for path in self.SOURCES), 50)
+
+    def test_of_the_test(self):
+        held = "pub fn f(n: u64) -> u64\n    ensures { λ r. ⌜ r ≡ n ⌝ }\n{\n    n\n}\n"
+        self.assertEqual(without_contract(held), [])
+        self.assertEqual(without_contract(held + "pub fn g() {\n}\n" + held), ["g"])
+        self.assertEqual(without_contract('pub extern "C" fn h(\n    n: u64,\n) -> u64\n    requires { ⌜ n ≤ 1 ⌝ }\n{\n'), ["h"])
+        self.assertEqual(without_contract("fn private() {\n}\n"), [])
+
+
 class Method(unittest.TestCase):
     """Numbers of docs/METHOD.md."""
 

@@ -93,7 +93,7 @@ static ginghamowl_valuation valued(const uint8_t *file, size_t size, size_t fact
     REQUIRE(v.verdict <= GINGHAMOWL_ONBESLIST);
     REQUIRE(held_from(first, factors, factors_length));
     REQUIRE(held_from(first, rates, rates_length));
-    for (uint64_t point = 1; refusal == GINGHAMOWL_ACCEPTED && point <= 130; point++) {
+    for (uint64_t point = refusal == GINGHAMOWL_ACCEPTED ? 1 : 121; point <= 130; point++) { /* money needs no factor */
         ginghamowl_point p = ginghamowl_window_point(point, factors, factors_length, v.figures);
         REQUIRE(p.kind == (point <= 120 ? GINGHAMOWL_FACTOR : GINGHAMOWL_MONEY) && p.lower <= p.upper);
     }

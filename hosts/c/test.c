@@ -325,15 +325,51 @@ static void test_window(void)
     CHECK(blank(ginghamowl_window_point(0, factors, 240, v.figures)));
     CHECK(blank(ginghamowl_window_point(131, factors, 240, v.figures)));
     CHECK(blank(ginghamowl_window_point(UINT64_MAX, factors, 240, v.figures)));
-    CHECK(blank(ginghamowl_window_point(1, factors, 239, v.figures)));
-    CHECK(blank(ginghamowl_window_point(121, factors, 239, v.figures)));
-    CHECK(blank(ginghamowl_window_point(1, NULL, 0, v.figures)));
     factors[0] = 9007199254740992u;
     CHECK(ginghamowl_window_point(1, factors, 240, v.figures).lower == 9007199254740992.0);
     factors[0]++;
     CHECK(blank(ginghamowl_window_point(1, factors, 240, v.figures)));
     v.figures.s.upper = UINT64_MAX;
     CHECK(blank(ginghamowl_window_point(130, factors, 240, v.figures)));
+}
+
+/* Every point over a buffer of this many entries, 1000 and so on: a factor shows its own two entries or is
+ * blank, a money figure needs none. */
+static void window_over(size_t entries)
+{
+    uint64_t *factors = entries == 0 ? NULL : malloc(entries * sizeof *factors);
+    ginghamowl_figures figures;
+    ginghamowl_bracket ends[10];
+    uint64_t p;
+
+    if (entries != 0 && factors == NULL)
+        abort();
+    for (p = 0; p < entries; p++)
+        factors[p] = 1000 + p;
+    for (p = 0; p < 10; p++) {
+        ends[p].lower = 2 * p + 1;
+        ends[p].upper = 2 * p + 2;
+    }
+    memcpy(&figures, ends, sizeof figures);
+    for (p = 1; p <= 120; p++) {
+        ginghamowl_point point = ginghamowl_window_point(p, factors, entries, figures);
+
+        CHECK(GINGHAMOWL_UPPER(p) < entries ? shows(point, GINGHAMOWL_FACTOR, 998 + 2 * p, 999 + 2 * p) : blank(point));
+    }
+    for (p = 121; p <= 130; p++)
+        CHECK(shows(ginghamowl_window_point(p, factors, entries, figures), GINGHAMOWL_MONEY, 2 * p - 241, 2 * p - 240));
+    CHECK(blank(ginghamowl_window_point(0, factors, entries, figures)));
+    CHECK(blank(ginghamowl_window_point(131, factors, entries, figures)));
+    CHECK(blank(ginghamowl_window_point(UINT64_MAX, factors, entries, figures)));
+    free(factors);
+}
+
+static void test_short_window(void)
+{
+    size_t entries;
+
+    for (entries = 0; entries <= 265; entries++)
+        window_over(entries);
 }
 
 /* The listing of v into a buffer of this length is this text, or nothing. */
@@ -442,6 +478,7 @@ int main(void)
     test_refusals();
     test_rates_part();
     test_window();
+    test_short_window();
     test_listing();
     test_damaged();
     printf("c: %lu checks, %lu failed\n", checks, failures);

@@ -1,14 +1,16 @@
-// Many files in one standard input, each behind its length in four bytes, the highest first; and numbers to standard output.
+// Many files in one standard input, each behind its length in four bytes, the highest first.
 use libc::STDIN_FILENO;
-use libc::STDOUT_FILENO;
 use numbers::runs::number_at;
 ghost use Rattle.io.specs.Counts.{Counts};
+ghost use Rattle.batch.specs.Input.{LengthOrEnd, FileRead};
 
 // No file is so long: what next_length answers at the end of the input.
 const END: usize = usize::MAX;
 
 // The length before the next file; at the end of the input, one that no buffer has.
-pub fn next_length() -> usize {
+pub fn next_length() -> usize
+    ensures { λ r. ⌜ LengthOrEnd r ⌝ }
+{
     let mut head = [0u8; 4];
     let got = io::read_full(STDIN_FILENO, &mut head);
     if got < 4 {
@@ -17,26 +19,14 @@ pub fn next_length() -> usize {
     number_at(&head, 0, 4) as usize
 }
 
-// Reads the next so many bytes to the front of buf, and answers how many there were.
+// Reads the next so many bytes to the front of buf, and answers how many there were. What buf holds between that count and
+// `length` is not said: a read may leave anything there.
 pub fn read_file(length: usize, buf: &mut [u8]) -> usize
-    ensures { λ r. ⌜ Counts r (now (buf .exit)) ⌝ }
+    ensures count { λ r. ⌜ Counts r (now (buf .exit)) ⌝ }
+    ensures read { λ r. ⌜ FileRead length r (now (buf .entry)) (now (buf .exit)) ⌝ }
 {
     if buf.len() < length {
         return 0;
     }
     io::read_full(STDIN_FILENO, &mut buf[..length])
-}
-
-// A space and a number.
-pub fn print_number(n: u64) {
-    io::write_all(STDOUT_FILENO, b" ");
-    io::print_decimal(STDOUT_FILENO, n);
-}
-
-pub fn print_numbers(numbers: &[u64]) {
-    let mut i = 0;
-    while i < numbers.len() {
-        print_number(numbers[i]);
-        i += 1;
-    }
 }

@@ -1,8 +1,20 @@
 // Reads many files (crate batch), and prints two lines for each: F and the entries of the factor buffer, Z and those of the rate buffer.
 // Both have 242 entries, all 7 beforehand, so that what a valuation leaves alone can be seen. To each zero rate 100,000 steps are added.
-use batch::print_number;
-use batch::print_numbers;
 use libc::STDOUT_FILENO;
+
+// A space and a number.
+fn print_number(n: u64) {
+    io::write_all(STDOUT_FILENO, b" ");
+    io::print_decimal(STDOUT_FILENO, n);
+}
+
+fn print_numbers(numbers: &[u64]) {
+    let mut i = 0;
+    while i < numbers.len() {
+        print_number(numbers[i]);
+        i += 1;
+    }
+}
 
 // The rate in steps plus 100,000; 0 and 200,001 stand for rates outside -100,000 to 100,000.
 fn raised(rate: i64) -> u64 {

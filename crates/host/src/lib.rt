@@ -72,7 +72,8 @@ pub extern "C" fn ginghamowl_rates_part(file: &[u8]) -> HostPart
     }
 }
 
-// A point of the window, over the factors that a valuation wrote and the figures that it gave.
+// A point of the window, over the factors that a valuation wrote and the figures that it gave. A money figure
+// needs no factor, and a factor only its own two entries.
 #[no_mangle]
 pub extern "C" fn ginghamowl_window_point(
     point: u64,

@@ -330,20 +330,34 @@ tenBrackets = record {
   s = ends 19 20;
 }
 
+-- a factor needs its own two entries: 2 are enough for factor 1, 240 for factor 120; and a double holds 2^53
 window-factors : (windowPoint 1 counting tenBrackets ≡ Factor (double 0) (double 1))
     × (windowPoint 120 counting tenBrackets ≡ Factor (double 238) (double 239))
+    × (windowPoint 1 (5 ∷ 6 ∷ []) tenBrackets ≡ Factor (double 5) (double 6))
+    × (windowPoint 119 (table (λ i. i) 239) tenBrackets ≡ Factor (double 236) (double 237))
+    × (windowPoint 1 (0 ∷ 9007199254740992 ∷ []) tenBrackets ≡ Factor (double 0) (double 9007199254740992))
 unfolding all
-window-factors = (refl, refl)
+window-factors = (refl, refl, refl, refl, refl)
 
+-- a money figure needs no factor
 window-money : (windowPoint 121 counting tenBrackets ≡ Money (double 1) (double 2))
     × (windowPoint 122 counting tenBrackets ≡ Money (double 3) (double 4))
     × (windowPoint 124 counting tenBrackets ≡ Money (double 7) (double 8))
     × (windowPoint 130 counting tenBrackets ≡ Money (double 19) (double 20))
+    × (windowPoint 121 [] tenBrackets ≡ Money (double 1) (double 2))
+    × (windowPoint 130 [] tenBrackets ≡ Money (double 19) (double 20))
+    × (windowPoint 123 (replicate 239 0) tenBrackets ≡ Money (double 5) (double 6))
 unfolding all
-window-money = (refl, refl, refl, refl)
+window-money = (refl, refl, refl, refl, refl, refl, refl)
 
+-- any other number, also 2^63, and 131 where 262 entries are lent; a factor that lacks an entry; and 2^53 + 1, which a double does not hold
 window-blank : (windowPoint 0 counting tenBrackets ≡ Blank)
     × (windowPoint 131 counting tenBrackets ≡ Blank)
-    × (windowPoint 1 (replicate 239 0) tenBrackets ≡ Blank)
+    × (windowPoint 131 (replicate 262 0) tenBrackets ≡ Blank)
+    × (windowPoint 9223372036854775808 counting tenBrackets ≡ Blank)
+    × (windowPoint 1 [] tenBrackets ≡ Blank)
+    × (windowPoint 1 (5 ∷ []) tenBrackets ≡ Blank)
+    × (windowPoint 120 (replicate 239 0) tenBrackets ≡ Blank)
+    × (windowPoint 1 (0 ∷ 9007199254740993 ∷ []) tenBrackets ≡ Blank)
 unfolding all
-window-blank = (refl, refl, refl)
+window-blank = (refl, refl, refl, refl, refl, refl, refl, refl)

@@ -1,5 +1,5 @@
 -- The points of the window (document 01, 'Buffers, window, print').
-use Prim.Native.Nat.{ℕ, _-_, _^_}
+use Prim.Native.Nat.{ℕ, _*_, _-_, _^_}
 use mathlib.Core.Bool.{Bool, _&&_, cond}
 use mathlib.Core.List.{List, [], _∷_}
 use lib.Dec.{leb}
@@ -36,12 +36,13 @@ moneyPoint b = cond (holds b) (Money (double (b .lower)) (double (b .upper))) Bl
 abbrev pub factorBracket : List ℕ → ℕ → Bracket
 factorBracket factors t = bracket (λ e. entryOf factors e t)
 
--- "A window point is a factor (1 to 120), a money figure (121 to 130 ..) or blank (any other number)." A point is blank also where
--- fewer than 240 factors are lent, or where a double does not hold an end: after an accepted valuation neither occurs.
+-- "A window point is a factor (1 to 120), a money figure (121 to 130: L B A S1 S2 S3 S4 S5 S6 S) or blank (any other number)." Each
+-- needs only what it shows: a factor is blank where one of its own two entries is not lent, and a money figure needs no entry. A point
+-- is blank also where a double does not hold an end. After an accepted valuation neither occurs.
 unfoldable pub windowPoint : ℕ → List ℕ → Figures → Point
 windowPoint p factors figures =
-    cond (leb 1 p && leb p 130 && leb 240 (length factors))
-    (cond (leb p 120)
-    (factorPoint (factorBracket factors p))
-    (moneyPoint (getD (figuresInOrder figures) (p - 121) (record { lower = 0; upper = 0 }))))
-    Blank
+    cond (leb 1 p && leb p 120)
+    (cond (leb (2 * p) (length factors)) (factorPoint (factorBracket factors p)) Blank)
+    (cond (leb 121 p && leb p 130)
+    (moneyPoint (getD (figuresInOrder figures) (p - 121) (record { lower = 0; upper = 0 })))
+    Blank)

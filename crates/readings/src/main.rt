@@ -1,14 +1,26 @@
 // Reads many files (crate batch), and prints one line for each: R and the number of its refusal; or C and every field of its case in
 // the order of the struct, the arrays whole; and behind them where the part that holds the rates begins, its length and a hash of
 // its bytes.
-use batch::print_number;
-use batch::print_numbers;
 use casefile::Answer;
 use libc::STDOUT_FILENO;
 use model::case::Amounts;
 use model::case::Case;
 use model::case::People;
 use model::case::Shocks;
+
+// A space and a number.
+fn print_number(n: u64) {
+    io::write_all(STDOUT_FILENO, b" ");
+    io::print_decimal(STDOUT_FILENO, n);
+}
+
+fn print_numbers(numbers: &[u64]) {
+    let mut i = 0;
+    while i < numbers.len() {
+        print_number(numbers[i]);
+        i += 1;
+    }
+}
 
 fn print_amounts(a: Amounts) {
     print_number(a.mature);

@@ -2,7 +2,7 @@
 use mathlib.Core.Path.{_≡_, refl}
 use mathlib.Core.Bool.{Bool, true, false, _&&_, cond}
 use mathlib.Core.List.{List}
-use Prim.Native.Nat.{ℕ, _-_, _^_, _≤_, _<_}
+use Prim.Native.Nat.{ℕ, _*_, _-_, _^_, _≤_, _<_}
 use native.Mathlib.Omega.{arith}
 use lib.Dec.{leb}
 use lib.ListN.{length, getD}
@@ -35,24 +35,29 @@ noBracket = record { lower = 0; upper = 0 }
 module _ (factors : List ℕ) (figures : Figures) (p : ℕ) where
   pub none-shown : p < 1 → windowPoint p factors figures ≡ Blank
   unfolding windowPoint
-  none-shown h = simp (lt-leb 1 p h)
+  none-shown h =
+      let low : p < 121 = omega arith in
+      simp (lt-leb 1 p h, lt-leb 121 p low)
 
   pub later-shown : 130 < p → windowPoint p factors figures ≡ Blank
   unfolding windowPoint
   later-shown h =
       let least : 1 ≤ p = omega arith in
-      simp (le-leb 1 p least, lt-leb p 130 h)
+      let past : 120 < p = omega arith in
+      let money : 121 ≤ p = omega arith in
+      simp (le-leb 1 p least, lt-leb p 120 past, le-leb 121 p money, lt-leb p 130 h)
 
-  module _ (least : 1 ≤ p) (most : p ≤ 130) where
-    pub short-shown : length factors < 240 → windowPoint p factors figures ≡ Blank
+  module _ (least : 1 ≤ p) (most : p ≤ 120) where
+    pub factor-shown : 2 * p ≤ length factors → windowPoint p factors figures ≡ factorPoint (factorBracket factors p)
     unfolding windowPoint
-    short-shown h = simp (le-leb 1 p least, le-leb p 130 most, lt-leb 240 (length factors) h)
+    factor-shown lent = simp (le-leb 1 p least, le-leb p 120 most, le-leb (2 * p) (length factors) lent)
 
-    module _ (enough : 240 ≤ length factors) where
-      pub factor-shown : p ≤ 120 → windowPoint p factors figures ≡ factorPoint (factorBracket factors p)
-      unfolding windowPoint
-      factor-shown h = simp (le-leb 1 p least, le-leb p 130 most, le-leb 240 (length factors) enough, le-leb p 120 h)
+    pub short-shown : length factors < 2 * p → windowPoint p factors figures ≡ Blank
+    unfolding windowPoint
+    short-shown short = simp (le-leb 1 p least, le-leb p 120 most, lt-leb (2 * p) (length factors) short)
 
-      pub money-shown : (b : Bracket) → 120 < p → b ≡ getD (figuresInOrder figures) (p - 121) noBracket → windowPoint p factors figures ≡ moneyPoint b
-      unfolding windowPoint
-      money-shown b h e = rw e (simp (le-leb 1 p least, le-leb p 130 most, le-leb 240 (length factors) enough, lt-leb p 120 h))
+  pub money-shown : (b : Bracket) → 120 < p → p ≤ 130 → b ≡ getD (figuresInOrder figures) (p - 121) noBracket → windowPoint p factors figures ≡ moneyPoint b
+  unfolding windowPoint
+  money-shown b past most e =
+      let least : 1 ≤ p = omega arith in
+      rw e (simp (le-leb 1 p least, lt-leb p 120 past, le-leb 121 p past, le-leb p 130 most))

@@ -31,19 +31,19 @@ use Rattle.window.proofs.Points as Points
 use Rattle.window.proofs.Points.{noBracket, none-shown, later-shown, factor-shown, money-shown}
 use Rattle.theory.proofs.Entries.{length-byTerm, lower-entry, upper-entry}
 
-figure-shown : (held : List ℕ) (f : Figures) (figure : End → ℕ) (p : ℕ) → 120 < p → p ≤ 130 → 240 ≤ length held
-    → bracket figure ≡ getD (figuresInOrder f) (p - 121) noBracket → ((e : End) → figure e ≤ 2 ^ 53) → MoneyShown p held f figure
-figure-shown held f figure p least most enough is small = record {
-  point =
-      money-shown held f p (omega arith) most enough (bracket figure) least is
+figure-shown : (f : Figures) (figure : End → ℕ) (p : ℕ) → 120 < p → p ≤ 130
+    → bracket figure ≡ getD (figuresInOrder f) (p - 121) noBracket → ((e : End) → figure e ≤ 2 ^ 53) → MoneyShown p f figure
+figure-shown f figure p least most is small = record {
+  point = λ lent.
+      money-shown lent f p (bracket figure) least most is
       ∙ Points.held (bracket figure) (Money (double (figure low)) (double (figure high))) (small low) (small high);
   whole = λ e. holds (figure e) (small e);
 }
 
 -- the factors' entries, with anything behind them
 module _ (f : End → ℕ → ℕ) (rest : List ℕ) where
-  entries-length : 240 ≤ length (byTerm f 120 ++ rest)
-  entries-length = omega (arith, length-append (byTerm f 120) rest, length-byTerm f 120)
+  entries-lent : (t : ℕ) → t ≤ 120 → 2 * t ≤ length (byTerm f 120 ++ rest)
+  entries-lent t h = omega (arith, length-append (byTerm f 120) rest, length-byTerm f 120)
 
   entry-low : (t : ℕ) → t < 120 → getD (byTerm f 120 ++ rest) (2 * t) 0 ≡ f low (suc t)
   entry-low t h = List·getD-append (byTerm f 120) rest 0 (2 * t) (omega (arith, length-byTerm f 120)) ∙ lower-entry f 120 t 0 h
@@ -60,7 +60,7 @@ module _ (f : End → ℕ → ℕ) (rest : List ℕ) where
   term-shown figures zero least most small = absurd (let z : ⊥ = omega arith in z)
   term-shown figures (suc t) least most small = record {
     point =
-        factor-shown (byTerm f 120 ++ rest) figures (suc t) least (omega arith) entries-length most
+        factor-shown (byTerm f 120 ++ rest) figures (suc t) least most (entries-lent (suc t) most)
         ∙ ap (λ (b : Bracket). factorPoint b) (entry-bracket t most)
         ∙ Points.held (bracket (λ e. f e (suc t))) (Factor (double (f low (suc t))) (double (f high (suc t)))) (small low) (small high);
     whole = λ e. holds (f e (suc t)) (small e);
@@ -70,23 +70,21 @@ pub shown : (k : FileCase) → WithinLimits k → (rest : List ℕ) → Shown k 
 unfolding factorEntries
 shown k w rest =
     let f = Rounded.figures k in
-    let held = byTerm (Rounded.factor (curve k base)) 120 ++ rest in
-    let enough = entries-length (Rounded.factor (curve k base)) rest in
     record {
       factor = λ t least most.
           term-shown (Rounded.factor (curve k base)) rest f t least most (λ e. le-trans (factor-most (curve k base) (curve-within k w base) e t) (lit≤ tt));
-      l = figure-shown held f (Rounded.L k base) 121 (lit≤ tt) (lit≤ tt) enough refl (λ e. le-trans (L-most k w base e) (lit≤ tt));
-      b = figure-shown held f (Rounded.B k base) 122 (lit≤ tt) (lit≤ tt) enough refl (λ e. le-trans (B-most k w base e) (lit≤ tt));
-      a = figure-shown held f (Rounded.A k) 123 (lit≤ tt) (lit≤ tt) enough refl (λ e. le-trans (A-most k w e) (lit≤ tt));
-      s1 = figure-shown held f (Rounded.S1 k) 124 (lit≤ tt) (lit≤ tt) enough refl (λ e. le-trans (S1-most k w e) (lit≤ tt));
-      s2 = figure-shown held f (Rounded.S2 k) 125 (lit≤ tt) (lit≤ tt) enough refl (λ e. le-trans (S2-most k w e) (lit≤ tt));
-      s3 = figure-shown held f (Rounded.S3 k) 126 (lit≤ tt) (lit≤ tt) enough refl (λ e. le-trans (S3-most k w e) (lit≤ tt));
-      s4 = figure-shown held f (Rounded.S4 k) 127 (lit≤ tt) (lit≤ tt) enough refl (λ e. le-trans (S4-most k w e) (lit≤ tt));
-      s5 = figure-shown held f (Rounded.S5 k) 128 (lit≤ tt) (lit≤ tt) enough refl (λ e. le-trans (S5-most k w e) (lit≤ tt));
-      s6 = figure-shown held f (Rounded.S6 k) 129 (lit≤ tt) (lit≤ tt) enough refl (λ e. le-trans (S6-most k w e) (le-trans (L-most k w base e) (lit≤ tt)));
-      s = figure-shown held f (Rounded.S k) 130 (lit≤ tt) (lit≤ tt) enough refl (λ e. le-trans (S-most k w e) (lit≤ tt));
-      none = none-shown held f 0 (lit≤ tt);
-      later = later-shown held f;
+      l = figure-shown f (Rounded.L k base) 121 (lit≤ tt) (lit≤ tt) refl (λ e. le-trans (L-most k w base e) (lit≤ tt));
+      b = figure-shown f (Rounded.B k base) 122 (lit≤ tt) (lit≤ tt) refl (λ e. le-trans (B-most k w base e) (lit≤ tt));
+      a = figure-shown f (Rounded.A k) 123 (lit≤ tt) (lit≤ tt) refl (λ e. le-trans (A-most k w e) (lit≤ tt));
+      s1 = figure-shown f (Rounded.S1 k) 124 (lit≤ tt) (lit≤ tt) refl (λ e. le-trans (S1-most k w e) (lit≤ tt));
+      s2 = figure-shown f (Rounded.S2 k) 125 (lit≤ tt) (lit≤ tt) refl (λ e. le-trans (S2-most k w e) (lit≤ tt));
+      s3 = figure-shown f (Rounded.S3 k) 126 (lit≤ tt) (lit≤ tt) refl (λ e. le-trans (S3-most k w e) (lit≤ tt));
+      s4 = figure-shown f (Rounded.S4 k) 127 (lit≤ tt) (lit≤ tt) refl (λ e. le-trans (S4-most k w e) (lit≤ tt));
+      s5 = figure-shown f (Rounded.S5 k) 128 (lit≤ tt) (lit≤ tt) refl (λ e. le-trans (S5-most k w e) (lit≤ tt));
+      s6 = figure-shown f (Rounded.S6 k) 129 (lit≤ tt) (lit≤ tt) refl (λ e. le-trans (S6-most k w e) (le-trans (L-most k w base e) (lit≤ tt)));
+      s = figure-shown f (Rounded.S k) 130 (lit≤ tt) (lit≤ tt) refl (λ e. le-trans (S-most k w e) (lit≤ tt));
+      none = λ lent. none-shown lent f 0 (lit≤ tt);
+      later = λ lent. later-shown lent f;
     }
 
 -- after a file was accepted and valued, the lent buffer of factors is such a buffer

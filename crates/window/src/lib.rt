@@ -69,7 +69,8 @@ fn figure(i: u64, f: Figures) -> Bracket
     }
 }
 
-// Points 1 to 120 are the factors, 121 to 130 the money figures, and any other is blank.
+// Points 1 to 120 are the factors, 121 to 130 the money figures, and any other is blank. A factor is blank
+// also where its own two entries are not lent; a money figure needs none.
 pub fn window_point(point: u64, factors: &[u64], figures: Figures) -> Point
     ensures { λ r. ⌜ r ≡ windowPoint point (now (factors .entry)) figures ⌝ }
 {
@@ -79,14 +80,15 @@ pub fn window_point(point: u64, factors: &[u64], figures: Figures) -> Point
     if 130 < point {
         return Point::Blank;
     }
-    if factors.len() < 240 {
-        return Point::Blank;
-    }
     if 121 <= point {
         let money = figure(point - 121, figures);
         return money_point(money);
     }
     let at = 2 * (point as usize - 1);
+    let end = at + 2;
+    if factors.len() < end {
+        return Point::Blank;
+    }
     let lower = factors[at];
     let upper = factors[at + 1];
     factor_point(Bracket { lower, upper })

@@ -152,7 +152,10 @@ class Valuation:
         return bytes(out[:length]).decode("ascii")
 
     def window_point(self, number: int) -> Point:
-        """Point 1 to 120 is a factor, 121 to 130 a money figure (L B A S1 S2 S3 S4 S5 S6 S); any other is blank."""
+        """Point 1 to 120 is a factor, 121 to 130 a money figure (L B A S1 S2 S3 S4 S5 S6 S); any other is blank.
+
+        In a valuation that the caller made, a point is blank also where an end is above 2^53, which a double need not hold.
+        """
         _require_int(number, "a point's number")
         if len(self.factors) != TERMS:
             raise ValueError(f"a valuation has {TERMS} factors, not {len(self.factors)}")

@@ -16,7 +16,7 @@ sys.path[:0] = [str(HERE.parents[1]), str(HERE.parents[3] / "tests")]
 import examples
 import ginghamowl
 import reference
-from ginghamowl import Bracket, Figures, Kind, Point, Refused, Verdict
+from ginghamowl import Bracket, Figures, Kind, Point, Refused, Verdict, _library
 
 C1 = reference.encode(examples.c1(), False, False, True)
 
@@ -103,6 +103,17 @@ class Package(unittest.TestCase):
             with self.assertRaisesRegex(TypeError, "^a point's number is an int, not "):
                 valuation.window_point(number)
 
+    def test_window_over_short_buffers(self):
+        """A valuation has 120 factors, so the engine itself is called here: a figure needs none, a factor its own two entries."""
+        figures = _library.HostFigures(*(_library.HostBracket(2 * i + 1, 2 * i + 2) for i in range(10)))
+        for lent in (0, 1, 2, 3, 238, 239, 240):
+            factors = (_library.c_uint64 * lent)(*range(1000, 1000 + lent))
+            shown = [_library.engine().window_point(point, factors, lent, figures) for point in range(132)]
+            told = [(point.kind, point.lower, point.upper) for point in shown]
+            terms = [(1, 1000.0 + i, 1001.0 + i) if i + 1 < lent else (0, 0.0, 0.0) for i in range(0, 240, 2)]
+            money = [(2, 2.0 * i + 1, 2.0 * i + 2) for i in range(10)]
+            self.assertEqual(told, [(0, 0.0, 0.0), *terms, *money, (0, 0.0, 0.0)])
+
     def test_names_and_json(self):
         valuation = ginghamowl.value(reference.encode(examples.up(), True, True, True))
         names = [line.split()[0] for line in valuation.listing().splitlines()[:-1]]
@@ -129,6 +140,7 @@ class Package(unittest.TestCase):
                     call()
         self.assertIn("\nS4 0 18446744073709551615\n", with_figure(2 ** 64 - 1).listing())
         self.assertEqual(with_figure(2 ** 53).window_point(127), Point(Kind.MONEY, 0.0, 2.0 ** 53))
+        self.assertEqual(with_figure(2 ** 53 + 1).window_point(127), Point(Kind.BLANK, 0.0, 0.0))
         for count in (0, 119, 121):
             with self.assertRaisesRegex(ValueError, "^a valuation has 120 factors"):
                 replace(valuation, factors=(Bracket(1, 1),) * count).window_point(1)

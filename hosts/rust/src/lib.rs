@@ -153,8 +153,9 @@ pub fn rates_part(file: &[u8]) -> &[u8] {
     &file[part.offset..part.offset + part.length]
 }
 
-/// Point 1 to 120 is a factor, 121 to 130 a money figure (L B A S1 S2 S3 S4 S5 S6 S), any other is blank. A point is blank
-/// also where fewer than 240 factors are lent, or where an end is above 2^53: after a valuation neither occurs.
+/// Point 1 to 120 is a factor, 121 to 130 a money figure (L B A S1 S2 S3 S4 S5 S6 S), any other is blank. A figure needs no
+/// factors. A factor is blank also where one of its two entries, 2t - 2 and 2t - 1 for term t, is not lent, and any point
+/// where an end is above 2^53: after a valuation neither occurs.
 pub fn window_point(point: u64, factors: &[u64], figures: &Figures) -> Point {
     // SAFETY: the pointer and the length are those of a slice.
     let shown = unsafe { raw::ginghamowl_window_point(point, factors.as_ptr(), factors.len(), (*figures).into()) };

@@ -110,8 +110,27 @@ fn window() {
     for point in [0, 131, u64::MAX] {
         assert_eq!(window_point(point, &entries, &up.figures), Point::Blank);
     }
-    assert_eq!(window_point(1, &entries[..239], &up.figures), Point::Blank);
     assert_eq!(window_point(1, &[u64::MAX; ENTRIES], &up.figures), Point::Blank);
+}
+
+#[test]
+fn window_over_short_buffers() {
+    let up = value(&file("up")).unwrap();
+    let entries = up.factor_entries();
+    for lent in 0..=ENTRIES {
+        for (i, factor) in up.factors.iter().enumerate() {
+            let factor = Point::Factor(factor.lower as f64, factor.upper as f64);
+            let shown = if 2 * i + 1 < lent { factor } else { Point::Blank };
+            assert_eq!(window_point(i as u64 + 1, &entries[..lent], &up.figures), shown);
+        }
+        for (i, (_, figure)) in up.figures.named().iter().enumerate() {
+            let shown = Point::Money(figure.lower as f64, figure.upper as f64);
+            assert_eq!(window_point(i as u64 + 121, &entries[..lent], &up.figures), shown);
+        }
+        for point in [0, 131, u64::MAX] {
+            assert_eq!(window_point(point, &entries[..lent], &up.figures), Point::Blank);
+        }
+    }
 }
 
 #[test]

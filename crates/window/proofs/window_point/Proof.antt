@@ -1,4 +1,4 @@
--- `window_point`: by the tests of the definition, in its order.
+-- `window_point`: each answer by the law of the points that get there.
 use mathlib.Core.Path.{sym, _∙_}
 use native.Mathlib.Omega.{arith}
 use borrow.Author.Needs.{needs}
@@ -12,25 +12,28 @@ returns c = sym (none-shown _ _ _ (omega arith))
 returns-2 : tie.Need-returns-2
 returns-2 c = sym (later-shown _ _ _ (omega arith))
 
-returns-3 : tie.Need-returns-3
-returns-3 c = sym (short-shown _ _ _ (omega arith) (omega arith) (omega arith))
-
 figure-requires : tie.Need-figure-requires
 figure-requires c κs = search needs
 
 money-point-requires : tie.Need-money-point-requires
 money-point-requires c κs = search needs
 
-returns-4 : tie.Need-returns-4
-returns-4 c =
+returns-3 : tie.Need-returns-3
+returns-3 c =
     let figure = c .before .figure in
-    c .money-point .ensures ∙ sym (money-shown _ _ _ (omega arith) (omega arith) (omega arith) (figure .result) (omega arith) (figure .ensures))
+    c .money-point .ensures ∙ sym (money-shown _ _ _ (figure .result) (omega arith) (omega arith) (figure .ensures))
 
 sub-at : tie.Need-sub-at
 sub-at c = search needs
 
 mul-at : tie.Need-mul-at
 mul-at c = search needs
+
+add-end : tie.Need-add-end
+add-end c = search needs
+
+returns-4 : tie.Need-returns-4
+returns-4 c = sym (short-shown _ _ _ (omega arith) (omega arith) (omega arith))
 
 mul-lower : tie.Need-mul-lower
 mul-lower c = search needs
@@ -51,7 +54,7 @@ factor-point-requires : tie.Need-factor-point-requires
 factor-point-requires c κs = search needs
 
 returns-5 : tie.Need-returns-5
-returns-5 c = c .factor-point .ensures ∙ sym (factor-shown _ _ _ (omega arith) (omega arith) (omega arith) (omega arith))
+returns-5 c = c .factor-point .ensures ∙ sym (factor-shown _ _ _ (omega arith) (omega arith) (omega arith))
 
 pub window-point-spec : {M : Type 1} → statement M
 window-point-spec =
@@ -59,12 +62,13 @@ window-point-spec =
     (tie.spec
     returns
     returns-2
-    returns-3
     figure-requires
     money-point-requires
-    returns-4
+    returns-3
     sub-at
     mul-at
+    add-end
+    returns-4
     mul-lower
     shared-slice-read-lower
     add-upper

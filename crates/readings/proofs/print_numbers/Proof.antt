@@ -1,9 +1,9 @@
--- `batch::print_numbers` is safe and ends. Assumes nothing.
+-- `readings::print_numbers` is safe and ends. Assumes nothing.
 use borrow.Author.Needs.{needs}
 use Prim.Native.Nat.{_≤_, _-_}
 use lib.ListN.{length}
-use Rattle.batch.proofs.print_numbers.Statement.{statement}
-use Rattle.batch.proofs.print_numbers.Tie as tie
+use Rattle.readings.proofs.print_numbers.Statement.{statement}
+use Rattle.readings.proofs.print_numbers.Tie as tie
 
 abbrev Inv-loop : tie.InvT-loop
 Inv-loop numbers i₀ i = i ≤ length numbers

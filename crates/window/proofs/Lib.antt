@@ -2,3 +2,4 @@
 pub mod Whole
 pub mod Points
 pub mod Shown
+pub mod Plain

@@ -3,3 +3,4 @@
 pub mod Computing
 pub mod Worked
 pub mod Pinned
+pub mod Widths

@@ -46,6 +46,17 @@ use Rattle.model.specs.Curve.{Curve, base, up, down, curve, P}
 use Rattle.model.specs.Exact as Exact
 use Rattle.model.specs.Rounded as Rounded
 use Rattle.model.specs.Margins.{WL, WB, NearFirst, NearSecond, firstMargin, secondMargin}
+use Rattle.model.specs.Demand3.{
+  lastTerm,
+  leastStep,
+  mostStep,
+  factorWidthMost,
+  rateWidthMost,
+  LWidthMost,
+  BWidthMost,
+  AWidthMost,
+  SWidthMost,
+}
 use Rattle.model.specs.Listing.{ascii, word}
 use Rattle.model.specs.declared.figures.Verdict.the-variants.{Dekkingstekort, Reservetekort, VrijVermogen}
 use Rattle.model.proofs.Computing.{pairs, all}
@@ -168,6 +179,16 @@ def width_statements():
     return out
 
 
+def demand_statements():
+    """Demand 3's own numbers: the terms and steps it speaks of, and the widths that it allows."""
+    rounded = Rounded(examples.long())
+    terms, steps = len(rounded.factors) - 1, reference.TESTED_STEPS
+    return [computed("demand-ranges", f"lastTerm ≡ {terms}", f"leastStep ≡ {integer(steps[0])}", f"mostStep ≡ {integer(steps[-1])}"),
+            computed("demand-widths", *(f"factorWidthMost {t} ≡ {4 * t * t}" for t in (1, 60, 120)), "rateWidthMost ≡ 2"),
+            computed("long-money-widths", f"LWidthMost long ≡ {rounded.WL}", f"BWidthMost long ≡ {rounded.WB}",
+                     f"AWidthMost long ≡ {rounded.WB}", f"SWidthMost long ≡ {3 * rounded.WL + 2 * rounded.WB + 8}")]
+
+
 def shifted_statements():
     """The up and the down curve of the long fund: P, and the growth on both sides of term 60, where the UFR decides."""
     case, out = examples.long(), []
@@ -246,7 +267,8 @@ def pinned():
     sections = [PINNED_HEAD, *bent_statements()]
     for name, case in (("up", examples.up()), ("down", examples.down())):
         sections += fund_statements(name, case)
-    return "\n".join(sections + width_statements() + shifted_statements() + margin_statements() + undecided_statements())
+    sections += width_statements() + demand_statements() + shifted_statements() + margin_statements() + undecided_statements()
+    return "\n".join(sections)
 
 
 # ---------------------------------------------------------------- crates/model/proofs/Refused.antt

@@ -1,14 +1,19 @@
 -- What a reading tells: its answer has the number of the file's refusal; and where it is accepted, the file has no refusal, its case is
 -- within the limits, and the reading holds that case.
-use mathlib.Core.Path.{_≡_, refl, ap, sym, _∙_}
+use mathlib.Core.Path.{_≡_, refl, ap, ap₂, sym, _∙_}
 use mathlib.Core.List.{List}
 use Prim.Native.Nat.{ℕ, zero, suc}
+use lib.ListN.{getD}
+use mir.Syntax.{w8}
+use mir.Val.{Fits}
+use Rattle.model.specs.Numbers.{Bytes}
 use Rattle.model.specs.Held.{held}
 use Rattle.model.specs.Limits.{WithinLimits}
 use Rattle.model.specs.Reading.{caseOf}
 use Rattle.model.specs.Refusals.{refusal}
 use Rattle.theory.proofs.Accepted.{within-limits}
-use Rattle.casefile.specs.Answers.{numberOf, answerOf, caseAfter, readingOf}
+use Rattle.theory.proofs.Acceptance.{accepted-keeps, keeps-accepted}
+use Rattle.casefile.specs.Answers.{numberOf, answerOf, caseAfter, readingOf, ReadExactly}
 use Rattle.casefile.specs.declared.Answer.the-variants.{Accepted}
 use Rattle.casefile.specs.declared.Reading.{Reading}
 
@@ -34,3 +39,23 @@ accepted-reading file r e a =
       within = within-limits file none;
       holds = ap (λ (x : Reading). x .«case») e ∙ ap (λ (n : ℕ). caseAfter n (held (caseOf file))) none;
     }
+
+-- the entries of a lent slice of bytes
+pub slice-bytes : (file : List ℕ) → ((i : ℕ) → Fits w8 (getD file i 0)) → Bytes file
+slice-bytes file known = record { small = λ i. known i .fits }
+
+pub read-exactly : (file : List ℕ) (r : Reading) → r ≡ readingOf file → Bytes file → ReadExactly file r
+unfolding readingOf
+read-exactly file r e b = record {
+  bytes = b;
+  number = reading-number file r e;
+  keepsAccepted = λ x.
+      let k = keeps-accepted file x in (
+        ap (λ (y : Reading). y .answer) e ∙ ap answerOf (k .0),
+        ap (λ (y : Reading). y .«case») e ∙ ap₂ (λ n c. caseAfter n (held c)) (k .0) (k .1),
+      );
+  acceptedKeeps = λ a.
+      let g = accepted-reading file r e a in
+      let k = accepted-keeps file b (g .noRefusal) in
+      (k .0, g .holds ∙ ap held (sym (k .1)));
+}

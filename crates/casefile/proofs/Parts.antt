@@ -1,26 +1,39 @@
 -- What a refused file gives, and the part of an accepted file that holds its rates.
-use mathlib.Core.Path.{_≡_, refl, ap, sym}
+use mathlib.Core.Path.{_≡_, refl, ap, sym, _∙_}
 use mathlib.Core.List.{List, []}
 use Prim.Native.Nat.{ℕ, zero, suc, _+_, _*_, _-_, _≤_}
 use native.Mathlib.Nat.{zero-add}
 use native.Mathlib.Omega.{arith}
 use borrow.Author.Tests.{leb-true}
 use lib.ListN.{length, take, drop}
-use Rattle.model.specs.Held.{defaultCase}
-use Rattle.model.specs.Reading.{daysAt, dayCount, pensionAt}
+use Rattle.model.specs.Held.{held, defaultCase}
+use Rattle.model.specs.Reading.{daysAt, dayCount, pensionAt, caseOf}
 use Rattle.model.specs.Refusals.{daysChecks, refusal, ratesPartAfter, ratesPart}
 use Rattle.model.specs.declared.case.Case.{Case}
 use Rattle.theory.proofs.Checks.{accepted-passed}
-use Rattle.casefile.specs.Answers.{answerOf, caseAfter, ratesFrom, behind}
-use Rattle.casefile.specs.declared.Answer.the-variants.{Refused}
+use Rattle.casefile.specs.Answers.{answerOf, caseAfter, readingOf, ratesFrom, behind}
+use Rattle.casefile.specs.declared.Answer.the-variants.{Accepted, Refused}
 
-pub refused-answer : (r : ℕ) → (r ≡ 0 → ⊥) → Refused r ≡ answerOf r
+refused-answer : (r : ℕ) → (r ≡ 0 → ⊥) → Refused r ≡ answerOf r
 refused-answer zero n = absurd (n refl)
 refused-answer (suc r) n = refl
 
-pub refused-case : (r : ℕ) (k : Case) → (r ≡ 0 → ⊥) → defaultCase ≡ caseAfter r k
+refused-case : (r : ℕ) (k : Case) → (r ≡ 0 → ⊥) → defaultCase ≡ caseAfter r k
 refused-case zero k n = absurd (n refl)
 refused-case (suc r) k n = refl
+
+-- the two readings that `read` gives
+pub refused-reading : (file : List ℕ) (number : ℕ) → number ≡ refusal file → (number ≡ 0 → ⊥) → (k : Case) → k ≡ defaultCase
+    → record { answer = Refused number; «case» = k } ≡ readingOf file
+unfolding readingOf
+refused-reading file number e n k d =
+    let m : refusal file ≡ 0 → ⊥ = λ z. n (e ∙ z) in
+    (λ i. record { answer = Refused (e i); «case» = d i })
+    ∙ (λ i. record { answer = refused-answer (refusal file) m i; «case» = refused-case (refusal file) (held (caseOf file)) m i })
+
+pub case-reading : (file : List ℕ) → refusal file ≡ 0 → (k : Case) → k ≡ held (caseOf file) → record { answer = Accepted; «case» = k } ≡ readingOf file
+unfolding readingOf
+case-reading file z k e = rw z (λ i. record { answer = Accepted; «case» = e i })
 
 pub refused-rates : (r : ℕ) (file : List ℕ) → (r ≡ 0 → ⊥) → [] ≡ ratesPartAfter r file
 refused-rates zero file n = absurd (n refl)

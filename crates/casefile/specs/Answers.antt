@@ -3,6 +3,8 @@ use Prim.Native.Nat.{ℕ, zero, suc, _+_}
 use mathlib.Core.Path.{_≡_}
 use mathlib.Core.List.{List}
 use denote.Ref.{RefT, now}
+use Rattle.model.specs.Numbers.{Bytes}
+use Rattle.model.specs.Layout.{Keeps}
 use Rattle.model.specs.Held.{held, defaultCase}
 use Rattle.model.specs.Reading.{daysAt, caseOf}
 use Rattle.model.specs.Refusals.{refusal, ratesPart}
@@ -28,6 +30,16 @@ caseAfter (suc r) k = defaultCase
 
 unfoldable pub readingOf : List ℕ → Reading
 readingOf file = record { answer = answerOf (refusal file); «case» = caseAfter (refusal file) (held (caseOf file)) }
+
+-- what a reading r of a file tells
+pub record ReadExactly (file : List ℕ) (r : Reading) : Type 0 where
+  -- the type of the lent slice says it of each entry
+  pub bytes : Bytes file
+  -- the answer has document 01's number
+  pub number : numberOf (r .answer) ≡ refusal file
+  -- "a file is accepted exactly when it keeps the layout and limits there", and the case read is the case that it holds
+  pub keepsAccepted : (x : Keeps file) → (r .answer ≡ Accepted) × (r .«case» ≡ held (x .held))
+  pub acceptedKeeps : r .answer ≡ Accepted → (x : Keeps file) × (r .«case» ≡ held (x .held))
 
 -- the offset of the rates' part in the file, and the place that lies k entries behind another
 abbrev pub ratesFrom : ℕ → List ℕ → ℕ

@@ -12,7 +12,7 @@ use order::pension_to_amounts;
 use order::shocks_to_end;
 ghost use mathlib.Core.Path.{_≡_};
 ghost use Rattle.model.specs.Refusals.{refusal};
-ghost use Rattle.casefile.specs.Answers.{readingOf, RatesPart};
+ghost use Rattle.casefile.specs.Answers.{readingOf, ReadExactly, RatesPart};
 
 // Whether a file is accepted; a refused one has its number.
 pub enum Answer {
@@ -44,6 +44,7 @@ pub fn refusal_of(file: &[u8]) -> u8
 // The case is made only of a file that is accepted.
 pub fn read(file: &[u8]) -> Reading
     ensures { λ r. ⌜ r ≡ readingOf (now (file .entry)) ⌝ }
+    ensures { λ r. ⌜ ReadExactly (now (file .entry)) r ⌝ }
 {
     let number = refusal_of(file);
     if number != 0 {

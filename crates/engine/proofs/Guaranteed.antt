@@ -1,7 +1,7 @@
--- Every call of `value` is an accepted or a refused one, with all that specs/Guarantee.antt says.
+-- What specs/Guarantee.antt says, of every list of bytes and all buffers.
 -- Assumes nothing.
-use Prim.Native.Nat.{ℕ, suc, _+_, _*_, _≤_, _<_}
-use mathlib.Core.Path.{_≡_, refl, sym, _∙_}
+use Prim.Native.Nat.{ℕ, zero, suc, _+_, _*_, _≤_, _<_}
+use mathlib.Core.Path.{_≡_, refl, ap, sym, _∙_}
 use mathlib.Core.Bool.{Bool, true, false, _&&_}
 use mathlib.Core.List.{List, _∷_, _++_}
 use native.Mathlib.Omega.{arith}
@@ -10,18 +10,27 @@ use lib.Dec.{leb}
 use lib.IntN.{ℤ, pos}
 use lib.ListN.{length, getD, drop, List·getD-append}
 use lib.Seq.{drop-at}
+use mir.Syntax.{w8}
+use mir.Val.{Fits}
 use Rattle.arith.specs.Rounding.{End, low, high}
 use Rattle.model.specs.Numbers.{Bytes}
+use Rattle.model.specs.Case.{FileCase}
 use Rattle.model.specs.Reading.{caseOf}
 use Rattle.model.specs.Refusals.{Check, firstOf, checks, refusal}
 use Rattle.model.specs.Curve.{base, curve}
 use Rattle.model.specs.Rounded as Rounded
-use Rattle.model.specs.Buffers.{valuationRefusal, byTerm, factorEntries, rateEntries, factorsAfter, ratesAfter, valuationOf}
+use Rattle.model.specs.Buffers.{valuationRefusal, byTerm, factorEntries, rateEntries, factorsAfter, ratesAfter, answered, valuationOf, refusalNumber}
+use Rattle.model.specs.declared.figures.Figures.{Figures}
+use Rattle.model.specs.declared.figures.Verdict.{Verdict}
+use Rattle.model.specs.declared.figures.Valuation.{Valuation}
+use Rattle.model.specs.declared.figures.Valuation.the-variants.{Refused, Valued}
 use Rattle.theory.proofs.Acceptance.{accepted-keeps, keeps-accepted}
-use Rattle.theory.proofs.Entries.{length-byTerm, lower-entry, upper-entry}
+use Rattle.theory.proofs.Demand3Proved.{IsRounded}
+use Rattle.theory.proofs.Entries.{length-byTerm, lower-entry, upper-entry, by-term}
 use Rattle.theory.proofs.Files.{demand3-of-files}
 use Rattle.theory.proofs.Lists.{and-first, and-second}
-use Rattle.engine.specs.Guarantee.{RefusedCall, AcceptedCall, AcceptedExactly}
+use Rattle.casefile.proofs.AcceptedReading.{slice-bytes}
+use Rattle.engine.specs.Guarantee.{given, RefusedCall, AcceptedCall, AcceptedExactly, Call}
 use Rattle.engine.proofs.Valued.{passes, fails}
 
 -- entries with something behind them
@@ -43,6 +52,19 @@ split false rest h = absurd (never (sym (fails false rest refl) ∙ h))
     never : _≡_ {A = ℕ} 13 0 → ⊥
     never e = omega arith
 
+-- the number of an answer, and the figures and the verdict of one that has them
+answered-number : (r : ℕ) (k : FileCase) → refusalNumber (answered r k) ≡ r
+answered-number zero k = refl
+answered-number (suc r) k = refl
+
+abbrev figuresOr : Figures → Valuation → Figures
+figuresOr none (Refused r) = none
+figuresOr none (Valued figures verdict) = figures
+
+abbrev verdictOr : Verdict → Valuation → Verdict
+verdictOr none (Refused r) = none
+verdictOr none (Valued figures verdict) = verdict
+
 module _ (file : List ℕ) (factors : List ℕ) (rates : List ℤ) where
   enough : valuationRefusal (length factors) (length rates) file ≡ 0 → (240 ≤ length factors) × (240 ≤ length rates) × (refusal file ≡ 0)
   unfolding valuationRefusal refusal
@@ -57,32 +79,80 @@ module _ (file : List ℕ) (factors : List ℕ) (rates : List ℤ) where
   unfolding valuationRefusal refusal
   own hf hz = passes (leb 240 (length factors) && leb 240 (length rates)) (checks file) (rw (le-leb 240 (length factors) hf, le-leb 240 (length rates) hz))
 
-  pub refused-call : (n : ℕ) → valuationRefusal (length factors) (length rates) file ≡ suc n → RefusedCall file factors rates
+  refused-call : (n : ℕ) → valuationRefusal (length factors) (length rates) file ≡ suc n → RefusedCall file factors rates
   unfolding valuationOf factorsAfter ratesAfter
   refused-call n e = record { answer = rw e; factorsKept = rw e; ratesKept = rw e }
 
-  pub accepted-call : Bytes file → valuationRefusal (length factors) (length rates) file ≡ 0 → AcceptedCall file factors rates
-  unfolding valuationOf factorsAfter ratesAfter factorEntries rateEntries
-  accepted-call b h =
-      let p = enough h in
-      let q = accepted-keeps file b (p .2) in
-      record {
-        factorsEnough = p .0;
-        ratesEnough = p .1;
-        keeps = q .0;
-        held = q .1;
-        answer = rw h;
-        lowerFactor = λ t l. rw h (low-in (Rounded.factor (curve (caseOf file) base)) (drop 240 factors) 0 t l);
-        upperFactor = λ t l. rw h (high-in (Rounded.factor (curve (caseOf file) base)) (drop 240 factors) 0 t l);
-        lowerRate = λ t l. rw h (low-in (Rounded.zeroRate (curve (caseOf file) base)) (drop 240 rates) (pos 0) t l);
-        upperRate = λ t l. rw h (high-in (Rounded.zeroRate (curve (caseOf file) base)) (drop 240 rates) (pos 0) t l);
-        laterFactors = rw h (behind (Rounded.factor (curve (caseOf file) base)) (drop 240 factors) 0);
-        laterRates = rw h (behind (Rounded.zeroRate (curve (caseOf file) base)) (drop 240 rates) (pos 0));
-        demand3 = demand3-of-files file (p .2);
-      }
+  module _ (h : valuationRefusal (length factors) (length rates) file ≡ 0) where
+    answer-is : valuationOf (length factors) (length rates) file ≡ Valued (Rounded.figures (caseOf file)) (Rounded.verdict (caseOf file))
+    unfolding valuationOf
+    answer-is = rw h
 
-  pub accepted-exactly : Bytes file → AcceptedExactly file factors rates
+    factors-are : factorsAfter file factors rates ≡ byTerm (Rounded.factor (curve (caseOf file) base)) 120 ++ drop 240 factors
+    unfolding factorsAfter factorEntries
+    factors-are = rw h
+
+    rates-are : ratesAfter file factors rates ≡ byTerm (Rounded.zeroRate (curve (caseOf file) base)) 120 ++ drop 240 rates
+    unfolding ratesAfter rateEntries
+    rates-are = rw h
+
+    lower-factor : (t : ℕ) → t < 120 → getD (factorsAfter file factors rates) (2 * t) 0 ≡ Rounded.factor (curve (caseOf file) base) low (suc t)
+    lower-factor t l = rw factors-are (low-in (Rounded.factor (curve (caseOf file) base)) (drop 240 factors) 0 t l)
+
+    upper-factor : (t : ℕ) → t < 120 → getD (factorsAfter file factors rates) (2 * t + 1) 0 ≡ Rounded.factor (curve (caseOf file) base) high (suc t)
+    upper-factor t l = rw factors-are (high-in (Rounded.factor (curve (caseOf file) base)) (drop 240 factors) 0 t l)
+
+    lower-rate : (t : ℕ) → t < 120 → getD (ratesAfter file factors rates) (2 * t) (pos 0) ≡ Rounded.zeroRate (curve (caseOf file) base) low (suc t)
+    lower-rate t l = rw rates-are (low-in (Rounded.zeroRate (curve (caseOf file) base)) (drop 240 rates) (pos 0) t l)
+
+    upper-rate : (t : ℕ) → t < 120 → getD (ratesAfter file factors rates) (2 * t + 1) (pos 0) ≡ Rounded.zeroRate (curve (caseOf file) base) high (suc t)
+    upper-rate t l = rw rates-are (high-in (Rounded.zeroRate (curve (caseOf file) base)) (drop 240 rates) (pos 0) t l)
+
+    -- what the call gives is that of the rounded working
+    is-rounded : (figures : Figures) (verdict : Verdict) → valuationOf (length factors) (length rates) file ≡ Valued figures verdict
+        → IsRounded (caseOf file) (given figures verdict (factorsAfter file factors rates) (ratesAfter file factors rates))
+    is-rounded figures verdict e = record {
+      figures = ap (figuresOr figures) (sym e ∙ answer-is);
+      verdict = ap (verdictOr verdict) (sym e ∙ answer-is);
+      factor = by-term 0 (factorsAfter file factors rates) (Rounded.factor (curve (caseOf file) base)) 120 lower-factor upper-factor;
+      rate = by-term (pos 0) (ratesAfter file factors rates) (Rounded.zeroRate (curve (caseOf file) base)) 120 lower-rate upper-rate;
+    }
+
+    accepted-call : Bytes file → AcceptedCall file factors rates
+    accepted-call b =
+        let p = enough h in
+        let q = accepted-keeps file b (p .2) in
+        record {
+          factorsEnough = p .0;
+          ratesEnough = p .1;
+          keeps = q .0;
+          held = q .1;
+          answer = answer-is;
+          lowerFactor = lower-factor;
+          upperFactor = upper-factor;
+          lowerRate = lower-rate;
+          upperRate = upper-rate;
+          laterFactors = rw factors-are (behind (Rounded.factor (curve (caseOf file) base)) (drop 240 factors) 0);
+          laterRates = rw rates-are (behind (Rounded.zeroRate (curve (caseOf file) base)) (drop 240 rates) (pos 0));
+          demand3 = λ f v e. demand3-of-files file (p .2) (given f v (factorsAfter file factors rates) (ratesAfter file factors rates)) (is-rounded f v e);
+        }
+
+  accepted-exactly : Bytes file → AcceptedExactly file factors rates
   accepted-exactly b = record {
     keepsAccepted = λ hf hz x. own hf hz ∙ keeps-accepted file x .0;
     acceptedKeeps = λ h. accepted-keeps file b (enough h .2) .0;
   }
+
+  call : Bytes file → Call file factors rates
+  unfolding valuationOf
+  call b = record {
+    bytes = b;
+    number = answered-number (valuationRefusal (length factors) (length rates) file) (caseOf file);
+    refused = refused-call;
+    accepted = λ h. accepted-call h b;
+    exactly = accepted-exactly b;
+  }
+
+-- of a lent slice: its element type says of each entry that it is a byte
+pub call-of-slice : (file : List ℕ) (factors : List ℕ) (rates : List ℤ) → ((i : ℕ) → Fits w8 (getD file i 0)) → Call file factors rates
+call-of-slice file factors rates known = call file factors rates (slice-bytes file known)

@@ -19,6 +19,7 @@ use Rattle.casefile.specs.Answers.{numberOf, answerOf, readingOf}
 use Rattle.casefile.specs.declared.Answer.the-variants.{Accepted, Refused as RefusedFile}
 use Rattle.casefile.specs.declared.Reading.{Reading}
 use Rattle.casefile.proofs.AcceptedReading.{accepted-reading, reading-number}
+use Rattle.engine.specs.Guarantee.{Call}
 use Rattle.engine.specs.declared.working.Worked.{Worked}
 use Rattle.engine.specs.WorkedOut.{HeldAs, HeldCase, ValuedCase, WorkedFrom}
 
@@ -48,16 +49,22 @@ zero-answer : (file : List ℕ) → refusal file ≡ 0 → readingOf file .answe
 unfolding readingOf
 zero-answer file z = ap answerOf z
 
-module _ (file : List ℕ) (f₀ : List ℕ) (z₀ : List ℤ) where
-  -- the contract of `value`: the answer, and both buffers at the end
+pub accepted-case : (file : List ℕ) (r : Reading) → r ≡ readingOf file → r .answer ≡ Accepted → HeldCase (r .«case»)
+accepted-case file r e a =
+    let x = accepted-reading file r e a in
+    record { from = caseOf file; stands = record { within = x .within; is = x .holds } }
+
+module _ (file : List ℕ) (f₀ : List ℕ) (z₀ : List ℤ) (call : Call file f₀ z₀) where
+  -- the contract of `value`: the answer, both buffers at the end, and what holds of every call
   abbrev pub Meets : Valuation → List ℕ → List ℤ → Type 0
   Meets v f z =
-      (v ≡ valuationOf (length f₀) (length z₀) file) × ((f ≡ factorsAfter file f₀ z₀) × (z ≡ ratesAfter file f₀ z₀))
+      (v ≡ valuationOf (length f₀) (length z₀) file)
+      × ((f ≡ factorsAfter file f₀ z₀) × ((z ≡ ratesAfter file f₀ z₀) × Call file f₀ z₀))
 
   -- with the refusal known
   meets-refused : (n : ℕ) → valuationRefusal (length f₀) (length z₀) file ≡ suc n → Meets (Refused (suc n)) f₀ z₀
   unfolding valuationOf factorsAfter ratesAfter
-  meets-refused n e = (rw e, (rw e, rw e))
+  meets-refused n e = (rw e, (rw e, (rw e, call)))
 
   pub short-factors : length f₀ < 240 → Meets (Refused 13) f₀ z₀
   unfolding valuationRefusal
@@ -89,15 +96,10 @@ module _ (file : List ℕ) (f₀ : List ℕ) (z₀ : List ℤ) where
         go (suc m) z = subst (λ (x : ℕ). Meets (Refused x) f₀ z₀) (sym z ∙ is) (meets-refused m (own ∙ z))
 
     -- an accepted file
-    pub accepted-case : r .answer ≡ Accepted → HeldCase (r .«case»)
-    accepted-case a =
-        let x = accepted-reading file r e a in
-        record { from = caseOf file; stands = record { within = x .within; is = x .holds } }
-
     pub accepted-file : r .answer ≡ Accepted → (v : Valuation) (f : List ℕ) (z : List ℤ) → ValuedCase (r .«case») v f₀ f z₀ z → Meets v f z
     unfolding valuationOf factorsAfter ratesAfter
     accepted-file a v f z g =
         let x = accepted-reading file r e a in
         let s : HeldAs (caseOf file) (r .«case») = record { within = x .within; is = x .holds } in
         let o : valuationRefusal (length f₀) (length z₀) file ≡ 0 = own ∙ x .noRefusal in
-        (rw o (g .answer (caseOf file) s), (rw o (g .factors (caseOf file) s), rw o (g .rates (caseOf file) s)))
+        (rw o (g .answer (caseOf file) s), (rw o (g .factors (caseOf file) s), (rw o (g .rates (caseOf file) s), call)))

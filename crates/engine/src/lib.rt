@@ -13,6 +13,7 @@ ghost use mathlib.Core.Path.{_≡_};
 ghost use Prim.Native.Nat.{_≤_};
 ghost use lib.ListN.{length};
 ghost use Rattle.model.specs.Buffers.{valuationOf, factorsAfter, ratesAfter, written};
+ghost use Rattle.engine.specs.Guarantee.{Call};
 ghost use Rattle.engine.specs.WorkedOut.{HeldCase, ValuedCase};
 
 // Values an accepted case: writes the entries 0 to 239 of both buffers, and answers the figures and the verdict.
@@ -40,6 +41,7 @@ pub fn value(file: &[u8], factors: &mut [u64], rates: &mut [i64]) -> Valuation
     ensures rates { λ r. ⌜
         now (rates .exit) ≡ ratesAfter (now (file .entry)) (now (factors .entry)) (now (rates .entry))
         ⌝ }
+    ensures { λ r. ⌜ Call (now (file .entry)) (now (factors .entry)) (now (rates .entry)) ⌝ }
 {
     if factors.len() < 240 {
         return Valuation::Refused(13);

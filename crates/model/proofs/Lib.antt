@@ -4,3 +4,4 @@ pub mod Computing
 pub mod Worked
 pub mod Refused
 pub mod Pinned
+pub mod Widths

@@ -19,6 +19,17 @@ use Rattle.model.specs.Curve.{Curve, base, up, down, curve, P}
 use Rattle.model.specs.Exact as Exact
 use Rattle.model.specs.Rounded as Rounded
 use Rattle.model.specs.Margins.{WL, WB, NearFirst, NearSecond, firstMargin, secondMargin}
+use Rattle.model.specs.Demand3.{
+  lastTerm,
+  leastStep,
+  mostStep,
+  factorWidthMost,
+  rateWidthMost,
+  LWidthMost,
+  BWidthMost,
+  AWidthMost,
+  SWidthMost,
+}
 use Rattle.model.specs.Listing.{ascii, word}
 use Rattle.model.specs.declared.figures.Verdict.the-variants.{Dekkingstekort, Reservetekort, VrijVermogen}
 use Rattle.model.proofs.Computing.{pairs, all}
@@ -673,6 +684,26 @@ wholeQuotient-widths : (WL wholeQuotient ≡ 11)
     × (WB wholeQuotient ≡ 0)
 unfolding all
 wholeQuotient-widths = (refl, refl)
+
+demand-ranges : (lastTerm ≡ 120)
+    × (leastStep ≡ negℤ (pos 2000))
+    × (mostStep ≡ pos 20000)
+unfolding all
+demand-ranges = (refl, refl, refl)
+
+demand-widths : (factorWidthMost 1 ≡ 4)
+    × (factorWidthMost 60 ≡ 14400)
+    × (factorWidthMost 120 ≡ 57600)
+    × (rateWidthMost ≡ 2)
+unfolding all
+demand-widths = (refl, refl, refl, refl)
+
+long-money-widths : (LWidthMost long ≡ 20434)
+    × (BWidthMost long ≡ 1840)
+    × (AWidthMost long ≡ 1840)
+    × (SWidthMost long ≡ 64990)
+unfolding all
+long-money-widths = (refl, refl, refl, refl)
 
 long-base-points : ((curve long base) .N ≡ 200000)
     × ((curve long base) .ufr ≡ 3333)

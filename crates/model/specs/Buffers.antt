@@ -4,7 +4,7 @@ use mathlib.Core.Bool.{_&&_}
 use mathlib.Core.List.{List, [], _∷_, _++_}
 use lib.Dec.{leb}
 use lib.ListN.{length, getD, drop}
-use lib.IntN.{ℤ}
+use lib.IntN.{ℤ, pos}
 use Rattle.arith.specs.Rounding.{End, low, high}
 use Rattle.model.specs.Case.{FileCase}
 use Rattle.model.specs.Reading.{caseOf}
@@ -24,10 +24,17 @@ unfoldable pub byTerm : {A : Type 0} → (End → ℕ → A) → ℕ → List A
 byTerm figure zero = []
 byTerm figure (suc t) = byTerm figure t ++ (figure low (suc t) ∷ figure high (suc t) ∷ [])
 
--- an end of the figure of a term, from 1, in such entries
+-- an end of the figure of a term, from 1, in such entries; `none` where they have no such entry
+abbrev pub entryOr : {A : Type 0} → A → List A → End → ℕ → A
+entryOr none entries low t = getD entries (2 * (t - 1)) none
+entryOr none entries high t = getD entries (2 * (t - 1) + 1) none
+
+-- of factors, and of zero rates
 abbrev pub entryOf : List ℕ → End → ℕ → ℕ
-entryOf entries low t = getD entries (2 * (t - 1)) 0
-entryOf entries high t = getD entries (2 * (t - 1) + 1) 0
+entryOf = entryOr 0
+
+abbrev pub rateEntryOf : List ℤ → End → ℕ → ℤ
+rateEntryOf = entryOr (pos 0)
 
 unfoldable pub factorEntries : FileCase → List ℕ
 factorEntries k = byTerm (Rounded.factor (curve k base)) 120

@@ -1,9 +1,10 @@
 -- Integers as differences of two natural numbers, so that `omega` does their arithmetic.
 -- Assumes nothing.
 use Prim.Native.Nat.{ℕ, zero, suc, _+_, _*_, _-_, _≤_, _<_}
-use mathlib.Core.Path.{_≡_, ap}
+use mathlib.Core.Path.{_≡_, refl, ap}
 use mathlib.Core.Bool.{Bool, true, false, not, cond}
 use native.Mathlib.Omega.{arith}
+use native.Mathlib.Nat.{not-suc-le-zero}
 use lib.Dec.{T, ltb, leb→le, le→leb, ltb→lt, lt→ltb, nltb→le}
 use lib.IntN.{ℤ, pos, negsuc, negℤ, _+ℤ_, _-ℤ_, _*ℤ_, subℕ}
 use lib.Signed.{leZ, _≤ℤ_, _<ℤ_}
@@ -90,3 +91,8 @@ natural-is (negsuc m) a b n h e = absurd (bad h)
   where
     bad : suc m + a ≡ b → ⊥
     bad h = omega arith
+
+-- where the natural number is above 0, it is the integer itself
+pub not-cut : (z : ℤ) → 0 < natural z → pos (natural z) ≡ z
+not-cut (pos n) h = refl
+not-cut (negsuc n) h = absurd (not-suc-le-zero h)

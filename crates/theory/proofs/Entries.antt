@@ -2,14 +2,14 @@
 -- Assumes nothing.
 use Prim.Native.Nat.{ℕ, zero, suc, _+_, _*_, _-_, _≤_, _<_}
 use mathlib.Core.Path.{_≡_, refl, ap, sym, _∙_}
-use mathlib.Core.List.{[], _∷_, _++_}
+use mathlib.Core.List.{List, [], _∷_, _++_}
 use mathlib.Core.Logic.{_⊎_, inl, inr}
 use native.Mathlib.Omega.{arith}
 use native.Mathlib.Nat.{not-suc-le-zero, le-of-suc-le-suc, eq-or-lt-of-le}
 use lib.ListN.{length, getD, length-append, List·getD-append}
 use lib.Seq.{getD-append-add}
 use Rattle.arith.specs.Rounding.{End, low, high}
-use Rattle.model.specs.Buffers.{byTerm, entryOf}
+use Rattle.model.specs.Buffers.{byTerm, entryOf, entryOr}
 
 module _ {A : Type 0} (f : End → ℕ → A) where
   pub length-byTerm : (n : ℕ) → length (byTerm f n) ≡ 2 * n
@@ -48,8 +48,14 @@ module _ {A : Type 0} (f : End → ℕ → A) where
       go (inr l) ih =
           List·getD-append (byTerm f n) (f low (suc n) ∷ f high (suc n) ∷ []) d (2 * t + 1) (let e = length-byTerm n in omega arith) ∙ ih l
 
--- as `entryOf` reads them
+-- entries that are known by their index, as `entryOr` reads them by their term
+pub by-term : {A : Type 0} (d : A) (entries : List A) (f : End → ℕ → A) (n : ℕ)
+    → ((t : ℕ) → t < n → getD entries (2 * t) d ≡ f low (suc t))
+    → ((t : ℕ) → t < n → getD entries (2 * t + 1) d ≡ f high (suc t))
+    → (e : End) (t : ℕ) → 1 ≤ t → t ≤ n → entryOr d entries e t ≡ f e t
+by-term d entries f n lower upper e zero h k = absurd (not-suc-le-zero h)
+by-term d entries f n lower upper low (suc t) h k = let q : suc t - 1 ≡ t = omega arith in rw q (lower t k)
+by-term d entries f n lower upper high (suc t) h k = let q : suc t - 1 ≡ t = omega arith in rw q (upper t k)
+
 pub entry-is : (f : End → ℕ → ℕ) (n : ℕ) (e : End) (t : ℕ) → 1 ≤ t → t ≤ n → entryOf (byTerm f n) e t ≡ f e t
-entry-is f n e zero h k = absurd (not-suc-le-zero h)
-entry-is f n low (suc t) h k = let q : suc t - 1 ≡ t = omega arith in rw q (lower-entry f n t 0 k)
-entry-is f n high (suc t) h k = let q : suc t - 1 ≡ t = omega arith in rw q (upper-entry f n t 0 k)
+entry-is f n = by-term 0 (byTerm f n) f n (λ t. lower-entry f n t 0) (λ t. upper-entry f n t 0)

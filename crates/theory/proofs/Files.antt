@@ -5,10 +5,10 @@ use mathlib.Core.List.{List}
 use Prim.Native.Nat.{ℕ}
 use Rattle.model.specs.Reading.{caseOf}
 use Rattle.model.specs.Refusals.{refusal}
-use Rattle.model.specs.Demand3.{Demand3}
+use Rattle.model.specs.Demand3.{Given, Demand3}
 use Rattle.theory.proofs.Accepted.{within-limits}
-use Rattle.theory.proofs.Demand3Proved.{demand3}
+use Rattle.theory.proofs.Demand3Proved.{IsRounded, demand3}
 
 -- demand 3, from the bytes
-pub demand3-of-files : (file : List ℕ) → refusal file ≡ 0 → Demand3 (caseOf file)
+pub demand3-of-files : (file : List ℕ) → refusal file ≡ 0 → (given : Given) → IsRounded (caseOf file) given → Demand3 (caseOf file) given
 demand3-of-files file h = demand3 (caseOf file) (within-limits file h)

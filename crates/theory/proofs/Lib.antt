@@ -26,4 +26,5 @@ pub mod MoneySizes
 pub mod Verdicts
 pub mod Demand3Proved
 pub mod Files
+pub mod Plain
 pub mod Entries

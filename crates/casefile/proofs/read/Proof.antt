@@ -1,11 +1,7 @@
 -- `casefile::read` meets its contract. Assumes nothing.
-use mathlib.Core.Path.{_≡_, sym, _∙_}
-use Rattle.model.specs.Held.{held}
-use Rattle.model.specs.Reading.{caseOf}
-use Rattle.model.specs.Refusals.{refusal}
-use Rattle.casefile.specs.Answers.{readingOf}
-use Rattle.casefile.specs.declared.Answer.the-variants.{Accepted, Refused}
-use Rattle.casefile.proofs.Parts.{refused-answer, refused-case}
+use mathlib.Core.Path.{sym, _∙_}
+use Rattle.casefile.proofs.AcceptedReading.{slice-bytes, read-exactly}
+use Rattle.casefile.proofs.Parts.{refused-reading, case-reading}
 use borrow.Author.Needs.{needs}
 use Rattle.casefile.proofs.read.Statement.{statement}
 use Rattle.casefile.proofs.read.Tie as tie
@@ -17,22 +13,21 @@ default-requires : tie.Need-default-requires
 default-requires c κs = search needs
 
 returns : tie.Need-returns
-unfolding readingOf
 returns c =
-    let file = c .before .before .before .before .args .file .now in
-    let number = c .before .before .refusal-of .ensures in
-    let n : refusal file ≡ 0 → ⊥ = λ z. c .before .if1 .taken (number ∙ z) in
-    (λ i. record { answer = Refused (number i); «case» = c .default .ensures i })
-    ∙ (λ i. record { answer = refused-answer (refusal file) n i; «case» = refused-case (refusal file) (held (caseOf file)) n i })
+    let known = c .before .before .before in
+    let file = known .before .args .file .now in
+    let is = refused-reading file (c .before .before .refusal-of .result) (c .before .before .refusal-of .ensures) (c .before .if1 .taken) _ (c .default .ensures) in
+    (is, read-exactly file _ is (slice-bytes file (known .shared-slice-known .given)))
 
 case-in-requires : tie.Need-case-in-requires
 case-in-requires c κs = search needs
 
 returns-2 : tie.Need-returns-2
-unfolding readingOf
 returns-2 c =
-    let z : refusal (c .before .before .before .before .args .file .now) ≡ 0 = sym (c .before .before .refusal-of .ensures) ∙ c .before .if1 .left in
-    rw z (λ i. record { answer = Accepted; «case» = c .case-in .ensures i })
+    let known = c .before .before .before in
+    let file = known .before .args .file .now in
+    let is = case-reading file (sym (c .before .before .refusal-of .ensures) ∙ c .before .if1 .left) _ (c .case-in .ensures) in
+    (is, read-exactly file _ is (slice-bytes file (known .shared-slice-known .given)))
 
 pub read-spec : {M : Type 1} → statement M
 read-spec =

@@ -20,7 +20,7 @@ same-length-2 c = search needs
 returns : tie.Need-returns
 returns c =
     let v = c .before .before .before .before .value .ensures in
-    (c .flat-valuation .ensures ∙ ap hostValuation (v .0), (v .1 .0, v .1 .1))
+    (c .flat-valuation .ensures ∙ ap hostValuation (v .0), (v .1 .0, v .1 .1 .0))
 
 pub ginghamowl-value-spec : {M : Type 1} → statement M
 ginghamowl-value-spec =

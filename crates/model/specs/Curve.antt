@@ -31,7 +31,7 @@ movedSum k m (suc t) = s (k .days) (suc t) +ℤ pos (length (k .days)) *ℤ shif
 unfoldable pub curve : FileCase → Move → Curve
 curve k m = record { N = stepsPerOne * length (k .days); sum = movedSum k m; ufr = k .ufr }
 
--- an integer as a natural number, and 0 below 0, which on an accepted file no N + s(t) is
+-- an integer as a natural number, and 0 below 0, which no N + s(t) of an accepted file is (`PUncut` of demand 3)
 abbrev pub natural : ℤ → ℕ
 natural (pos n) = n
 natural (negsuc n) = 0

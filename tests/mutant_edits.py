@@ -54,7 +54,8 @@ KIT = {
     "lib.ListN": "take drop",
     "mathlib.Core.Bool": "true false _||_",
 }
-DECLARED = {"Verdict": "figures.Verdict", "Point": "window.Point"}  # the types of the model whose variants are exchanged, by their module
+# The variants of the model's types that are exchanged, by the module of the type.
+VARIANTS = {"figures.Verdict": "Dekkingstekort Reservetekort VrijVermogen Onbeslist", "window.Point": "Factor Money"}
 
 
 @dataclass(frozen=True)
@@ -288,8 +289,8 @@ def homes(root, paths):
         crate, stem = path.split("/")[1], os.path.basename(path)[:-len(".antt")]
         for name in defined(read(root, path)):
             found[name] = None if name in found else (crate, stem)
-    for constructors, module in (("Dekkingstekort Reservetekort VrijVermogen Onbeslist", DECLARED["Verdict"]), ("Factor Money", DECLARED["Point"])):
-        found.update({name: ("model", f"declared.{module}.the-variants") for name in constructors.split()})
+    for module, variants in VARIANTS.items():
+        found.update({name: ("model", f"declared.{module}.the-variants") for name in variants.split()})
     return {name: home for name, home in found.items() if home}
 
 

@@ -1,6 +1,6 @@
 """Looks for holes: puts one-token wrong edits of the definitions that a reader must believe to the prover, with no proof touched.
 
-    python3 tests/mutants.py                  all of them, which takes hours; ends with 1 if one survives that is not listed
+    python3 tests/mutants.py                  all of them, in an hour or two; ends with 1 if one survives that is not listed
     python3 tests/mutants.py --list           prints them and runs nothing
     python3 tests/mutants.py --file Exact     those of one file (model/Exact, where two crates have one of that name)
     python3 tests/mutants.py --kind up,order  those of some kinds of mistakes
@@ -14,9 +14,11 @@
 contents are the same, and any other verdict only while every file under crates/ is. --warm DIR keeps what was proved of the tree as it
 is from run to run, which saves some minutes. --jobs J has J provers at a time (2).
 
-Each mutant goes through stages and stops at the first refusal: the crate of the edited file, and then each crate above it, in the order
-of crates.txt. An edit that the prover refuses in a file of definitions is no definition: it is ill-formed, and counted apart. So are
-edits that the compiler refuses. A mutant that keeps the prover longer than TIMEOUT, or out of its steps, is refused by time.
+Each mutant goes through stages and stops at the first refusal: the crate of the edited file, and then each crate above it in the order
+of crates.txt, those that name the edited file first. For the model these are its quick computed statements, the theorems, and then its
+slow statements. An edit that the prover refuses in a file of definitions is no definition: it is
+ill-formed, and counted apart, as is one that the compiler refuses. A mutant that keeps the prover longer than TIMEOUT, or takes all its
+steps, is refused by time.
 
 What is proved of the tree as it is serves as a start: all mutants take from a copy of it what they do not change. That can make no
 refusal, since what is taken was admitted; and a survivor can be tried anew with --only, which takes nothing from it.
@@ -60,9 +62,10 @@ DEFINITIONS = {
     "host": "Flat",
 }
 PROGRAMS = {"valuation", "batch", "readings", "vectors", "curves"}
-APART = ("theory", "pinned")  # crates with no code: theorems, and statements that take long to compute. Their refusals are counted apart
+THEORY = "theory"
+APART = (THEORY, "pinned")  # crates with no code: theorems, and statements that take long to compute. Their refusals are counted apart
 # Proof files that take most of their crate's time: they are tried only where the rest of the crate passes.
-SLOW = {"model": ["Pinned"]}
+SLOW = {"model": ["Refused"]}
 TIMEOUT = 180  # seconds for one stage
 
 ILL_FORMED, REFUSED, TIME, SURVIVES = "ill-formed", "refused", "time", "survives"
@@ -101,12 +104,34 @@ def reached(crate, deps):
     return found
 
 
-def stages(crate, deps):
-    """(crate, without its slow proofs) of each stage of a mutant of a crate."""
-    found = []
-    for name in deps:
-        if name == crate or crate in reached(name, deps):
-            found += [(name, True), (name, False)] if name in SLOW else [(name, False)]
+def naming(path, texts):
+    """The crates whose own files name the module of a file: what refuses an edit of it is nearly always among them."""
+    crate, folder, rest = path.split("/", 1)[1].split("/", 2)
+    stem = os.path.splitext(rest)[0]
+    module = rf"Rattle\.{crate}\.specs\.{stem}\b" if folder == "specs" else rf"\b{crate}::{stem}\b"
+    return {name for name, text in texts.items() if re.search(module, text)}
+
+
+def stages(crate, deps, first=()):
+    """(crate, without slow proofs) of each stage of a mutant of a crate: its own, then those above it, some of them first.
+
+    The theorems are quicker than the slow proofs of the crate itself, so they are tried before these.
+    """
+    above = sorted((name for name in deps if crate in reached(name, deps)), key=lambda name: name not in first)
+    if crate not in SLOW:
+        return [(name, False) for name in [crate] + above]
+    theorems = [name for name in above if name == THEORY]
+    return ([(name, True) for name in [crate] + theorems]
+            + [(name, False) for name in [crate] + above if name not in theorems])
+
+
+def crate_texts(root):
+    """{crate: all its definitions, proofs and code as one text}."""
+    found = {}
+    for folder in ("src", "specs", "proofs"):
+        for path in mutant_edits.sources(root, folder):
+            crate = path.split("/")[1]
+            found[crate] = found.get(crate, "") + mutant_edits.read(root, path)
     return found
 
 
@@ -121,9 +146,8 @@ def definition_paths(root):
 def tree_sum(root):
     """One sum of every file that a proof rests on."""
     total = hashlib.sha256()
-    for folder in ("src", "specs", "proofs"):
-        for path in mutant_edits.sources(root, folder):
-            total.update(f"{path}\n{mutant_edits.read(root, path)}".encode())
+    for crate, text in sorted(crate_texts(root).items()):
+        total.update(f"{crate}\n{text}".encode())
     return total.hexdigest()[:16]
 
 
@@ -211,7 +235,7 @@ def copied(folder, to):
 
 def copied_crates(root, tree, without):
     """A copy of the crates; some of them without the proof files that are named."""
-    shutil.copytree(os.path.join(root, "crates"), os.path.join(tree, "crates"), ignore=shutil.ignore_patterns("must-fail", "stdin", "stdout"))
+    shutil.copytree(os.path.join(root, "crates"), os.path.join(tree, "crates"), ignore=shutil.ignore_patterns("must-fail"))
     for crate, files in without.items():
         proofs = os.path.join(tree, "crates", crate, "proofs")
         text = mutant_edits.read(proofs, "Lib.antt")
@@ -234,6 +258,7 @@ class Worker:
         self.trees = {slow_left_out: os.path.join(folder, "light" if slow_left_out else "whole") for slow_left_out in (True, False)}
         copied_crates(root, self.trees[True], SLOW)
         copied_crates(root, self.trees[False], {})
+        self.texts = crate_texts(root)
 
     def try_one(self, mutant, show=None):
         """The mutant's outcome; its file is as it was afterwards."""
@@ -254,7 +279,7 @@ class Worker:
             write(os.path.join(tree, path), text)
 
     def through_stages(self, mutant, incremental, show):
-        for crate, slow_left_out in stages(mutant.path.split("/")[1], self.prover.deps):
+        for crate, slow_left_out in stages(mutant.path.split("/")[1], self.prover.deps, naming(mutant.path, self.texts)):
             tree = self.trees[slow_left_out]
             status, said = self.prover.check(tree, crate, incremental)
             if show:
@@ -285,44 +310,53 @@ class Run:
 
     def __init__(self, mutants, results, tree):
         self.mutants, self.results, self.tree = mutants, results, tree
-        self.queue, self.outcomes, self.lock, self.broken = list(mutants), {}, threading.Lock(), None
+        self.queue, self.outcomes, self.lock = list(mutants), {}, threading.Lock()
+        self.busy, self.broken = 0, None
 
     def work(self, worker):
-        while True:
-            with self.lock:
-                if not self.queue or self.broken or worker.prover.stop.is_set():
+        try:
+            while not self.broken and not worker.prover.stop.is_set():
+                mutant = self.next()
+                if mutant is None:
                     return
-                mutant = self.queue.pop(0)
-            try:
                 self.keep(mutant, worker.try_one(mutant))
-            except Stopped:
-                return
-            except Exception as error:  # a prover that fails says nothing of the mutant: the run ends
-                self.broken = self.broken or error
+        except Stopped:
+            pass
+        except Exception as error:  # a prover that fails says nothing of the mutant: the run ends
+            self.broken = error
+        finally:
+            with self.lock:
+                self.busy -= 1
+
+    def next(self):
+        with self.lock:
+            return self.queue.pop(0) if self.queue else None
 
     def keep(self, mutant, outcome):
         with self.lock:
             self.outcomes[mutant.key] = outcome
             told = f"{outcome.verdict} {outcome.crate} {outcome.first}".rstrip()
             print(f"[{len(self.outcomes)}/{len(self.mutants)}] {mutant.key}: {told} ({outcome.seconds} s)", flush=True)
-            if self.results:
-                record = {"key": mutant.key, "text": text_sum(mutant), "tree": self.tree, **asdict(outcome)}
-                self.results.write(json.dumps(record, ensure_ascii=False) + "\n")
-                self.results.flush()
+            record = {"key": mutant.key, "text": text_sum(mutant), "tree": self.tree, **asdict(outcome)}
+            self.results.write(json.dumps(record, ensure_ascii=False) + "\n")
+            self.results.flush()
 
     def all(self, workers):
-        threads = [threading.Thread(target=self.work, args=(worker,)) for worker in workers]
-        for thread in threads:
-            thread.start()
+        self.busy = len(workers)
+        for worker in workers:
+            threading.Thread(target=self.work, args=(worker,)).start()
         try:
-            for thread in threads:
-                thread.join()
+            self.wait()
         except KeyboardInterrupt:
             workers[0].prover.stop.set()
-            for thread in threads:
-                thread.join()
+            self.wait()
         if self.broken:
             raise self.broken
+
+    def wait(self):
+        """Until no worker works. A thread that is joined counts as ended once the join is interrupted, so none is joined."""
+        while self.busy:
+            time.sleep(0.1)
 
 
 # ---------------------------------------------------------------- results of earlier runs

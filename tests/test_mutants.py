@@ -259,11 +259,20 @@ class Resumed(unittest.TestCase):
 
 
 class Stages(unittest.TestCase):
-    DEPS = {"arith": [], "model": ["arith"], "theory": ["arith", "model"], "window": ["model", "theory"], "cursor": []}
+    DEPS = {"arith": [], "model": ["arith"], "theory": ["arith", "model"], "curve": ["model"], "window": ["model", "theory"], "cursor": []}
+    OWN = [("model", True), ("theory", True), ("model", False)]  # the theorems before the slow proofs of the crate itself
 
     def test_the_own_crate_first_then_those_above(self):
-        self.assertEqual(mutants.stages("model", self.DEPS), [("model", True), ("model", False), ("theory", False), ("window", False)])
+        self.assertEqual(mutants.stages("model", self.DEPS), self.OWN + [("curve", False), ("window", False)])
+        self.assertEqual(mutants.stages("theory", self.DEPS), [("theory", False), ("window", False)])
         self.assertEqual(mutants.stages("window", self.DEPS), [("window", False)])
+
+    def test_those_that_name_the_file_come_first(self):
+        texts = {"theory": "use Rattle.model.specs.Windows.{a}", "window": "use Rattle.model.specs.Window.{a}", "arith": ""}
+        first = mutants.naming("crates/model/specs/Window.antt", texts)
+        self.assertEqual(first, {"window"})
+        self.assertEqual(mutants.stages("model", self.DEPS, first), self.OWN + [("window", False), ("curve", False)])
+        self.assertEqual(mutants.naming("crates/arith/src/digits.rt", {"curve": "use arith::digits::sum;", "host": "digits"}), {"curve"})
 
     def test_what_a_crate_reaches(self):
         self.assertEqual(mutants.reached("window", self.DEPS), ["arith", "model", "theory"])

@@ -120,6 +120,12 @@ class OfTheRepository(unittest.TestCase):
     def test_what_is_listed_as_the_same_names_mutants(self):
         self.assertLessEqual(set(mutants.read_same(mutants.SAME)), {m.key for m in self.mutants})
 
+    def test_the_page_lists_the_same(self):
+        page = mutant_edits.read(mutants.ROOT, "docs/GUARANTEES.md")
+        section = page.split("## Wrong edits that mean the same\n")[1].split("\n## ")[0]
+        rows = [line for line in section.splitlines() if line.startswith("| `")]
+        self.assertEqual(rows, mutants.same_rows(mutants.read_same(mutants.SAME)))
+
 
 CODE = '''\
 // 7 in a comment

@@ -116,6 +116,16 @@ listingC1 =
     ∷ "V VRIJ VERMOGEN"
     ∷ []
 
+-- `≐`, by which exact figures are compared here, holds of the same number, and neither of another nor of what is no fraction
+same-number : 2 // 4 ≐ 1 // 2
+same-number = (lit< tt, lit< tt, refl)
+
+other-number : 1 // 3 ≐ 1 // 2 → ⊥
+other-number h = let e = h .2 in omega (arith, e)
+
+no-fraction : (0 // 0 ≐ 1 // 1 → ⊥) × (1 // 1 ≐ 0 // 0 → ⊥)
+no-fraction = (λ h. let r = h .0 in omega (arith, r), λ h. let r = h .1 in omega (arith, r))
+
 -- The paper's statements. A file with refusal 0 is accepted, and `caseOf` is the case that its bytes hold.
 pub record TwelveCases : Type 0 where
   -- "Its 224 bytes give": the listing; and the exact verdict is the same

@@ -147,7 +147,7 @@ def steep_days(n, term, forward):
 
 
 def forward_rows():
-    for n, term in ((1, 2), (1, 21), (1, 60), (2, 3), (3, 60)):
+    for n, term in ((1, 2), (1, 60), (3, 21)):
         for bound in (-2_000 * n, 12_000 * n):
             for more in (0, 1):
                 forward = bound + (more if bound > 0 else -more)

@@ -1,5 +1,4 @@
 -- What the contracts of `curve` cite.
 pub mod Sums
-pub mod Rates
 pub mod Ranges
 pub mod Kept

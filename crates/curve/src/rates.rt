@@ -1,9 +1,8 @@
 // The zero rates of the terms, from the factors.
 ghost use mathlib.Core.Path.{_≡_};
 ghost use Prim.Native.Nat.{_≤_};
-ghost use Rattle.model.specs.Rounded.{stepAt};
+ghost use Rattle.model.specs.Rounded.{stepAt, rateOf};
 ghost use Rattle.model.specs.Buffers.{byTerm, entryOf};
-ghost use Rattle.curve.specs.Rates.{rateBy};
 ghost use Rattle.curve.specs.Ranges.{RatesWithin};
 use super::search::lower_step;
 use super::search::upper_step;
@@ -21,7 +20,7 @@ fn rate_at(step: u64) -> i64
 // upper factor, and the upper rate by the lower.
 pub fn zero_rates(factors: [u64; 240]) -> [i64; 240]
     requires { ⌜ RatesWithin factors ⌝ }
-    ensures { λ r. ⌜ r ≡ byTerm (rateBy (entryOf factors)) 120 ⌝ }
+    ensures { λ r. ⌜ r ≡ byTerm (rateOf (entryOf factors)) 120 ⌝ }
 {
     let mut out = [0i64; 240];
     // What the searches keep (see lower_result): before the first, 10^12 after no years.

@@ -11,7 +11,8 @@ use lib.IntN.{ℤ}
 use lib.ListN.{length, drop}
 use Rattle.model.specs.Reading.{caseOf}
 use Rattle.model.specs.Refusals.{Check, firstOf, checks, refusal}
-use Rattle.model.specs.Buffers.{valuationRefusal, factorsAfter, ratesAfter, valuationOf}
+use Rattle.model.specs.Rounded as Rounded
+use Rattle.model.specs.Buffers.{valuationRefusal, factorEntries, rateEntries, factorsAfter, ratesAfter, answered, valuationOf}
 use Rattle.model.specs.declared.case.Case.{Case}
 use Rattle.model.specs.declared.figures.Valuation.{Valuation}
 use Rattle.model.specs.declared.figures.Valuation.the-variants.{Refused, Valued}
@@ -20,17 +21,20 @@ use Rattle.casefile.specs.declared.Answer.the-variants.{Accepted, Refused as Re
 use Rattle.casefile.specs.declared.Reading.{Reading}
 use Rattle.casefile.proofs.AcceptedReading.{accepted-reading, reading-number}
 use Rattle.engine.specs.Guarantee.{Call}
-use Rattle.engine.specs.declared.working.Worked.{Worked}
-use Rattle.engine.specs.WorkedOut.{HeldAs, HeldCase, ValuedCase, WorkedFrom}
+use Rattle.curve.specs.Sums.{curveHeld}
+use Rattle.solvency.specs.declared.buffer.Money.{Money}
+use Rattle.working.specs.declared.Worked.{Worked}
+use Rattle.working.specs.Working.{CaseFits, moneyBy, workedOf}
+use Rattle.working.proofs.HeldCase.{held-fits, held-worked}
 
--- an accepted case, valued
-pub valued-case : (c : Case) (w : Worked) (f₀ f : List ℕ) (z₀ z : List ℤ) → WorkedFrom c w → f ≡ w .factors ++ drop 240 f₀ → z ≡ w .rates ++ drop 240 z₀
-    → ValuedCase c (Valued (w .figures) (w .verdict)) f₀ f z₀ z
-valued-case c w f₀ f z₀ z g p q = record {
-  answer = λ k h. ap (λ (x : Worked). Valued (x .figures) (x .verdict)) (g .of k h);
-  factors = λ k h. p ∙ ap (λ (x : Worked). x .factors ++ drop 240 f₀) (g .of k h);
-  rates = λ k h. q ∙ ap (λ (x : Worked). x .rates ++ drop 240 z₀) (g .of k h);
-}
+-- an accepted case, valued: `value_case` as its contract has it
+pub valued-case : (c : Case) (w : Worked) (f₀ f : List ℕ) (z₀ z : List ℤ) → w ≡ workedOf c → f ≡ w .factors ++ drop 240 f₀ → z ≡ w .rates ++ drop 240 z₀
+    → (Valued (w .money .figures) (w .money .verdict) ≡ Valued (workedOf c .money .figures) (workedOf c .money .verdict))
+    × ((f ≡ workedOf c .factors ++ drop 240 f₀) × (z ≡ workedOf c .rates ++ drop 240 z₀))
+valued-case c w f₀ f z₀ z e p q = (
+  ap (λ (x : Worked). Valued (x .money .figures) (x .money .verdict)) e,
+  (p ∙ ap (λ (x : Worked). x .factors ++ drop 240 f₀) e, q ∙ ap (λ (x : Worked). x .rates ++ drop 240 z₀) e),
+)
 
 -- one check in front of others
 pub fails : (b : Bool) (rest : List Check) → b ≡ false → firstOf ((b, 13) ∷ rest) ≡ 13
@@ -49,10 +53,38 @@ zero-answer : (file : List ℕ) → refusal file ≡ 0 → readingOf file .answe
 unfolding readingOf
 zero-answer file z = ap answerOf z
 
-pub accepted-case : (file : List ℕ) (r : Reading) → r ≡ readingOf file → r .answer ≡ Accepted → HeldCase (r .«case»)
-accepted-case file r e a =
-    let x = accepted-reading file r e a in
-    record { from = caseOf file; stands = record { within = x .within; is = x .holds } }
+-- what an accepted reading holds: a case in range, whose working is that of the file's case
+pub reading-fits : (file : List ℕ) (r : Reading) → r ≡ readingOf file → r .answer ≡ Accepted → CaseFits (r .«case»)
+reading-fits file r e a = let x = accepted-reading file r e a in subst CaseFits (sym (x .holds)) (held-fits (caseOf file) (x .within))
+
+reading-worked : (file : List ℕ) (r : Reading) → r ≡ readingOf file → r .answer ≡ Accepted
+    → _≡_ {A = Worked} (workedOf (r .«case»))
+    (record { factors = factorEntries (caseOf file); rates = rateEntries (caseOf file); money = record { figures = Rounded.figures (caseOf file); verdict = Rounded.verdict (caseOf file) } })
+reading-worked file r e a = let x = accepted-reading file r e a in ap workedOf (x .holds) ∙ held-worked (caseOf file) (x .within)
+
+-- the number of a refused file is not 0
+refused-number : (file : List ℕ) (r : Reading) → r ≡ readingOf file → (n : ℕ) → r .answer ≡ RefusedFile n → (refusal file ≡ n) × ((n ≡ 0) → ⊥)
+refused-number file r e n a = (is, λ z. never (sym a ∙ ap (λ (x : Reading). x .answer) e ∙ zero-answer file (is ∙ z)))
+  where
+    is : refusal file ≡ n
+    is = sym (reading-number file r e) ∙ ap numberOf a
+
+    never : RefusedFile n ≡ Accepted → ⊥
+    never q = let x : _≡_ {A = ℕ} 0 1 = cc in omega arith
+
+-- `figures_of`
+module _ (file : List ℕ) (r : Reading) (e : r ≡ readingOf file) where
+  pub figures-refused : (n : ℕ) → r .answer ≡ RefusedFile n → Refused n ≡ answered (refusal file) (caseOf file)
+  figures-refused n a = let x = refused-number file r e n a in rw (x .0) (go n (x .1))
+    where
+      go : (n : ℕ) → ((n ≡ 0) → ⊥) → Refused n ≡ answered n (caseOf file)
+      go zero h = absurd (h refl)
+      go (suc n) h = refl
+
+  pub figures-accepted : r .answer ≡ Accepted → (m : Money) → m ≡ moneyBy (λ c. Rounded.factor (curveHeld (r .«case») c)) (r .«case»)
+      → Valued (m .figures) (m .verdict) ≡ answered (refusal file) (caseOf file)
+  figures-accepted a m g =
+      rw (accepted-reading file r e a .noRefusal) (ap (λ (x : Money). Valued (x .figures) (x .verdict)) (g ∙ ap (λ (x : Worked). x .money) (reading-worked file r e a)))
 
 module _ (file : List ℕ) (f₀ : List ℕ) (z₀ : List ℤ) (call : Call file f₀ z₀) where
   -- the contract of `value`: the answer, both buffers at the end, and what holds of every call
@@ -83,23 +115,23 @@ module _ (file : List ℕ) (f₀ : List ℕ) (z₀ : List ℤ) (call : Call file
 
     -- a refused file: its number is not 0
     pub refused-file : (n : ℕ) → r .answer ≡ RefusedFile n → Meets (Refused n) f₀ z₀
-    refused-file n a = go (refusal file) refl
+    refused-file n a = let x = refused-number file r e n a in go n (x .0) (x .1)
       where
-        is : refusal file ≡ n
-        is = sym (reading-number file r e) ∙ ap numberOf a
-
-        go : (m : ℕ) → refusal file ≡ m → Meets (Refused n) f₀ z₀
-        go zero z = absurd (never (sym a ∙ ap (λ (x : Reading). x .answer) e ∙ zero-answer file z))
-          where
-            never : RefusedFile n ≡ Accepted → ⊥
-            never q = let x : _≡_ {A = ℕ} 0 1 = cc in omega arith
-        go (suc m) z = subst (λ (x : ℕ). Meets (Refused x) f₀ z₀) (sym z ∙ is) (meets-refused m (own ∙ z))
+        go : (n : ℕ) → refusal file ≡ n → ((n ≡ 0) → ⊥) → Meets (Refused n) f₀ z₀
+        go zero z h = absurd (h refl)
+        go (suc m) z h = meets-refused m (own ∙ z)
 
     -- an accepted file
-    pub accepted-file : r .answer ≡ Accepted → (v : Valuation) (f : List ℕ) (z : List ℤ) → ValuedCase (r .«case») v f₀ f z₀ z → Meets v f z
+    pub accepted-file : r .answer ≡ Accepted → (v : Valuation) (f : List ℕ) (z : List ℤ)
+        → v ≡ Valued (workedOf (r .«case») .money .figures) (workedOf (r .«case») .money .verdict)
+        → f ≡ workedOf (r .«case») .factors ++ drop 240 f₀
+        → z ≡ workedOf (r .«case») .rates ++ drop 240 z₀
+        → Meets v f z
     unfolding valuationOf factorsAfter ratesAfter
-    accepted-file a v f z g =
-        let x = accepted-reading file r e a in
-        let s : HeldAs (caseOf file) (r .«case») = record { within = x .within; is = x .holds } in
-        let o : valuationRefusal (length f₀) (length z₀) file ≡ 0 = own ∙ x .noRefusal in
-        (rw o (g .answer (caseOf file) s), (rw o (g .factors (caseOf file) s), (rw o (g .rates (caseOf file) s), call)))
+    accepted-file a v f z p q t =
+        let w = reading-worked file r e a in
+        let o : valuationRefusal (length f₀) (length z₀) file ≡ 0 = own ∙ accepted-reading file r e a .noRefusal in
+        let x = p ∙ ap (λ (y : Worked). Valued (y .money .figures) (y .money .verdict)) w in
+        let y = q ∙ ap (λ (y : Worked). y .factors ++ drop 240 f₀) w in
+        let u = t ∙ ap (λ (y : Worked). y .rates ++ drop 240 z₀) w in
+        (rw o x, (rw o y, (rw o u, call)))

@@ -1,3 +1,2 @@
--- Guarantee is what holds of every call of `value`. What the inner contracts cite is in WorkedOut.
+-- What holds of every call of `value`.
 pub mod Guarantee
-pub mod WorkedOut

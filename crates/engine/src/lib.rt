@@ -1,6 +1,5 @@
 // The valuation of one case file, as a host calls it.
 mod fill;
-mod working;
 
 use casefile::Answer;
 use casefile::read;
@@ -8,26 +7,35 @@ use fill::fill_factors;
 use fill::fill_rates;
 use model::case::Case;
 use model::figures::Valuation;
+use working::money_of;
 use working::work_out;
 ghost use mathlib.Core.Path.{_≡_};
 ghost use Prim.Native.Nat.{_≤_};
 ghost use lib.ListN.{length};
-ghost use Rattle.model.specs.Buffers.{valuationOf, factorsAfter, ratesAfter, written};
+ghost use mathlib.Core.List.{_++_};
+ghost use lib.ListN.{drop};
+ghost use Rattle.model.specs.Buffers.{answered, valuationOf, factorsAfter, ratesAfter, written};
+ghost use Rattle.model.specs.Reading.{caseOf};
+ghost use Rattle.model.specs.Refusals.{refusal};
+ghost use Rattle.model.specs.declared.figures.Valuation.the-variants.{Valued};
+ghost use Rattle.working.specs.Working.{CaseFits, workedOf};
 ghost use Rattle.engine.specs.Guarantee.{Call};
-ghost use Rattle.engine.specs.WorkedOut.{HeldCase, ValuedCase};
 
 // Values an accepted case: writes the entries 0 to 239 of both buffers, and answers the figures and the verdict.
-fn value_case(case: Case, factors: &mut [u64], rates: &mut [i64]) -> Valuation
-    requires { ⌜ HeldCase case × (240 ≤ length (now factors)) × (240 ≤ length (now rates)) ⌝ }
-    ensures { λ r. ⌜ ValuedCase case r (now (factors .entry)) (now (factors .exit)) (now (rates .entry)) (now (rates .exit)) ⌝ }
+pub fn value_case(case: Case, factors: &mut [u64], rates: &mut [i64]) -> Valuation
+    requires { ⌜ CaseFits case × (240 ≤ length (now factors)) × (240 ≤ length (now rates)) ⌝ }
+    ensures { λ r. ⌜ r ≡ Valued (workedOf case .money .figures) (workedOf case .money .verdict) ⌝ }
+    ensures factors { λ r. ⌜ now (factors .exit) ≡ workedOf case .factors ++ drop 240 (now (factors .entry)) ⌝ }
+    ensures rates { λ r. ⌜ now (rates .exit) ≡ workedOf case .rates ++ drop 240 (now (rates .entry)) ⌝ }
 {
     let w = work_out(case);
     let entries = w.factors;
     fill_factors(entries, factors);
     let steps = w.rates;
     fill_rates(steps, rates);
-    let figures = w.figures;
-    let verdict = w.verdict;
+    let money = w.money;
+    let figures = money.figures;
+    let verdict = money.verdict;
     Valuation::Valued(figures, verdict)
 }
 
@@ -56,4 +64,20 @@ pub fn value(file: &[u8], factors: &mut [u64], rates: &mut [i64]) -> Valuation
     }
     let case = reading.case;
     value_case(case, factors, rates)
+}
+
+// The figures and the verdict of a case file, or the number of its refusal: no buffer is lent and no zero rate is worked out.
+pub fn figures_of(file: &[u8]) -> Valuation
+    ensures { λ r. ⌜ r ≡ answered (refusal (now (file .entry))) (caseOf (now (file .entry))) ⌝ }
+{
+    let reading = read(file);
+    let answer = reading.answer;
+    if let Answer::Refused(n) = answer {
+        return Valuation::Refused(n);
+    }
+    let case = reading.case;
+    let money = money_of(case);
+    let all = money.figures;
+    let judged = money.verdict;
+    Valuation::Valued(all, judged)
 }

@@ -63,7 +63,7 @@ unfolding
     firstOf mapChecks ufrChecks daysChecks flowsChecks amountsChecks shocksChecks peopleChecks endChecks checks refusal ratesPart
     movedSum curve P
     Exact.weights Exact.weight Exact.G Exact.weighed Exact.growth Exact.product Exact.factor Exact.worth Exact.judge
-    Rounded.scaled Rounded.growth Rounded.weighed Rounded.factor Rounded.largest Rounded.smallest Rounded.zeroRate Rounded.worth Rounded.judge
+    Rounded.scaled Rounded.growth Rounded.weighed Rounded.factor Rounded.largest Rounded.smallest Rounded.rateOf Rounded.worth Rounded.judge
     divide root rootOfDigits size
     weightedSum valuationRefusal byTerm factorEntries rateEntries factorsAfter ratesAfter valuationOf windowPoint
     ascii digits decimal word line listing

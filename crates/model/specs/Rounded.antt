@@ -11,6 +11,9 @@ use Rattle.model.specs.Constants.{stepsPerOne, unit}
 use Rattle.model.specs.Case.{FileCase, allExceptCurrency, ageGap}
 use Rattle.model.specs.Curve.{Curve, Move, base, up, down, curve, P}
 use Rattle.model.specs.Exact.{weight}
+use Rattle.model.specs.declared.case.Amounts.{Amounts}
+use Rattle.model.specs.declared.case.Shocks.{Shocks}
+use Rattle.model.specs.declared.case.People.{People}
 use Rattle.model.specs.declared.figures.Bracket.{Bracket}
 use Rattle.model.specs.declared.figures.Figures.{Figures}
 use Rattle.model.specs.declared.figures.Verdict.{Verdict}
@@ -54,12 +57,12 @@ stepAt i = pos i -ℤ pos 2000
 abbrev pub tested : End → ℕ → ℕ → ℕ
 tested e t i = scaled e stepsPerOne (98000 + i) t
 
--- "whose lower result is at least the upper factor"; "whose upper result is at most the lower factor"
-abbrev pub lowerTest : Curve → ℕ → ℕ → Bool
-lowerTest c t i = leb (factor c high t) (tested low t i)
+-- "whose lower result is at least the upper factor"; "whose upper result is at most the lower factor", by the factors at both ends
+abbrev pub lowerTest : (End → ℕ → ℕ) → ℕ → ℕ → Bool
+lowerTest factor t i = leb (factor high t) (tested low t i)
 
-abbrev pub upperTest : Curve → ℕ → ℕ → Bool
-upperTest c t i = leb (tested high t i) (factor c low t)
+abbrev pub upperTest : (End → ℕ → ℕ) → ℕ → ℕ → Bool
+upperTest factor t i = leb (tested high t i) (factor low t)
 
 -- the largest index below n that passes, and the smallest of the n indices from i on; `none` where none passes
 unfoldable pub largest : (ℕ → Bool) → ℕ → ℕ → ℕ
@@ -72,62 +75,55 @@ smallest test i (suc n) none = let r = smallest test (suc i) n none in cond (tes
 
 -- "Lower rate: the largest z .. Upper rate: the smallest z ..". Where no step passes, it is 20,001, which is no step; that both
 -- rates of an accepted file's base curve are steps is part of demand 3.
-unfoldable pub zeroRate : Curve → End → ℕ → ℤ
-zeroRate c low t = stepAt (largest (lowerTest c t) 22001 22001)
-zeroRate c high t = stepAt (smallest (upperTest c t) 0 22001 22001)
+unfoldable pub rateOf : (End → ℕ → ℕ) → End → ℕ → ℤ
+rateOf factor low t = stepAt (largest (lowerTest factor t) 22001 22001)
+rateOf factor high t = stepAt (smallest (upperTest factor t) 0 22001 22001)
+
+abbrev pub zeroRate : Curve → End → ℕ → ℤ
+zeroRate c = rateOf (factor c)
 
 -- "Flow: euros × factor ÷ 10^10, rounded each; then summed.", by the factors of the terms at an end, the first flow at term t
 unfoldable pub worth : End → (ℕ → ℕ) → ℕ → List ℕ → ℕ
 worth e factors t [] = 0
 worth e factors t (euros ∷ flows) = divide e (euros * factors t) (10 ^ 10) + worth e factors (suc t) flows
 
-abbrev pub L : FileCase → Move → End → ℕ
-L k m e = worth e (factor (curve k m) e) 1 (k .pension)
-
-abbrev pub B : FileCase → Move → End → ℕ
-B k m e = worth e (factor (curve k m) e) 1 (k .bonds)
-
-abbrev pub A : FileCase → End → ℕ
-A k e = B k base e + 100 * allExceptCurrency (k .amounts)
+-- The money figures, by the parts that each reads. `l` and `b` are what pension flows and bonds are worth on the three curves, at both
+-- ends.
+abbrev pub assets : (End → ℕ) → Amounts → End → ℕ
+assets bonds a e = bonds e + 100 * allExceptCurrency a
 
 -- "differences pair a lower with an upper end": (B - L) - (B' - L'), and 0 where that is below 0
-abbrev pub fall : FileCase → Move → End → ℕ
-fall k m e = (B k base e + L k m e) - (B k m (other e) + L k base (other e))
+abbrev pub fallOf : (End → ℕ) → (End → ℕ) → (End → ℕ) → (End → ℕ) → End → ℕ
+fallOf l b l' b' e = (b e + l' e) - (b' (other e) + l (other e))
 
 -- "the maximum with 0 is taken of each end"
-abbrev pub S1 : FileCase → End → ℕ
-S1 k e = max 0 (max (fall k up e) (fall k down e))
+abbrev pub interestLoss : (Move → End → ℕ) → (Move → End → ℕ) → End → ℕ
+interestLoss l b e = max 0 (max (fallOf (l base) (b base) (l up) (b up) e) (fallOf (l base) (b base) (l down) (b down) e))
 
 -- "S2 to S5 round once.": euros and thousandths to cents
-abbrev pub S2 : FileCase → End → ℕ
-S2 k e =
-    let a = k .amounts in
-    let x = k .shocks in
+abbrev pub equityLoss : Amounts → Shocks → End → ℕ
+equityLoss a x e =
     divide e
     (100
     * (a .mature * x .«mature_fall» + a .emerging * x .«emerging_fall» + a .private * x .«private_fall» + a .property * x .«property_fall»))
     1000
 
-abbrev pub S3 : FileCase → End → ℕ
-S3 k e = divide e (100 * (k .amounts .currency * k .shocks .«currency_fall»)) 1000
+abbrev pub currencyLoss : Amounts → Shocks → End → ℕ
+currencyLoss a x e = divide e (100 * (a .currency * x .«currency_fall»)) 1000
 
-abbrev pub S4 : FileCase → End → ℕ
-S4 k e = divide e (100 * (k .amounts .commodities * k .shocks .«commodities_fall»)) 1000
+abbrev pub commodityLoss : Amounts → Shocks → End → ℕ
+commodityLoss a x e = divide e (100 * (a .commodities * x .«commodities_fall»)) 1000
 
 -- tenths of a year, steps and thousandths: 10 × 100,000 × 1,000 is 10^9
-abbrev pub S5 : FileCase → End → ℕ
-S5 k e =
-    let x = k .shocks in
-    divide e (100 * (k .amounts .credit * x .duration * x .spread * x .«spread_rise»)) (10 ^ 9)
+abbrev pub creditLoss : Amounts → Shocks → End → ℕ
+creditLoss a x e = divide e (100 * (a .credit * x .duration * x .spread * x .«spread_rise»)) (10 ^ 9)
 
 -- "floor and ceiling root of L² × (H × (320 + 3d)² + 92,160,000) ÷ (256,000,000 × H), d the age gap in months"
 abbrev pub mortality : ℕ → ℕ → ℕ
 mortality h d = h * ((320 + 3 * d) * (320 + 3 * d)) + 92160000
 
-abbrev pub S6 : FileCase → End → ℕ
-S6 k e =
-    let h = k .people .heads in
-    root e (L k base e * L k base e * mortality h (ageGap (k .people))) (256000000 * h)
+abbrev pub mortalityLoss : (End → ℕ) → People → End → ℕ
+mortalityLoss l p e = root e (l e * l e * mortality (p .heads) (ageGap p)) (256000000 * p .heads)
 
 -- "S: floor and ceiling root from the lower or upper S1 to S6.", over 1,000 for the correlation in thousandths
 abbrev pub buffer : End → ℕ → ℕ → ℕ → ℕ → ℕ → ℕ → ℕ → ℕ
@@ -136,8 +132,10 @@ buffer e correlation s1 s2 s3 s4 s5 s6 =
     (1000 * (s1 * s1 + s2 * s2 + s3 * s3 + s4 * s4 + s5 * s5 + s6 * s6) + 2 * correlation * (s1 * s2))
     1000
 
-abbrev pub S : FileCase → End → ℕ
-S k e = buffer e (k .shocks .correlation) (S1 k e) (S2 k e) (S3 k e) (S4 k e) (S5 k e) (S6 k e)
+abbrev pub bufferOf : (Move → End → ℕ) → (Move → End → ℕ) → Amounts → Shocks → People → End → ℕ
+bufferOf l b a x p e =
+    buffer e (x .correlation) (interestLoss l b e) (equityLoss a x e) (currencyLoss a x e) (commodityLoss a x e) (creditLoss a x e)
+    (mortalityLoss (l base) p e)
 
 -- "DEKKINGSTEKORT if 20 × upper A < 21 × lower L. Else, if 20 × lower A is at least 21 × upper L: RESERVETEKORT if upper A < lower L +
 -- lower S, VRIJ VERMOGEN if lower A reaches upper L + upper S. Else ONBESLIST, which is undecided."
@@ -149,9 +147,6 @@ judge a l s =
     (cond (leb (l high + s high) (a low)) VrijVermogen Onbeslist))
     Onbeslist)
 
-abbrev pub verdict : FileCase → Verdict
-verdict k = judge (A k) (L k base) (S k)
-
 -- a bracket from its ends, and an end of a bracket
 abbrev pub bracket : (End → ℕ) → Bracket
 bracket figure = record { lower = figure low; upper = figure high }
@@ -160,17 +155,60 @@ abbrev pub endOf : Bracket → End → ℕ
 endOf b low = b .lower
 endOf b high = b .upper
 
--- the ten brackets
-abbrev pub figures : FileCase → Figures
-figures k = record {
-  l = bracket (L k base);
-  b = bracket (B k base);
-  a = bracket (A k);
-  s1 = bracket (S1 k);
-  s2 = bracket (S2 k);
-  s3 = bracket (S3 k);
-  s4 = bracket (S4 k);
-  s5 = bracket (S5 k);
-  s6 = bracket (S6 k);
-  s = bracket (S k);
+-- the ten brackets, and the verdict
+abbrev pub figuresOf : (Move → End → ℕ) → (Move → End → ℕ) → Amounts → Shocks → People → Figures
+figuresOf l b a x p = record {
+  l = bracket (l base);
+  b = bracket (b base);
+  a = bracket (assets (b base) a);
+  s1 = bracket (interestLoss l b);
+  s2 = bracket (equityLoss a x);
+  s3 = bracket (currencyLoss a x);
+  s4 = bracket (commodityLoss a x);
+  s5 = bracket (creditLoss a x);
+  s6 = bracket (mortalityLoss (l base) p);
+  s = bracket (bufferOf l b a x p);
 }
+
+abbrev pub verdictOf : (Move → End → ℕ) → (Move → End → ℕ) → Amounts → Shocks → People → Verdict
+verdictOf l b a x p = judge (assets (b base) a) (l base) (bufferOf l b a x p)
+
+-- All of these of a case, by document 01's letters
+abbrev pub L : FileCase → Move → End → ℕ
+L k m e = worth e (factor (curve k m) e) 1 (k .pension)
+
+abbrev pub B : FileCase → Move → End → ℕ
+B k m e = worth e (factor (curve k m) e) 1 (k .bonds)
+
+abbrev pub A : FileCase → End → ℕ
+A k = assets (B k base) (k .amounts)
+
+abbrev pub fall : FileCase → Move → End → ℕ
+fall k m = fallOf (L k base) (B k base) (L k m) (B k m)
+
+abbrev pub S1 : FileCase → End → ℕ
+S1 k = interestLoss (L k) (B k)
+
+abbrev pub S2 : FileCase → End → ℕ
+S2 k = equityLoss (k .amounts) (k .shocks)
+
+abbrev pub S3 : FileCase → End → ℕ
+S3 k = currencyLoss (k .amounts) (k .shocks)
+
+abbrev pub S4 : FileCase → End → ℕ
+S4 k = commodityLoss (k .amounts) (k .shocks)
+
+abbrev pub S5 : FileCase → End → ℕ
+S5 k = creditLoss (k .amounts) (k .shocks)
+
+abbrev pub S6 : FileCase → End → ℕ
+S6 k = mortalityLoss (L k base) (k .people)
+
+abbrev pub S : FileCase → End → ℕ
+S k = bufferOf (L k) (B k) (k .amounts) (k .shocks) (k .people)
+
+abbrev pub figures : FileCase → Figures
+figures k = figuresOf (L k) (B k) (k .amounts) (k .shocks) (k .people)
+
+abbrev pub verdict : FileCase → Verdict
+verdict k = verdictOf (L k) (B k) (k .amounts) (k .shocks) (k .people)

@@ -15,6 +15,7 @@ use Rattle.arith.specs.Rounding.{End, low, high, divide}
 use Rattle.arith.proofs.Rounding.{divide-le}
 use Rattle.model.specs.Rounded.{bracket, worth}
 use Rattle.model.specs.declared.figures.Bracket.{Bracket}
+use Rattle.solvency.specs.Ranges.{FactorsFit}
 
 worth-last : (e : End) (f : ℕ → ℕ) (t : ℕ) (xs : List ℕ) (x : ℕ) → worth e f t (xs ++ (x ∷ [])) ≡ worth e f t xs + divide e (x * f (t + length xs)) (10 ^ 10)
 unfolding worth
@@ -40,6 +41,12 @@ factor-low entries i = let q : suc i - 1 ≡ i = omega arith in rw q
 
 pub factor-high : (entries : List ℕ) (i : ℕ) → entryOf entries high (suc i) ≡ getD entries (2 * i + 1) 0
 factor-high entries i = let q : suc i - 1 ≡ i = omega arith in rw q
+
+pub low-most : (factors : List ℕ) (i : ℕ) → FactorsFit factors → i < 120 → getD factors (2 * i) 0 ≤ 22 * 10 ^ 11
+low-most factors i f h = rw (factor-low factors i) at (f .factor low (suc i) (omega arith) h)
+
+pub high-most : (factors : List ℕ) (i : ℕ) → FactorsFit factors → i < 120 → getD factors (2 * i + 1) 0 ≤ 22 * 10 ^ 11
+high-most factors i f h = rw (factor-high factors i) at (f .factor high (suc i) (omega arith) h)
 
 -- one flow: its product is in range, and it is worth at most 220,000,000 euros
 pub flow-range : (x f : ℕ) → x ≤ 100000000 → f ≤ 22 * 10 ^ 11 → InRange x f 10000000000

@@ -2,4 +2,3 @@ pub mod TwoEnds
 pub mod Flows
 pub mod Products
 pub mod Same
-pub mod CaseWorth

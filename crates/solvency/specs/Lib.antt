@@ -1,3 +1,3 @@
--- What the contracts of `solvency` cite: the model's figures, by what the code computes them from.
-pub mod Figures
+-- What the contracts of `solvency` cite beside the model's own figures.
+pub mod OnCurves
 pub mod Ranges

@@ -3,18 +3,28 @@ use Prim.Native.Nat.{ℕ, _*_, _^_, _≤_, _<_}
 use mathlib.Core.Path.{_≡_}
 use mathlib.Core.List.{List}
 use lib.ListN.{length, getD}
-use Rattle.arith.specs.Rounding.{low, high}
+use Rattle.arith.specs.Rounding.{End, low, high}
 use Rattle.arith.specs.Root.{root}
+use Rattle.model.specs.Buffers.{entryOf}
 use Rattle.model.specs.declared.figures.Bracket.{Bracket}
+use Rattle.solvency.specs.declared.worth.Curves.{Curves}
 use Rattle.solvency.specs.declared.worth.Worths.{Worths}
 
--- up to 120 flows of at most 100,000,000 euros, and factors of at most 2.2
-pub record FlowsFit (flows : List ℕ) (count : ℕ) (factors : List ℕ) : Type 0 where
+-- up to 120 flows of at most 100,000,000 euros
+pub record FlowsFit (flows : List ℕ) (count : ℕ) : Type 0 where
   pub few : count ≤ 120
   pub there : count ≤ length flows
-  pub terms : 2 * count ≤ length factors
   pub flow : (i : ℕ) → i < count → getD flows i 0 ≤ 100000000
-  pub factor : (i : ℕ) → getD factors i 0 ≤ 22 * 10 ^ 11
+
+-- two factors a term, of at most 2.2
+pub record FactorsFit (factors : List ℕ) : Type 0 where
+  pub terms : 240 ≤ length factors
+  pub factor : (e : End) (t : ℕ) → 1 ≤ t → t ≤ 120 → entryOf factors e t ≤ 22 * 10 ^ 11
+
+pub record CurvesFit (c : Curves) : Type 0 where
+  pub base : FactorsFit (c .base)
+  pub up : FactorsFit (c .up)
+  pub down : FactorsFit (c .down)
 
 -- a bracket whose ends are at most so many cents
 pub record UpTo (most : ℕ) (b : Bracket) : Type 0 where
@@ -32,6 +42,12 @@ pub record WorthsFit (w : Worths) : Type 0 where
   pub base : WorthFits (w .base)
   pub up : WorthFits (w .up)
   pub down : WorthFits (w .down)
+
+-- the three figures that a verdict goes by
+pub record Judgeable (a l s : Bracket) : Type 0 where
+  pub assets : UpTo (2 ^ 56) a
+  pub liabilities : UpTo (2 ^ 56) l
+  pub buffer : UpTo (2 ^ 56) s
 
 -- a correlation in thousandths, and one end of each loss
 pub record SixFit (c s1 s2 s3 s4 s5 s6 : ℕ) : Type 0 where

@@ -2,8 +2,9 @@
 ghost use mathlib.Core.Path.{_≡_};
 ghost use Prim.Native.Nat.{_-_, max};
 ghost use Rattle.model.specs.Limits.{AmountsWithin};
-ghost use Rattle.model.specs.Rounded.{bracket};
-ghost use Rattle.solvency.specs.Figures.{ABy, S1By, fallOf};
+ghost use Rattle.model.specs.Rounded as Rounded;
+ghost use Rattle.model.specs.Rounded.{bracket, endOf, fallOf, interestLoss};
+ghost use Rattle.solvency.specs.OnCurves.{on};
 ghost use Rattle.solvency.specs.Ranges.{WorthFits, WorthsFit, LossFits};
 use super::worth::Worths;
 use model::case::Amounts;
@@ -12,7 +13,7 @@ use model::figures::Bracket;
 // A: the bonds and all amounts except currency exposure, which are whole cents.
 pub fn assets(bonds: Bracket, a: Amounts) -> Bracket
     requires { ⌜ WorthFits bonds × AmountsWithin a ⌝ }
-    ensures { λ r. ⌜ r ≡ bracket (ABy bonds a) ⌝ }
+    ensures { λ r. ⌜ r ≡ bracket (Rounded.assets (endOf bonds) a) ⌝ }
 {
     let euros = a.mature + a.emerging + a.private + a.property + a.commodities + a.credit + a.cash;
     let cents = 100 * euros;
@@ -39,7 +40,7 @@ fn larger(a: u64, b: u64) -> u64
 // upper from lower.
 fn fall(b: Bracket, l: Bracket, bm: Bracket, lm: Bracket) -> Bracket
     requires { ⌜ WorthFits b × WorthFits l × WorthFits bm × WorthFits lm ⌝ }
-    ensures { λ r. ⌜ r ≡ bracket (fallOf b l bm lm) ⌝ }
+    ensures { λ r. ⌜ r ≡ bracket (fallOf (endOf l) (endOf b) (endOf lm) (endOf bm)) ⌝ }
 {
     let lower = less(b.lower + lm.lower, bm.upper + l.upper);
     let upper = less(b.upper + lm.upper, bm.lower + l.lower);
@@ -49,7 +50,7 @@ fn fall(b: Bracket, l: Bracket, bm: Bracket, lm: Bracket) -> Bracket
 // S1, of the pension flows and the bonds.
 pub fn s1(l: Worths, b: Worths) -> Bracket
     requires { ⌜ WorthsFit l × WorthsFit b ⌝ }
-    ensures { λ r. ⌜ r ≡ bracket (S1By l b) ⌝ }
+    ensures { λ r. ⌜ r ≡ bracket (interestLoss (on l) (on b)) ⌝ }
     ensures bound { λ r. ⌜ LossFits r ⌝ }
 {
     let rise = fall(b.base, l.base, b.up, l.up);

@@ -3,9 +3,10 @@ ghost use mathlib.Core.Path.{_≡_};
 ghost use Prim.Native.Nat.{_+_, _*_, _^_, _≤_, _<_};
 ghost use Rattle.arith.specs.Value.{val};
 ghost use Rattle.model.specs.Limits.{AmountsWithin, ShocksWithin, PeopleWithin};
-ghost use Rattle.model.specs.Rounded.{bracket, judge, endOf};
-ghost use Rattle.solvency.specs.Figures.{SBy, figuresBy};
-ghost use Rattle.solvency.specs.Ranges.{UpTo, LossFits, WorthsFit, SixFit};
+ghost use Rattle.model.specs.Rounded as Rounded;
+ghost use Rattle.model.specs.Rounded.{bracket, judge, endOf, figuresOf};
+ghost use Rattle.solvency.specs.OnCurves.{on, moneyOf};
+ghost use Rattle.solvency.specs.Ranges.{UpTo, LossFits, WorthsFit, SixFit, Judgeable};
 use super::assets::assets;
 use super::assets::s1;
 use super::losses::s2;
@@ -24,6 +25,12 @@ use model::case::Shocks;
 use model::figures::Bracket;
 use model::figures::Figures;
 use model::figures::Verdict;
+
+// The figures and the verdict.
+pub struct Money {
+    pub figures: Figures,
+    pub verdict: Verdict,
+}
 
 // 1,000 times two squares.
 fn two_squares(a: u64, b: u64) -> Wide
@@ -65,7 +72,9 @@ pub fn buffer(
     s6: Bracket,
 ) -> Bracket
     requires { ⌜ (c ≤ 1000) × LossFits s1 × LossFits s2 × LossFits s3 × LossFits s4 × LossFits s5 × LossFits s6 ⌝ }
-    ensures { λ r. ⌜ r ≡ bracket (SBy c s1 s2 s3 s4 s5 s6) ⌝ }
+    ensures { λ r. ⌜ r
+        ≡ bracket (λ e. Rounded.buffer e c (endOf s1 e) (endOf s2 e) (endOf s3 e) (endOf s4 e) (endOf s5 e) (endOf s6 e))
+        ⌝ }
     ensures bound { λ r. ⌜ UpTo (2 ^ 56) r ⌝ }
 {
     let least = squares(
@@ -91,7 +100,7 @@ pub fn buffer(
 
 // The verdict, from the ends of A, L and S.
 pub fn verdict_of(a: Bracket, l: Bracket, s: Bracket) -> Verdict
-    requires { ⌜ UpTo (2 ^ 56) a × UpTo (2 ^ 56) l × UpTo (2 ^ 56) s ⌝ }
+    requires { ⌜ Judgeable a l s ⌝ }
     ensures { λ r. ⌜ r ≡ judge (endOf a) (endOf l) (endOf s) ⌝ }
 {
     if 20 * a.upper < 21 * l.lower {
@@ -112,7 +121,8 @@ pub fn verdict_of(a: Bracket, l: Bracket, s: Bracket) -> Verdict
 // All ten figures, from the worth of the pension flows and the bonds on the three curves.
 pub fn figures(l: Worths, b: Worths, a: Amounts, x: Shocks, p: People) -> Figures
     requires { ⌜ WorthsFit l × WorthsFit b × AmountsWithin a × ShocksWithin x × PeopleWithin p ⌝ }
-    ensures { λ r. ⌜ r ≡ figuresBy l b a x p ⌝ }
+    ensures { λ r. ⌜ r ≡ figuresOf (on l) (on b) a x p ⌝ }
+    ensures bound { λ r. ⌜ Judgeable (r .a) (r .l) (r .s) ⌝ }
 {
     let owed = l.base;
     let bonds = b.base;
@@ -136,5 +146,18 @@ pub fn figures(l: Worths, b: Worths, a: Amounts, x: Shocks, p: People) -> Figure
         s5: fifth,
         s6: sixth,
         s: root,
+    }
+}
+
+// The figures and the verdict by them.
+pub fn money_by(l: Worths, b: Worths, a: Amounts, x: Shocks, p: People) -> Money
+    requires { ⌜ WorthsFit l × WorthsFit b × AmountsWithin a × ShocksWithin x × PeopleWithin p ⌝ }
+    ensures { λ r. ⌜ r ≡ moneyOf (on l) (on b) a x p ⌝ }
+{
+    let all = figures(l, b, a, x, p);
+    let verdict = verdict_of(all.a, all.l, all.s);
+    Money {
+        figures: all,
+        verdict,
     }
 }

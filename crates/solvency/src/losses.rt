@@ -4,8 +4,7 @@ ghost use Prim.Native.Nat.{_+_, _-_, _*_, _^_, _≤_, _<_};
 ghost use Rattle.arith.specs.Rounding.{divide};
 ghost use Rattle.model.specs.Case.{ageGap};
 ghost use Rattle.model.specs.Limits.{AmountsWithin, ShocksWithin, PeopleWithin};
-ghost use Rattle.model.specs.Rounded.{bracket};
-ghost use Rattle.solvency.specs.Figures.{S2By, S3By, S4By, S5By, S6By};
+ghost use Rattle.model.specs.Rounded.{bracket, endOf, equityLoss, currencyLoss, commodityLoss, creditLoss, mortalityLoss};
 ghost use Rattle.solvency.specs.Ranges.{WorthFits, LossFits};
 use super::roots::roots;
 use arith::digits::product;
@@ -39,7 +38,7 @@ fn loss(euros: u64, thousandths: u64) -> u64
 // S2: the four equity and property amounts times their thousandths, summed and then rounded.
 pub fn s2(a: Amounts, x: Shocks) -> Bracket
     requires { ⌜ AmountsWithin a × ShocksWithin x ⌝ }
-    ensures { λ r. ⌜ r ≡ bracket (S2By a x) ⌝ }
+    ensures { λ r. ⌜ r ≡ bracket (equityLoss a x) ⌝ }
     ensures bound { λ r. ⌜ LossFits r ⌝ }
 {
     let mature = loss(a.mature, x.mature_fall);
@@ -52,7 +51,7 @@ pub fn s2(a: Amounts, x: Shocks) -> Bracket
 // S3: the currency exposure times its thousandths.
 pub fn s3(a: Amounts, x: Shocks) -> Bracket
     requires { ⌜ AmountsWithin a × ShocksWithin x ⌝ }
-    ensures { λ r. ⌜ r ≡ bracket (S3By a x) ⌝ }
+    ensures { λ r. ⌜ r ≡ bracket (currencyLoss a x) ⌝ }
     ensures bound { λ r. ⌜ LossFits r ⌝ }
 {
     let currency = loss(a.currency, x.currency_fall);
@@ -62,7 +61,7 @@ pub fn s3(a: Amounts, x: Shocks) -> Bracket
 // S4: commodities likewise.
 pub fn s4(a: Amounts, x: Shocks) -> Bracket
     requires { ⌜ AmountsWithin a × ShocksWithin x ⌝ }
-    ensures { λ r. ⌜ r ≡ bracket (S4By a x) ⌝ }
+    ensures { λ r. ⌜ r ≡ bracket (commodityLoss a x) ⌝ }
     ensures bound { λ r. ⌜ LossFits r ⌝ }
 {
     let commodities = loss(a.commodities, x.commodities_fall);
@@ -72,7 +71,7 @@ pub fn s4(a: Amounts, x: Shocks) -> Bracket
 // S5: credit × duration × spread × spread rise. The product passes 64 bits.
 pub fn s5(a: Amounts, x: Shocks) -> Bracket
     requires { ⌜ AmountsWithin a × ShocksWithin x ⌝ }
-    ensures { λ r. ⌜ r ≡ bracket (S5By a x) ⌝ }
+    ensures { λ r. ⌜ r ≡ bracket (creditLoss a x) ⌝ }
     ensures bound { λ r. ⌜ LossFits r ⌝ }
 {
     let years = a.credit * x.duration;
@@ -97,7 +96,7 @@ fn age_gap(p: People) -> u64
 // S6: the liabilities times the root of TSO² + NSA², by document 01's fraction.
 pub fn s6(l: Bracket, p: People) -> Bracket
     requires { ⌜ WorthFits l × PeopleWithin p ⌝ }
-    ensures { λ r. ⌜ r ≡ bracket (S6By l p) ⌝ }
+    ensures { λ r. ⌜ r ≡ bracket (mortalityLoss (endOf l) p) ⌝ }
     ensures bound { λ r. ⌜ LossFits r ⌝ }
 {
     let gap = age_gap(p);

@@ -3,10 +3,18 @@ ghost use Rattle.model.specs.Buffers.{entryOf};
 ghost use mathlib.Core.Path.{_≡_};
 ghost use lib.ListN.{take};
 ghost use Rattle.model.specs.Rounded.{bracket, worth};
-ghost use Rattle.solvency.specs.Ranges.{FlowsFit};
+ghost use Rattle.solvency.specs.OnCurves.{worths, entriesOn};
+ghost use Rattle.solvency.specs.Ranges.{FlowsFit, FactorsFit, CurvesFit, WorthFits, WorthsFit};
 use arith::scale::mul_div_ceil;
 use arith::scale::mul_div_floor;
 use model::figures::Bracket;
+
+// The factors of the three curves, each lower, upper, term by term.
+pub struct Curves {
+    pub base: [u64; 240],
+    pub up: [u64; 240],
+    pub down: [u64; 240],
+}
 
 // The worth of flows, pension or bond, on the base, the up and the down curve.
 pub struct Worths {
@@ -17,8 +25,9 @@ pub struct Worths {
 
 // The first `count` flows times the factors of their terms: each rounded, then summed.
 pub fn worth_of(flows: &[u64], count: usize, factors: &[u64]) -> Bracket
-    requires { ⌜ FlowsFit (now flows) count (now factors) ⌝ }
+    requires { ⌜ FlowsFit (now flows) count × FactorsFit (now factors) ⌝ }
     ensures { λ r. ⌜ r ≡ bracket (λ e. worth e (entryOf (now (factors .entry)) e) 1 (take count (now (flows .entry)))) ⌝ }
+    ensures bound { λ r. ⌜ WorthFits r ⌝ }
 {
     let mut lower: u64 = 0;
     let mut upper: u64 = 0;
@@ -34,4 +43,23 @@ pub fn worth_of(flows: &[u64], count: usize, factors: &[u64]) -> Bracket
         i += 1;
     }
     Bracket { lower, upper }
+}
+
+// The flows at the factors of the three curves.
+pub fn worths_of(flows: &[u64], count: usize, c: Curves) -> Worths
+    requires { ⌜ FlowsFit (now flows) count × CurvesFit c ⌝ }
+    ensures { λ r. ⌜ r ≡ worths (λ m e. worth e (entryOf (entriesOn c m) e) 1 (take count (now (flows .entry)))) ⌝ }
+    ensures bound { λ r. ⌜ WorthsFit r ⌝ }
+{
+    let base = c.base;
+    let on_base = worth_of(flows, count, &base);
+    let up = c.up;
+    let on_up = worth_of(flows, count, &up);
+    let down = c.down;
+    let on_down = worth_of(flows, count, &down);
+    Worths {
+        base: on_base,
+        up: on_up,
+        down: on_down,
+    }
 }

@@ -12,7 +12,7 @@ use lib.Signed.{_≤ℤ_}
 use Rattle.model.specs.Constants.{stepsPerOne}
 use Rattle.model.specs.Case.{FileCase, s}
 use Rattle.model.specs.Limits.{Between, DayWithin, DaysWithin, WithinLimits, forward}
-use Rattle.model.specs.Curve.{Move, base, up, down, shift, movedSum, curve, natural, P}
+use Rattle.model.specs.Curve.{Move, base, up, down, shift, added, taken, movedSum, curve, natural, P}
 use Rattle.theory.proofs.Differences.{Diff, again, diff-pos, diff-sum, diff-neg, diff-minus, diff-times, diff-le, le-diff, natural-is}
 use Rattle.model.specs.CurveWithin.{CurveWithin, BaseWithin}
 
@@ -127,30 +127,17 @@ module _ (k : FileCase) (w : WithinLimits k) where
   q : ℕ → ℕ
   q t = sumOf (k .days) (w .days) t
 
-  more : Move → ℕ
-  more base = 0
-  more up = k .shocks .«up_shift»
-  more down = 0
-
-  less : Move → ℕ
-  less base = 0
-  less up = 0
-  less down = k .shocks .«down_shift»
-
-  shift-is : (m : Move) → Diff (shift k m) (more m) (less m)
-  unfolding more less
+  shift-is : (m : Move) → Diff (shift k m) (added (k .shocks) m) (taken (k .shocks) m)
   shift-is base = refl
   shift-is up = diff-pos (k .shocks .«up_shift»)
   shift-is down = diff-minus-pos (k .shocks .«down_shift»)
 
-  more-most : (m : Move) → length (k .days) * more m ≤ length (k .days) * 1000
-  unfolding more
+  more-most : (m : Move) → length (k .days) * added (k .shocks) m ≤ length (k .days) * 1000
   more-most base = omega arith
   more-most up = mul-le-mul-left (length (k .days)) (w .shocks .upShift)
   more-most down = omega arith
 
-  less-most : (m : Move) → length (k .days) * less m ≤ length (k .days) * 1000
-  unfolding less
+  less-most : (m : Move) → length (k .days) * taken (k .shocks) m ≤ length (k .days) * 1000
   less-most base = omega arith
   less-most up = omega arith
   less-most down = mul-le-mul-left (length (k .days)) (w .shocks .downShift)
@@ -159,22 +146,22 @@ module _ (k : FileCase) (w : WithinLimits k) where
   unfolding q
   q-is t h = sum-is (k .days) (w .days) t h
 
-  P-zero : (m : Move) → P (curve k m) 0 ≡ 100000 * length (k .days)
+  pub P-zero : (m : Move) → P (curve k m) 0 ≡ 100000 * length (k .days)
   unfolding P curve movedSum
   P-zero m = omega arith
 
-  P-moved : (m : Move) (t : ℕ) → suc t ≤ 60 → P (curve k m) (suc t) + length (k .days) * less m ≡ q (suc t) + length (k .days) * more m
+  P-moved : (m : Move) (t : ℕ) → suc t ≤ 60 → P (curve k m) (suc t) + length (k .days) * taken (k .shocks) m ≡ q (suc t) + length (k .days) * added (k .shocks) m
   unfolding P curve movedSum
   P-moved m t h =
       let n : ℕ = length (k .days) in
       let x = q-is (suc t) h in
-      let r : ℕ = (q (suc t) + n * more m) - n * less m in
-      let fits : n * less m ≤ q (suc t) + n * more m = omega (arith, x .1, less-most m) in
+      let r : ℕ = (q (suc t) + n * added (k .shocks) m) - n * taken (k .shocks) m in
+      let fits : n * taken (k .shocks) m ≤ q (suc t) + n * added (k .shocks) m = omega (arith, x .1, less-most m) in
       let e : natural (pos (100000 * n) +ℤ (s (k .days) (suc t) +ℤ pos n *ℤ shift k m)) ≡ r =
-      natural-is (pos (100000 * n) +ℤ (s (k .days) (suc t) +ℤ pos n *ℤ shift k m)) (100000 * n + (q (suc t) + n * more m)) (0 + (100000 * n + n * less m)) r
-      (diff-sum (pos (100000 * n)) (s (k .days) (suc t) +ℤ pos n *ℤ shift k m) (100000 * n) 0 (q (suc t) + n * more m) (100000 * n + n * less m) (diff-pos (100000 * n))
-      (diff-sum (s (k .days) (suc t)) (pos n *ℤ shift k m) (q (suc t)) (100000 * n) (n * more m) (n * less m) (x .0)
-      (diff-times n (shift k m) (more m) (less m) (shift-is m))))
+      natural-is (pos (100000 * n) +ℤ (s (k .days) (suc t) +ℤ pos n *ℤ shift k m)) (100000 * n + (q (suc t) + n * added (k .shocks) m)) (0 + (100000 * n + n * taken (k .shocks) m)) r
+      (diff-sum (pos (100000 * n)) (s (k .days) (suc t) +ℤ pos n *ℤ shift k m) (100000 * n) 0 (q (suc t) + n * added (k .shocks) m) (100000 * n + n * taken (k .shocks) m) (diff-pos (100000 * n))
+      (diff-sum (s (k .days) (suc t)) (pos n *ℤ shift k m) (q (suc t)) (100000 * n) (n * added (k .shocks) m) (n * taken (k .shocks) m) (x .0)
+      (diff-times n (shift k m) (added (k .shocks) m) (taken (k .shocks) m) (shift-is m))))
       (omega arith)
       in
       rw e (omega arith)
@@ -219,11 +206,11 @@ module _ (k : FileCase) (w : WithinLimits k) where
           more-most m,
         )
 
-  N-is : (m : Move) → curve k m .N ≡ 100000 * length (k .days)
+  pub N-is : (m : Move) → curve k m .N ≡ 100000 * length (k .days)
   unfolding curve
   N-is m = refl
 
-  ufr-is : (m : Move) → curve k m .ufr ≡ k .ufr
+  pub ufr-is : (m : Move) → curve k m .ufr ≡ k .ufr
   unfolding curve
   ufr-is m = refl
 
@@ -240,7 +227,6 @@ module _ (k : FileCase) (w : WithinLimits k) where
 
   -- the base curve is not shifted
   P-base : (t : ℕ) → t ≤ 60 → P (curve k base) t ≡ q t
-  unfolding more less
   P-base zero h = unfold q sumOf s in (omega (arith, P-zero base))
   P-base (suc t) h = omega (arith, P-moved base t h)
 
@@ -253,3 +239,8 @@ module _ (k : FileCase) (w : WithinLimits k) where
     baseForwardLeast = λ t h. rw (P-base t (omega arith), P-base (suc t) h) (omega (arith, N-is base, forward-least (k .days) (w .days) t h));
     baseForwardMost = λ t h. rw (P-base t (omega arith), P-base (suc t) h) (omega (arith, N-is base, forward-most (k .days) (w .days) t h));
   }
+
+  -- every curve from the base curve
+  pub P-shifted : (m : Move) (t : ℕ) → suc t ≤ 60
+      → P (curve k m) (suc t) ≡ (P (curve k base) (suc t) + length (k .days) * added (k .shocks) m) - length (k .days) * taken (k .shocks) m
+  P-shifted m t h = omega (arith, P-moved m t h, P-base (suc t) h)

@@ -35,12 +35,12 @@ pub tested-anti : (e : End) (t i j : ℕ) → i ≤ j → tested e t j ≤ teste
 tested-anti e t i j h = scaled-anti e stepsPerOne (98000 + i) (98000 + j) t (omega arith) (omega arith)
 
 -- where a step passes the lower test, so does each below it; where one passes the upper test, so does each above it
-pub lower-falls : (c : Curve) (t i j : ℕ) → i ≤ j → T (lowerTest c t j) → T (lowerTest c t i)
+pub lower-falls : (c : Curve) (t i j : ℕ) → i ≤ j → T (lowerTest (Rounded.factor c) t j) → T (lowerTest (Rounded.factor c) t i)
 lower-falls c t i j h p =
     le→leb (Rounded.factor c high t) (tested low t i)
     (le-trans (leb→le (Rounded.factor c high t) (tested low t j) p) (tested-anti low t i j h))
 
-pub upper-rises : (c : Curve) (t i j : ℕ) → i ≤ j → T (upperTest c t i) → T (upperTest c t j)
+pub upper-rises : (c : Curve) (t i j : ℕ) → i ≤ j → T (upperTest (Rounded.factor c) t i) → T (upperTest (Rounded.factor c) t j)
 upper-rises c t i j h p =
     le→leb (tested high t j) (Rounded.factor c low t)
     (le-trans (tested-anti high t i j h) (leb→le (tested high t i) (Rounded.factor c low t) p))

@@ -311,29 +311,29 @@ step-natural i =
 
 -- ---- the rates of a base curve: the steps found, in their bounds and at most two apart
 module _ (c : Curve) (b : BaseWithin c) (t : ℕ) (within : t ≤ 120) where
-  pub first-passes : T (lowerTest c t 0)
+  pub first-passes : T (lowerTest (Rounded.factor c) t 0)
   first-passes =
       le→leb (Rounded.factor c high t) (scaled low 100000 98000 t)
       (le-trans (under c b t) (leb→le (ceiling t) (scaled low 100000 98000 t) (at starts 121 all-start t (omega arith))))
 
-  pub last-passes : T (upperTest c t 22000)
+  pub last-passes : T (upperTest (Rounded.factor c) t 22000)
   last-passes =
       le→leb (scaled high 100000 120000 t) (Rounded.factor c low t)
       (le-trans (leb→le (scaled high 100000 120000 t) (floor t) (at stops 121 all-stop t (omega arith))) (over c b t))
 
   i : ℕ
-  i = largest (lowerTest c t) 22001 22001
+  i = largest (lowerTest (Rounded.factor c) t) 22001 22001
 
   j : ℕ
-  j = smallest (upperTest c t) 0 22001 22001
+  j = smallest (upperTest (Rounded.factor c) t) 0 22001 22001
 
-  i-found : T (lowerTest c t i) × (i < 22001) × (0 ≤ i)
+  i-found : T (lowerTest (Rounded.factor c) t i) × (i < 22001) × (0 ≤ i)
   unfolding i
-  i-found = largest-found (lowerTest c t) 22001 22001 0 (lit< tt) first-passes
+  i-found = largest-found (lowerTest (Rounded.factor c) t) 22001 22001 0 (lit< tt) first-passes
 
-  j-found : T (upperTest c t j) × (j ≤ 22000)
+  j-found : T (upperTest (Rounded.factor c) t j) × (j ≤ 22000)
   unfolding j
-  j-found = smallest-found (upperTest c t) 0 22001 22001 22000 (lit≤ tt) (lit< tt) last-passes
+  j-found = smallest-found (upperTest (Rounded.factor c) t) 0 22001 22001 22000 (lit≤ tt) (lit< tt) last-passes
 
   lower : Rounded.factor c high t ≤ scaled low 100000 (98000 + i) t
   lower = leb→le (Rounded.factor c high t) (scaled low 100000 (98000 + i) t) (i-found .0)
@@ -348,7 +348,7 @@ module _ (c : Curve) (b : BaseWithin c) (t : ℕ) (within : t ≤ 120) where
   }
 
   pub rate-found : (e : End) → Between (negℤ (pos 2000)) (pos 20000) (Rounded.zeroRate c e t)
-  unfolding Rounded.zeroRate i j
+  unfolding Rounded.rateOf i j
   rate-found low = step-within i (omega (arith, i-found .1))
   rate-found high = step-within j (j-found .1)
 
@@ -357,7 +357,7 @@ module _ (c : Curve) (b : BaseWithin c) (t : ℕ) (within : t ≤ 120) where
       lt-diff (negℤ (pos stepsPerOne)) (stepAt n) 0 100000 n 2000 (diff-neg (pos 100000) 100000 0 (diff-pos 100000)) (step-diff n) (omega arith)
 
   pub rate-in : (e : End) → RateBounds e (Rounded.zeroRate c e t) t (Exact.product c t)
-  unfolding Rounded.zeroRate Exact.factor i j
+  unfolding Rounded.rateOf Exact.factor i j
   rate-in low =
       let v : ℕ = 98000 + i in
       record {
@@ -394,19 +394,19 @@ module _ (c : Curve) (b : BaseWithin c) (t : ℕ) (within : t ≤ 120) where
           hv = omega (arith, j-found .1)
 
           above-lower : scaled low 100000 v t < Rounded.factor c high t
-          above-lower = lt-of-not-le (λ q. not-suc-le-self i (rw (add-one i) at (largest-found (lowerTest c t) 22001 22001 (i + 1) (omega (arith, j-found .1)) (le→leb (Rounded.factor c high t) (scaled low 100000 v t) q) .2)))
+          above-lower = lt-of-not-le (λ q. not-suc-le-self i (rw (add-one i) at (largest-found (lowerTest (Rounded.factor c) t) 22001 22001 (i + 1) (omega (arith, j-found .1)) (le→leb (Rounded.factor c high t) (scaled low 100000 v t) q) .2)))
 
           v-next : 98000 + (i + 2) ≡ v + 1
           v-next = omega arith
 
           below-upper : Rounded.factor c low t < scaled high 100000 (v + 1) t
-          below-upper = lt-of-not-le (λ q. k (smallest-found (upperTest c t) 0 22001 22001 (i + 2) (omega arith) (omega (arith, j-found .1)) (le→leb (scaled high 100000 (98000 + (i + 2)) t) (Rounded.factor c low t) (rw v-next q)) .1))
+          below-upper = lt-of-not-le (λ q. k (smallest-found (upperTest (Rounded.factor c) t) 0 22001 22001 (i + 2) (omega arith) (omega (arith, j-found .1)) (le→leb (scaled high 100000 (98000 + (i + 2)) t) (Rounded.factor c low t) (rw v-next q)) .1))
 
           sharp-here : 120000 * (2 * wide t + 4 * t * t) + wide t * t < floor t * t
           sharp-here = sharp-at t h within
 
   pub rate-width : 1 ≤ t → Rounded.zeroRate c high t ≤ℤ (Rounded.zeroRate c low t +ℤ pos 2)
-  unfolding Rounded.zeroRate i j
+  unfolding Rounded.rateOf i j
   rate-width h =
       le-diff (stepAt j) (stepAt i +ℤ pos 2) j 2000 (i + 2) (2000 + 0) (step-diff j)
       (diff-sum (stepAt i) (pos 2) i 2000 2 0 (step-diff i) (diff-pos 2)) (omega (arith, narrow h))

@@ -43,11 +43,8 @@ fn read_input(file: &mut [u8]) -> Input
     Input::Bytes(end)
 }
 
-// Values a file with buffers as long as document 01 wants.
 fn print_listing(file: &[u8]) {
-    let mut factors = [0u64; 240];
-    let mut rates = [0i64; 240];
-    let valuation = engine::value(file, &mut factors, &mut rates);
+    let valuation = engine::figures_of(file);
     let mut text = [0u8; 512];
     let n = listing::write_listing(valuation, &mut text);
     io::write_all(STDOUT_FILENO, &text[..n]);

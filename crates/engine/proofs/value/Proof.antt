@@ -1,6 +1,6 @@
 -- `engine::value` meets its contract. Assumes nothing.
 use native.Mathlib.Omega.{arith}
-use Rattle.engine.proofs.Valued.{short-factors, short-rates, refused-file, accepted-case, accepted-file}
+use Rattle.engine.proofs.Valued.{short-factors, short-rates, refused-file, reading-fits, accepted-file}
 use Rattle.engine.proofs.Guaranteed.{call-of-slice}
 use borrow.Author.Needs.{needs}
 use Rattle.engine.proofs.value.Statement.{statement}
@@ -41,7 +41,7 @@ enum-told c = search needs
 value-case-requires : tie.Need-value-case-requires
 value-case-requires c κs =
     let read = c .before .before .before .before .before .read in
-    (accepted-case _ (read .result) (read .ensures .0) (c .before .before .before .enum-told .given .1), omega arith, omega arith)
+    (reading-fits _ (read .result) (read .ensures .0) (c .before .before .before .enum-told .given .1), omega arith, omega arith)
 
 same-length : tie.Need-same-length
 same-length c = search needs
@@ -57,7 +57,7 @@ returns-4 c =
     accepted-file (a .file .now) (a .factors .now) (a .rates .now)
     (call-of-slice (a .file .now) (a .factors .now) (a .rates .now) (known .shared-slice-known .given)) (omega arith) (omega arith)
     (read .result) (read .ensures .0) (c .before .before .before .before .before .before .before .enum-told .given .1) _ _ _
-    (c .before .before .before .value-case .ensures)
+    (c .before .before .before .value-case .ensures .0) (c .before .before .before .value-case .ensures .1 .0) (c .before .before .before .value-case .ensures .1 .1)
 
 pub value-spec : {M : Type 1} → statement M
 value-spec =

@@ -20,7 +20,9 @@ same-length-2 : tie.Need-same-length-2
 same-length-2 c = search needs
 
 returns : tie.Need-returns
-returns c = valued-case (c .before .before .before .before .before .before .before .before .before .before .before .before .args .case) (c .before .before .before .before .before .before .before .before .before .before .work-out .result) _ _ _ _ (c .before .before .before .before .before .before .before .before .before .before .work-out .ensures) (c .before .before .before .before .before .before .before .fill-factors .ensures) (c .before .before .fill-rates .ensures)
+returns c =
+    let a = c .before .before .before .before .before .before .before .before .before .before .before .before .before .args in
+    valued-case (a .case) (c .before .before .before .before .before .before .before .before .before .before .before .work-out .result) (a .factors .now) _ (a .rates .now) _ (c .before .before .before .before .before .before .before .before .before .before .before .work-out .ensures) (c .before .before .before .before .before .before .before .before .fill-factors .ensures) (c .before .before .before .fill-rates .ensures)
 
 pub value-case-spec : {M : Type 1} → statement M
 value-case-spec =

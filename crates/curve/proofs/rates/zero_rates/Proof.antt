@@ -4,7 +4,7 @@ use mathlib.Core.Path.{_≡_, refl}
 use native.Mathlib.Omega.{arith}
 use lib.ListN.{length, take, length-set}
 use Rattle.model.specs.Buffers.{byTerm, entryOf}
-use Rattle.curve.specs.Rates.{rateBy}
+use Rattle.model.specs.Rounded.{rateOf}
 use Rattle.curve.specs.Kept.{Kept}
 use Rattle.curve.proofs.Kept.{none-kept, keep-on}
 use Rattle.curve.proofs.Terms.{one-term-more, all-terms}
@@ -14,7 +14,7 @@ use Rattle.curve.proofs.rates.zero_rates.Tie as tie
 
 abbrev Inv-loop : tie.InvT-loop
 Inv-loop factors out₀ steps₀ results₀ terms₀ t₀ out steps results terms t =
-    (t ≤ 120) × (length out ≡ 240) × (take (2 * t) out ≡ byTerm (rateBy (entryOf factors)) t) × Kept t steps results terms
+    (t ≤ 120) × (length out ≡ 240) × (take (2 * t) out ≡ byTerm (rateOf (entryOf factors)) t) × Kept t steps results terms
 
 abbrev μ-loop : tie.MeasureT-loop
 μ-loop factors out₀ steps₀ results₀ terms₀ t₀ out steps results terms t = 120 - t

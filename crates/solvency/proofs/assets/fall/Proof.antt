@@ -1,5 +1,5 @@
 -- `solvency::assets::fall` meets its contract. Assumes nothing.
-use Rattle.solvency.specs.Figures.{fallOf}
+use Rattle.model.specs.Rounded.{fallOf, endOf}
 use Rattle.solvency.proofs.TwoEnds.{bracket-is}
 use borrow.Author.Needs.{needs}
 use Rattle.solvency.proofs.assets.fall.Statement.{statement}
@@ -26,7 +26,7 @@ less-requires-2 c κs = search needs
 returns : tie.Need-returns
 returns c =
     let s = c .before .before .before .before .before .before .before .before .before .before .args in
-    bracket-is _ _ (fallOf (s .b) (s .l) (s .bm) (s .lm)) (c .before .before .before .before .before .less .ensures) (c .less2 .ensures)
+    bracket-is _ _ (fallOf (endOf (s .l)) (endOf (s .b)) (endOf (s .lm)) (endOf (s .bm))) (c .before .before .before .before .before .less .ensures) (c .less2 .ensures)
 
 pub fall-spec : {M : Type 1} → statement M
 fall-spec =

@@ -1,7 +1,8 @@
 -- `solvency::assets::s1` meets its contract. Assumes nothing.
 use Prim.Native.Nat.{_*_, _^_}
-use Rattle.model.specs.Curve.{up, down}
-use Rattle.solvency.specs.Figures.{fallBy, S1By}
+use Rattle.model.specs.Curve.{base, up, down}
+use Rattle.model.specs.Rounded.{fallOf, interestLoss}
+use Rattle.solvency.specs.OnCurves.{on}
 use Rattle.solvency.proofs.Products.{larger-end, larger-most, fall-most}
 use Rattle.solvency.proofs.TwoEnds.{bracket-is, lower-is, upper-is}
 use borrow.Author.Needs.{needs}
@@ -23,18 +24,20 @@ larger-requires-2 c κs = search needs
 returns : tie.Need-returns
 returns c =
     let s = c .before .before .before .before in
+    let l = on (s .args .l) in
+    let b = on (s .args .b) in
     let f1 = c .before .before .before .fall .ensures in
     let f2 = c .before .before .fall2 .ensures in
-    let up1 = lower-is (fallBy (s .args .l) (s .args .b) up) f1 in
-    let up2 = upper-is (fallBy (s .args .l) (s .args .b) up) f1 in
-    let down1 = lower-is (fallBy (s .args .l) (s .args .b) down) f2 in
-    let down2 = upper-is (fallBy (s .args .l) (s .args .b) down) f2 in
-    let l = s .pre .0 in
-    let b = s .pre .1 in (
-      bracket-is _ _ (S1By (s .args .l) (s .args .b)) (larger-end _ _ _ _ _ (c .before .larger .ensures) up1 down1) (larger-end _ _ _ _ _ (c .larger2 .ensures) up2 down2),
+    let up1 = lower-is (fallOf (l base) (b base) (l up) (b up)) f1 in
+    let up2 = upper-is (fallOf (l base) (b base) (l up) (b up)) f1 in
+    let down1 = lower-is (fallOf (l base) (b base) (l down) (b down)) f2 in
+    let down2 = upper-is (fallOf (l base) (b base) (l down) (b down)) f2 in
+    let lf = s .pre .0 in
+    let bf = s .pre .1 in (
+      bracket-is _ _ (interestLoss l b) (larger-end _ _ _ _ _ (c .before .larger .ensures) up1 down1) (larger-end _ _ _ _ _ (c .larger2 .ensures) up2 down2),
       record {
-        lower = larger-most _ _ _ (50 * 10 ^ 12) _ _ (c .before .larger .ensures) up1 down1 (fall-most _ _ _ _ (b .base .lower) (l .up .lower)) (fall-most _ _ _ _ (b .base .lower) (l .down .lower));
-        upper = larger-most _ _ _ (50 * 10 ^ 12) _ _ (c .larger2 .ensures) up2 down2 (fall-most _ _ _ _ (b .base .upper) (l .up .upper)) (fall-most _ _ _ _ (b .base .upper) (l .down .upper));
+        lower = larger-most _ _ _ (50 * 10 ^ 12) _ _ (c .before .larger .ensures) up1 down1 (fall-most _ _ _ _ (bf .base .lower) (lf .up .lower)) (fall-most _ _ _ _ (bf .base .lower) (lf .down .lower));
+        upper = larger-most _ _ _ (50 * 10 ^ 12) _ _ (c .larger2 .ensures) up2 down2 (fall-most _ _ _ _ (bf .base .upper) (lf .up .upper)) (fall-most _ _ _ _ (bf .base .upper) (lf .down .upper));
       },
     )
 

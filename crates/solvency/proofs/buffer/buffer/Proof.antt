@@ -1,5 +1,6 @@
 -- `solvency::buffer::buffer` meets its contract. Assumes nothing.
-use Rattle.solvency.specs.Figures.{SBy}
+use Rattle.model.specs.Rounded as Rounded
+use Rattle.model.specs.Rounded.{endOf}
 use Rattle.solvency.proofs.TwoEnds.{bracket-is}
 use borrow.Author.Needs.{needs}
 use Rattle.solvency.proofs.buffer.buffer.Statement.{statement}
@@ -18,7 +19,7 @@ returns : tie.Need-returns
 returns c =
     let a = c .before .before .before .args in
     let r = c .roots .ensures in (
-      bracket-is _ _ (SBy (a .c) (a .s1) (a .s2) (a .s3) (a .s4) (a .s5) (a .s6)) (rw (c .before .before .squares .ensures .0) at (r .lower)) (rw (c .before .squares2 .ensures .0) at (r .upper)),
+      bracket-is _ _ (λ e. Rounded.buffer e (a .c) (endOf (a .s1) e) (endOf (a .s2) e) (endOf (a .s3) e) (endOf (a .s4) e) (endOf (a .s5) e) (endOf (a .s6) e)) (rw (c .before .before .squares .ensures .0) at (r .lower)) (rw (c .before .squares2 .ensures .0) at (r .upper)),
       record { lower = r .lowerMost; upper = r .upperMost },
     )
 

@@ -1,5 +1,5 @@
 -- `solvency::buffer::figures` meets its contract. Assumes nothing.
-use Rattle.solvency.proofs.Same.{figures-are}
+use Rattle.solvency.proofs.Same.{figures-are, assets-fit, worth-fits}
 use borrow.Author.Needs.{needs}
 use Rattle.solvency.proofs.buffer.figures.Statement.{statement}
 use Rattle.solvency.proofs.buffer.figures.Tie as tie
@@ -30,9 +30,13 @@ buffer-requires c κs = (c .before .before .before .before .before .before .befo
 
 returns : tie.Need-returns
 returns c =
-    let v = c .before .before .before .before .before .before .before .before .before .before .args in
-    figures-are (v .l) (v .b) (v .a) (v .x) (v .p) _ _ _ _ _ _ _ _ (c .before .before .before .before .before .before .before .assets .ensures) (c .before .before .before .before .before .before .s1 .ensures .0) (c .before .before .before .before .before .s2 .ensures .0) (c .before .before .before .before .s3 .ensures .0) (c .before .before .before .s4 .ensures .0)
-    (c .before .before .s5 .ensures .0) (c .before .s6 .ensures .0) (c .buffer .ensures .0)
+    let i = c .before .before .before .before .before .before .before .before .before .before in
+    let v = i .args in
+    let assets = c .before .before .before .before .before .before .before .assets .ensures in (
+      figures-are (v .l) (v .b) (v .a) (v .x) (v .p) _ _ _ _ _ _ _ _ assets (c .before .before .before .before .before .before .s1 .ensures .0) (c .before .before .before .before .before .s2 .ensures .0) (c .before .before .before .before .s3 .ensures .0) (c .before .before .before .s4 .ensures .0)
+          (c .before .before .s5 .ensures .0) (c .before .s6 .ensures .0) (c .buffer .ensures .0),
+      record { assets = assets-fit _ _ _ (i .pre .1 .base) (i .pre .2) assets; liabilities = worth-fits _ (i .pre .0 .base); buffer = c .buffer .ensures .1 },
+    )
 
 pub figures-spec : {M : Type 1} → statement M
 figures-spec =

@@ -3,7 +3,7 @@ use mathlib.Core.Path.{_≡_, refl}
 use native.Mathlib.Omega.{arith}
 use Rattle.arith.specs.Rounding.{low, high}
 use Rattle.model.specs.Case.{ageGap}
-use Rattle.solvency.specs.Figures.{S6By}
+use Rattle.model.specs.Rounded.{endOf, mortalityLoss}
 use Rattle.solvency.proofs.Products.{gap-square, heads-square, margin-fits, margin-end}
 use Rattle.solvency.proofs.TwoEnds.{bracket-is}
 use borrow.Author.Needs.{needs}
@@ -48,7 +48,7 @@ returns c =
     let s = c .before .before .before .before .before .before in
     let gap : c .before .before .before .before .before .age-gap .result ≡ ageGap (s .args .p) = c .before .before .before .before .before .age-gap .ensures in
     let r = c .roots .ensures in (
-      bracket-is _ _ (S6By (s .args .l) (s .args .p)) (rw (c .before .before .product .ensures, gap) at (r .lower)) (rw (c .before .product2 .ensures, gap) at (r .upper)),
+      bracket-is _ _ (mortalityLoss (endOf (s .args .l)) (s .args .p)) (rw (c .before .before .product .ensures, gap) at (r .lower)) (rw (c .before .product2 .ensures, gap) at (r .upper)),
       record {
         lower = margin-end (c .before .before .before .before .before .before .args .p .heads) (c .before .before .before .before .before .age-gap .result) (c .before .before .before .before .before .before .pre .1 .some) (c .before .before .before .before .before .before .pre .1 .most) (omega (arith, c .before .before .before .before .before .age-gap .ensures, c .before .before .before .before .before .before .pre .1 .pensionAge)) _ _ _ (s .pre .0 .lower) refl (c .before .before .product .ensures) low _ (r .lower);
         upper = margin-end (c .before .before .before .before .before .before .args .p .heads) (c .before .before .before .before .before .age-gap .result) (c .before .before .before .before .before .before .pre .1 .some) (c .before .before .before .before .before .before .pre .1 .most) (omega (arith, c .before .before .before .before .before .age-gap .ensures, c .before .before .before .before .before .before .pre .1 .pensionAge)) _ _ _ (s .pre .0 .upper) refl (c .before .product2 .ensures) high _ (r .upper);

@@ -6,7 +6,7 @@ use native.Mathlib.Omega.{arith}
 use lib.ListN.{length, take}
 use Rattle.arith.specs.Rounding.{low, high}
 use Rattle.model.specs.Rounded.{worth}
-use Rattle.solvency.proofs.Flows.{no-worth, worth-next, factor-low, factor-high, flow-range, flow-most, worth-done}
+use Rattle.solvency.proofs.Flows.{no-worth, worth-next, factor-low, factor-high, low-most, high-most, flow-range, flow-most, worth-done}
 use Rattle.solvency.proofs.worth.worth_of.Statement.{statement}
 use Rattle.solvency.proofs.worth.worth_of.Tie as tie
 
@@ -21,95 +21,80 @@ Inv-loop flows count factors lower₀ upper₀ i₀ lower upper i =
 abbrev μ-loop : tie.MeasureT-loop
 μ-loop flows count factors lower₀ upper₀ i₀ lower upper i = count - i
 
--- src/worth.rt:30:5
 loop-holds : tie.Need-loop-holds Inv-loop μ-loop
 loop-holds c = (omega arith, sym (no-worth low _ (c .before .before .args .flows .now)), sym (no-worth high _ (c .before .before .args .flows .now)), omega arith, omega arith)
 
--- src/worth.rt:31:21
 mul-euros : tie.Need-mul-euros Inv-loop μ-loop
 mul-euros c = omega arith
 
--- src/worth.rt:31:21
 shared-slice-read-euros : tie.Need-shared-slice-read-euros Inv-loop μ-loop
-shared-slice-read-euros c = let p = c .before .before .before .before .before .pre in omega (arith, p .there)
+shared-slice-read-euros c = let p = c .before .before .before .before .before .pre in omega (arith, p .0 .there)
 
--- src/worth.rt:32:34
 mul-low-factor : tie.Need-mul-low-factor Inv-loop μ-loop
 mul-low-factor c = omega arith
 
--- src/worth.rt:32:26
 mul-low-factor-2 : tie.Need-mul-low-factor-2 Inv-loop μ-loop
 mul-low-factor-2 c = omega arith
 
--- src/worth.rt:32:26
 shared-slice-read-low-factor : tie.Need-shared-slice-read-low-factor Inv-loop μ-loop
-shared-slice-read-low-factor c = let p = c .before .before .before .before .before .before .pre in omega (arith, p .terms)
+shared-slice-read-low-factor c = let p = c .before .before .before .before .before .before .pre in omega (arith, p .0 .few, p .1 .terms)
 
--- src/worth.rt:33:35
 mul-high-factor : tie.Need-mul-high-factor Inv-loop μ-loop
 mul-high-factor c = omega arith
 
--- src/worth.rt:33:35
 add-high-factor : tie.Need-add-high-factor Inv-loop μ-loop
 add-high-factor c = omega arith
 
--- src/worth.rt:33:27
 mul-high-factor-2 : tie.Need-mul-high-factor-2 Inv-loop μ-loop
 mul-high-factor-2 c = omega arith
 
--- src/worth.rt:33:27
 shared-slice-read-high-factor : tie.Need-shared-slice-read-high-factor Inv-loop μ-loop
-shared-slice-read-high-factor c = let p = c .before .before .before .before .before .before .before .pre in omega (arith, p .terms)
+shared-slice-read-high-factor c = let p = c .before .before .before .before .before .before .before .pre in omega (arith, p .0 .few, p .1 .terms)
 
--- src/worth.rt:34:13
 mul-div-floor-requires : tie.Need-mul-div-floor-requires Inv-loop μ-loop
-mul-div-floor-requires c κs = let p = c .before .before .before .before .before .before .before .pre in let l = c .before .before .before .before .loop in flow-range _ _ (p .flow (l .i) (omega arith)) (p .factor (2 * l .i))
+mul-div-floor-requires c κs = let p = c .before .before .before .before .before .before .before .pre in let l = c .before .before .before .before .loop in flow-range _ _ (p .0 .flow (l .i) (omega arith)) (low-most _ (l .i) (p .1) (omega (arith, p .0 .few)))
 
--- src/worth.rt:35:13
 mul-div-ceil-requires : tie.Need-mul-div-ceil-requires Inv-loop μ-loop
-mul-div-ceil-requires c κs = let p = c .before .before .before .before .before .before .before .before .pre in let l = c .before .before .before .before .before .loop in flow-range _ _ (p .flow (l .i) (omega arith)) (p .factor (2 * l .i + 1))
+mul-div-ceil-requires c κs = let p = c .before .before .before .before .before .before .before .before .pre in let l = c .before .before .before .before .before .loop in flow-range _ _ (p .0 .flow (l .i) (omega arith)) (high-most _ (l .i) (p .1) (omega (arith, p .0 .few)))
 
--- src/worth.rt:36:9
 add-lower : tie.Need-add-lower Inv-loop μ-loop
 add-lower c =
     let p = c .before .before .before .before .before .before .before .before .before .pre in
     let l = c .before .before .before .before .before .before .loop in
-    omega (arith, p .few, flow-most low _ _ _ (p .flow (l .i) (omega arith)) (p .factor (2 * l .i)) (c .before .mul-div-floor .ensures))
+    omega (arith, p .0 .few, flow-most low _ _ _ (p .0 .flow (l .i) (omega arith)) (low-most _ (l .i) (p .1) (omega (arith, p .0 .few))) (c .before .mul-div-floor .ensures))
 
--- src/worth.rt:37:9
 add-upper : tie.Need-add-upper Inv-loop μ-loop
 add-upper c =
     let p = c .before .before .before .before .before .before .before .before .before .pre in
     let l = c .before .before .before .before .before .before .loop in
-    omega (arith, p .few, flow-most high _ _ _ (p .flow (l .i) (omega arith)) (p .factor (2 * l .i + 1)) (c .mul-div-ceil .ensures))
+    omega (arith, p .0 .few, flow-most high _ _ _ (p .0 .flow (l .i) (omega arith)) (high-most _ (l .i) (p .1) (omega (arith, p .0 .few))) (c .mul-div-ceil .ensures))
 
--- src/worth.rt:38:9
 add-i : tie.Need-add-i Inv-loop μ-loop
 add-i c = omega arith
 
--- src/worth.rt:30:5
 loop-less : tie.Need-loop-less Inv-loop μ-loop
 loop-less c = omega arith
 
--- src/worth.rt:30:5
 loop-again : tie.Need-loop-again Inv-loop μ-loop
 loop-again c =
     let p = c .before .before .before .before .before .before .before .before .before .pre in
     let l = c .before .before .before .before .before .before .loop in
-    let h : l .i < length (c .before .before .before .before .before .before .before .before .before .args .flows .now) = omega (arith, p .there) in (
+    let h : l .i < length (c .before .before .before .before .before .before .before .before .before .args .flows .now) = omega (arith, p .0 .there) in (
       omega arith,
       worth-next low _ _ (l .i) _ _ h (l .inv .1) (rw (factor-low _ (l .i)) (c .before .mul-div-floor .ensures)),
       worth-next high _ _ (l .i) _ _ h (l .inv .2) (rw (factor-high _ (l .i)) (c .mul-div-ceil .ensures)),
-      omega (arith, flow-most low _ _ _ (p .flow (l .i) (omega arith)) (p .factor (2 * l .i)) (c .before .mul-div-floor .ensures)),
-      omega (arith, flow-most high _ _ _ (p .flow (l .i) (omega arith)) (p .factor (2 * l .i + 1)) (c .mul-div-ceil .ensures)),
+      omega (arith, flow-most low _ _ _ (p .0 .flow (l .i) (omega arith)) (low-most _ (l .i) (p .1) (omega (arith, p .0 .few))) (c .before .mul-div-floor .ensures)),
+      omega (arith, flow-most high _ _ _ (p .0 .flow (l .i) (omega arith)) (high-most _ (l .i) (p .1) (omega (arith, p .0 .few))) (c .mul-div-ceil .ensures)),
     )
 
--- src/worth.rt:21:1
 returns : tie.Need-returns Inv-loop μ-loop
 returns c =
     let s = c .before .before .before .before .args in
     let l = c .before .loop in
-    worth-done (s .flows .now) (s .factors .now) (l .i) (s .count) (l .lower) (l .upper) (omega arith) (l .inv .1) (l .inv .2)
+    let p = c .before .before .before .before .pre in (
+      worth-done (s .flows .now) (s .factors .now) (l .i) (s .count) (l .lower) (l .upper) (omega arith) (l .inv .1) (l .inv .2),
+      record { lower = omega (arith, p .0 .few, l .inv .3); upper = omega (arith, p .0 .few, l .inv .4) },
+    )
 
 pub worth-of-spec : {M : Type 1} → statement M
 worth-of-spec =

@@ -1,0 +1,29 @@
+-- What flows are worth on the three curves, as the code holds it and as the model's figures take it.
+use Prim.Native.Nat.{ℕ}
+use mathlib.Core.List.{List}
+use Rattle.arith.specs.Rounding.{End}
+use Rattle.model.specs.Curve.{Move, base, up, down}
+use Rattle.model.specs.Rounded.{bracket, endOf, figuresOf, verdictOf}
+use Rattle.model.specs.declared.case.Amounts.{Amounts}
+use Rattle.model.specs.declared.case.Shocks.{Shocks}
+use Rattle.model.specs.declared.case.People.{People}
+use Rattle.solvency.specs.declared.worth.Curves.{Curves}
+use Rattle.solvency.specs.declared.worth.Worths.{Worths}
+use Rattle.solvency.specs.declared.buffer.Money.{Money}
+
+abbrev pub on : Worths → Move → End → ℕ
+on w base = endOf (w .base)
+on w up = endOf (w .up)
+on w down = endOf (w .down)
+
+abbrev pub worths : (Move → End → ℕ) → Worths
+worths f = record { base = bracket (f base); up = bracket (f up); down = bracket (f down) }
+
+-- the factors of one of three curves
+abbrev pub entriesOn : Curves → Move → List ℕ
+entriesOn c base = c .base
+entriesOn c up = c .up
+entriesOn c down = c .down
+
+abbrev pub moneyOf : (Move → End → ℕ) → (Move → End → ℕ) → Amounts → Shocks → People → Money
+moneyOf l b a x p = record { figures = figuresOf l b a x p; verdict = verdictOf l b a x p }

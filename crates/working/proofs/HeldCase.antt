@@ -1,0 +1,84 @@
+-- The bridge: a struct that stands for a case of document 01 within the limits is in range, and what is worked out of it is the rounded
+-- working of that case. Assumes nothing.
+use Prim.Native.Nat.{ℕ, _≤_, _<_}
+use mathlib.Core.Path.{_≡_, refl, ap, _∙_, fun-ext}
+use mathlib.Core.List.{List}
+use native.Mathlib.Omega.{arith}
+use lib.ListN.{length, getD, take}
+use lib.Seq.{ext-getD, getD-take, length-take-le}
+use Rattle.arith.specs.Rounding.{End}
+use Rattle.model.specs.Case.{FileCase}
+use Rattle.model.specs.Limits.{WithinLimits, FlowsWithin}
+use Rattle.model.specs.Curve.{Move, base, curve}
+use Rattle.model.specs.Held.{padded, held}
+use Rattle.model.specs.Buffers.{byTerm, factorEntries, rateEntries}
+use Rattle.model.specs.Rounded as Rounded
+use Rattle.model.specs.Rounded.{rateOf}
+use Rattle.theory.proofs.Lists.{length-table, getD-table}
+use Rattle.curve.specs.Sums.{curveHeld}
+use Rattle.curve.proofs.HeldCurves.{held-within, held-curve-within, held-base-within, held-factor}
+use Rattle.solvency.specs.OnCurves.{moneyOf}
+use Rattle.solvency.specs.Ranges.{FlowsFit}
+use Rattle.solvency.specs.declared.buffer.Money.{Money}
+use Rattle.working.specs.declared.Worked.{Worked}
+use Rattle.working.specs.Working.{CaseFits, factorsOn, moneyBy, workedOf}
+
+-- the flows of a padded list
+take-padded : (n : ℕ) (xs : List ℕ) → length xs ≤ n → take (length xs) (padded n xs) ≡ xs
+take-padded n xs h =
+    ext-getD 0 (take (length xs) (padded n xs)) xs (length-take-le (length xs) (padded n xs) (rw (length-table (λ i. getD xs i 0) n) h))
+    (λ i l.
+    let k : i < length xs = rw (length-take-le (length xs) (padded n xs) (rw (length-table (λ i. getD xs i 0) n) h)) at l in
+    getD-take (length xs) (padded n xs) i 0 k ∙ getD-table (λ i. getD xs i 0) n i 0 (omega arith))
+
+flows-fit : (n : ℕ) (xs : List ℕ) → length xs ≤ n → n ≤ 120 → FlowsWithin xs → FlowsFit (padded n xs) (length xs)
+flows-fit n xs h l w = record {
+  few = omega arith;
+  there = rw (length-table (λ i. getD xs i 0) n) h;
+  flow = λ i p. rw (getD-table (λ i. getD xs i 0) n i 0 (omega arith)) (w .each i p);
+}
+
+same-worked : (f g : End → ℕ → ℕ) (m n : Money) → f ≡ g → m ≡ n
+    → _≡_ {A = Worked} (record { factors = byTerm f 120; rates = byTerm (rateOf f) 120; money = m }) (record { factors = byTerm g 120; rates = byTerm (rateOf g) 120; money = n })
+same-worked f g m n p q = rw (p, q)
+
+module _ (k : FileCase) (w : WithinLimits k) where
+  pub held-fits : CaseFits (held k)
+  unfolding held
+  held-fits = record {
+    sums = held-within k w;
+    curves = held-curve-within k w;
+    base = held-base-within k w;
+    pension = flows-fit 120 (k .pension) (w .mostPension) (omega arith) (w .pension);
+    bonds = flows-fit 60 (k .bonds) (w .mostBonds) (omega arith) (w .bonds);
+    amounts = w .amounts;
+    shocks = w .shocks;
+    people = w .people;
+  }
+
+  held-pension : take (held k .«pension_count») (held k .pension) ≡ k .pension
+  unfolding held
+  held-pension = take-padded 120 (k .pension) (w .mostPension)
+
+  held-bonds : take (held k .«bond_count») (held k .bonds) ≡ k .bonds
+  unfolding held
+  held-bonds = take-padded 60 (k .bonds) (w .mostBonds)
+
+  factors : _≡_ {A = Move → End → ℕ → ℕ} (λ m. Rounded.factor (curveHeld (held k) m)) (λ m. Rounded.factor (curve k m))
+  factors = fun-ext (λ m. held-factor k w m)
+
+  abbrev parts : (Move → End → ℕ → ℕ) → List ℕ → List ℕ → Money
+  parts f pension bonds =
+      moneyOf (λ m e. Rounded.worth e (f m e) 1 pension) (λ m e. Rounded.worth e (f m e) 1 bonds) (k .amounts) (k .shocks) (k .people)
+
+  pub held-money : moneyBy (λ m. Rounded.factor (curveHeld (held k) m)) (held k) ≡ record { figures = Rounded.figures k; verdict = Rounded.verdict k }
+  unfolding held
+  held-money =
+      ap (λ (f : Move → End → ℕ → ℕ). parts f (take (held k .«pension_count») (held k .pension)) (take (held k .«bond_count») (held k .bonds))) factors
+      ∙ ap (λ (x : List ℕ). parts (λ m. Rounded.factor (curve k m)) x (take (held k .«bond_count») (held k .bonds))) held-pension
+      ∙ ap (λ (x : List ℕ). parts (λ m. Rounded.factor (curve k m)) (k .pension) x) held-bonds
+
+  pub held-worked : _≡_ {A = Worked} (workedOf (held k))
+      (record { factors = factorEntries k; rates = rateEntries k; money = record { figures = Rounded.figures k; verdict = Rounded.verdict k } })
+  unfolding factorEntries rateEntries
+  held-worked = same-worked _ _ _ _ (held-factor k w base) held-money

@@ -1,0 +1,116 @@
+-- What the code asks of a case that fits, and its figures by entries of factors. Assumes nothing.
+use Prim.Native.Nat.{ℕ, suc, _+_, _≤_, _<_}
+use mathlib.Core.Path.{_≡_, refl, ap, sym, _∙_, subst, fun-ext}
+use mathlib.Core.List.{List, [], _∷_}
+use native.Mathlib.Omega.{arith}
+use lib.Dec.{lit≤}
+use lib.IntN.{ℤ}
+use lib.ListN.{length, take}
+use lib.Seq.{length-take-le}
+use Rattle.arith.specs.Rounding.{End, low, high}
+use Rattle.model.specs.Curve.{Curve, Move, base, up, down}
+use Rattle.model.specs.CurveWithin.{CurveWithin}
+use Rattle.model.specs.Buffers.{byTerm, entryOf}
+use Rattle.model.specs.Rounded as Rounded
+use Rattle.model.specs.Rounded.{worth, rateOf}
+use Rattle.model.specs.declared.case.Case.{Case}
+use Rattle.theory.proofs.Entries.{length-byTerm, entry-is}
+use Rattle.theory.proofs.MoneySizes.{factor-most}
+use Rattle.curve.specs.declared.sums.CurveSums.{CurveSums}
+use Rattle.curve.specs.Sums.{curveOf, movedSums, curveHeld}
+use Rattle.curve.specs.Ranges.{FactorsWithin, RatesWithin}
+use Rattle.curve.proofs.RateEntries.{rates-of-entries, entries-within}
+use Rattle.solvency.specs.OnCurves.{on, worths, entriesOn, moneyOf}
+use Rattle.solvency.specs.Ranges.{FlowsFit, FactorsFit, CurvesFit}
+use Rattle.solvency.specs.declared.buffer.Money.{Money}
+use Rattle.solvency.specs.declared.worth.Worths.{Worths}
+use Rattle.solvency.specs.declared.worth.Curves.{Curves}
+use Rattle.working.specs.declared.Worked.{Worked}
+use Rattle.working.specs.Working.{CaseFits, factorsOn, curvesOn, owed, bonds, moneyBy, workedOf}
+
+-- ---- the curves
+pub sums-within : {c : Case} (m : Move) (s : CurveSums) → CaseFits c → s ≡ movedSums m c → FactorsWithin s
+sums-within m s h e = subst FactorsWithin (sym e) (h .curves m)
+
+pub factors-are : (c : Case) (m : Move) (s : CurveSums) (r : List ℕ) → s ≡ movedSums m c → r ≡ byTerm (Rounded.factor (curveOf s)) 120 → r ≡ factorsOn c m
+factors-are c m s r e f = f ∙ ap (λ (x : CurveSums). byTerm (Rounded.factor (curveOf x)) 120) e
+
+-- entries of factors: 240, and none above 2.2
+entries-fit : (c : Curve) → CurveWithin c → FactorsFit (byTerm (Rounded.factor c) 120)
+entries-fit c w = record {
+  terms = rw (length-byTerm (Rounded.factor c) 120) (lit≤ tt);
+  factor = λ e t h k. rw (entry-is (Rounded.factor c) 120 e t h k) (factor-most c w e t);
+}
+
+module _ {c : Case} (h : CaseFits c) (s : Curves) (e : s ≡ curvesOn c) where
+  fit : (m : Move) → FactorsFit (factorsOn c m)
+  fit m = entries-fit (curveHeld c m) (h .curves m .within)
+
+  pub curves-fit : CurvesFit s
+  curves-fit = subst CurvesFit (sym e) (record { base = fit base; up = fit up; down = fit down })
+
+  pub rates-within : RatesWithin (s .base)
+  rates-within = subst (λ (x : Curves). RatesWithin (x .base)) (sym e) (entries-within (curveHeld c base) (h .base))
+
+-- ---- the flows: by entries, or by the factors themselves
+worth-same : (e : End) (f g : ℕ → ℕ) (t : ℕ) (xs : List ℕ) → ((i : ℕ) → i < length xs → f (t + i) ≡ g (t + i)) → worth e f t xs ≡ worth e g t xs
+unfolding worth
+worth-same e f g t [] h = refl
+worth-same e f g t (x ∷ xs) h =
+    let z : t + 0 ≡ t = omega arith in
+    let a : f t ≡ g t = rw z at (h 0 (omega arith)) in
+    rw (a, worth-same e f g (suc t) xs (λ i l. let s : t + suc i ≡ suc t + i = omega arith in rw s at (h (suc i) (omega arith))))
+
+worth-entries : (f : End → ℕ → ℕ) (e : End) (xs : List ℕ) → length xs ≤ 120 → worth e (entryOf (byTerm f 120) e) 1 xs ≡ worth e (f e) 1 xs
+worth-entries f e xs h =
+    worth-same e (entryOf (byTerm f 120) e) (f e) 1 xs (λ i l. entry-is f 120 e (1 + i) (omega arith) (omega arith))
+
+-- ---- the figures
+module _ {c : Case} (h : CaseFits c) where
+  few : (flows : List ℕ) (count : ℕ) → FlowsFit flows count → length (take count flows) ≤ 120
+  few flows count f = rw (length-take-le count flows (f .there)) (f .few)
+
+  flows-by : (xs : List ℕ) → length xs ≤ 120
+      → _≡_ {A = Move → End → ℕ} (λ m e. worth e (entryOf (entriesOn (curvesOn c) m) e) 1 xs) (λ m e. worth e (Rounded.factor (curveHeld c m) e) 1 xs)
+  flows-by xs l = fun-ext (λ m. fun-ext (λ e. at m e))
+    where
+      at : (m : Move) (e : End) → worth e (entryOf (entriesOn (curvesOn c) m) e) 1 xs ≡ worth e (Rounded.factor (curveHeld c m) e) 1 xs
+      at base e = worth-entries (Rounded.factor (curveHeld c base)) e xs l
+      at up e = worth-entries (Rounded.factor (curveHeld c up)) e xs l
+      at down e = worth-entries (Rounded.factor (curveHeld c down)) e xs l
+
+  own-money : moneyBy (λ m. entryOf (entriesOn (curvesOn c) m)) c ≡ moneyBy (λ m. Rounded.factor (curveHeld c m)) c
+  own-money =
+      ap (λ (l : Move → End → ℕ). moneyOf l (bonds (λ m. entryOf (entriesOn (curvesOn c) m)) c) (c .amounts) (c .shocks) (c .people))
+      (flows-by (take (c .«pension_count») (c .pension)) (few (c .pension) (c .«pension_count») (h .pension)))
+      ∙ ap (λ (b : Move → End → ℕ). moneyOf (owed (λ m. Rounded.factor (curveHeld c m)) c) b (c .amounts) (c .shocks) (c .people))
+      (flows-by (take (c .«bond_count») (c .bonds)) (few (c .bonds) (c .«bond_count») (h .bonds)))
+
+  module _ (s : Curves) (e : s ≡ curvesOn c) (r : Money) (g : r ≡ moneyBy (λ m. entryOf (entriesOn s m)) c) where
+    pub money-is : r ≡ moneyBy (λ m. Rounded.factor (curveHeld c m)) c
+    money-is = g ∙ ap (λ (x : Curves). moneyBy (λ m. entryOf (entriesOn x m)) c) e ∙ own-money
+
+    pub worked-is : (b : List ℕ) (z : List ℤ) → b ≡ s .base → z ≡ byTerm (rateOf (entryOf b)) 120 → _≡_ {A = Worked} (record { factors = b; rates = z; money = r }) (workedOf c)
+    worked-is b z i j =
+        let x : b ≡ factorsOn c base = i ∙ ap (λ (y : Curves). y .base) e in
+        let y : z ≡ byTerm (Rounded.zeroRate (curveHeld c base)) 120 =
+        j ∙ ap (λ (l : List ℕ). byTerm (rateOf (entryOf l)) 120) x ∙ rates-of-entries (Rounded.factor (curveHeld c base)) in
+        rw (x, y, money-is)
+
+-- ---- at any factors
+on-worths : (f : Move → End → ℕ) → on (worths f) ≡ f
+on-worths f = fun-ext (λ m. fun-ext (λ e. at m e))
+  where
+    at : (m : Move) (e : End) → on (worths f) m e ≡ f m e
+    at base low = refl
+    at base high = refl
+    at up low = refl
+    at up high = refl
+    at down low = refl
+    at down high = refl
+
+pub money-at : (c : Case) (s : Curves) (l b : Worths) (r : Money) → l ≡ worths (owed (λ m. entryOf (entriesOn s m)) c) → b ≡ worths (bonds (λ m. entryOf (entriesOn s m)) c)
+    → r ≡ moneyOf (on l) (on b) (c .amounts) (c .shocks) (c .people) → r ≡ moneyBy (λ m. entryOf (entriesOn s m)) c
+money-at c s l b r i j e =
+    e ∙ ap (λ (y : Move → End → ℕ). moneyOf y (on b) (c .amounts) (c .shocks) (c .people)) (ap on i ∙ on-worths (owed (λ m. entryOf (entriesOn s m)) c))
+    ∙ ap (λ (y : Move → End → ℕ). moneyOf (owed (λ m. entryOf (entriesOn s m)) c) y (c .amounts) (c .shocks) (c .people)) (ap on j ∙ on-worths (bonds (λ m. entryOf (entriesOn s m)) c))

@@ -1,0 +1,2 @@
+-- What the contracts of `working` cite.
+pub mod Working

@@ -38,6 +38,7 @@ use lib.Dec.{lit<, lit≤}
 use lib.ListN.{replicate}
 use lib.IntN.{pos, negℤ}
 use Rattle.arith.specs.Rounding.{low, high}
+use Rattle.model.specs.Constants.{lastTerm}
 use Rattle.model.specs.Case.{FileCase, s}
 use Rattle.model.specs.Layout.{fileOf}
 use Rattle.model.specs.Reading.{caseOf}
@@ -47,7 +48,6 @@ use Rattle.model.specs.Exact as Exact
 use Rattle.model.specs.Rounded as Rounded
 use Rattle.model.specs.Margins.{WL, WB, NearFirst, NearSecond, firstMargin, secondMargin}
 use Rattle.model.specs.Demand3.{
-  lastTerm,
   leastStep,
   mostStep,
   factorWidthMost,

@@ -139,7 +139,7 @@ pub fn case_in(file: &[u8]) -> Case
     ensures { λ r. ⌜ r ≡ held (caseOf (now (file .entry))) ⌝ }
 {
     let ufr = ufr_in(file);
-    let days = day_count(file) as u64;
+    let per_step = day_count(file) as u64;
     let sums = sums_in(file);
     let pension_count = pension_count(file);
     let pension = pension_in(file);
@@ -150,7 +150,7 @@ pub fn case_in(file: &[u8]) -> Case
     let people = people_in(file);
     Case {
         ufr,
-        days,
+        per_step,
         sums,
         pension_count,
         pension,

@@ -7,7 +7,8 @@ use native.Mathlib.Nat.{le-trans, not-le-of-lt}
 use native.Mathlib.Decide.{decLe}
 use lib.Dec.{leb, leb→le, le→leb, T}
 use Rattle.arith.specs.Rounding.{low, high}
-use Rattle.model.specs.Rounded.{tested, largest, smallest}
+use Rattle.model.specs.Rounded.{tested}
+use Rattle.model.specs.Brackets.{largest, smallest}
 use Rattle.theory.proofs.Search.{tested-anti, largest-is, smallest-is}
 
 -- how far apart the two places are at most after d tests

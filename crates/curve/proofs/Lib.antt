@@ -1,9 +1,8 @@
 -- Laws of the rounded curve that the proofs of the functions cite, and the conclusions for their callers.
-pub mod ByEnds
 pub mod Years
 pub mod Weighing
 pub mod Curves
-pub mod Moving
+pub mod Shifting
 pub mod Growths
 pub mod Discounts
 pub mod Terms
@@ -12,6 +11,4 @@ pub mod Kept
 pub mod Halved
 pub mod Signed
 pub mod Rated
-pub mod Agree
-pub mod HeldCurves
 pub mod RateEntries

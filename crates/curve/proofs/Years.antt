@@ -6,11 +6,12 @@ use native.Mathlib.Numerals.{add-one}
 use native.Mathlib.Nat.{mul-le-mul}
 use Rattle.arith.specs.Rounding.{End, low, high, divide}
 use Rattle.model.specs.Constants.{unit}
-use Rattle.model.specs.Rounded.{bracket, scaled, endOf}
+use Rattle.model.specs.Rounded.{scaled}
+use Rattle.model.specs.Brackets.{bracket, endOf}
 use Rattle.model.specs.declared.figures.Bracket.{Bracket}
 use Rattle.theory.proofs.Search.{scaled-ends}
 use Rattle.curve.specs.Ranges.{SmallEnds, YearsWithin, GrowthWithin, FirstWithin}
-use Rattle.curve.proofs.ByEnds.{by-ends, end-is}
+use Rattle.theory.proofs.ByEnds.{by-ends, end-is}
 
 pub scaled-none : (e : End) (a b : ℕ) → scaled e a b 0 ≡ unit
 unfolding scaled

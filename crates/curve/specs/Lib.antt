@@ -1,4 +1,4 @@
 -- What the contracts of `curve` cite.
-pub mod Sums
+pub mod Shifted
 pub mod Ranges
 pub mod Kept

@@ -8,10 +8,11 @@ use Rattle.arith.specs.Rounding.{low, high}
 use Rattle.model.specs.declared.case.Case.{Case}
 use Rattle.model.specs.declared.figures.Bracket.{Bracket}
 use Rattle.model.specs.Rounded as Rounded
-use Rattle.model.specs.Rounded.{bracket, scaled, tested}
+use Rattle.model.specs.Rounded.{scaled, tested}
+use Rattle.model.specs.Brackets.{bracket}
 use Rattle.model.specs.CurveWithin.{CurveWithin}
-use Rattle.curve.specs.declared.sums.CurveSums.{CurveSums}
-use Rattle.curve.specs.Sums.{curveOf}
+use Rattle.curve.specs.declared.shift.CurveSums.{CurveSums}
+use Rattle.curve.specs.Shifted.{curveOf}
 
 -- of x × a ÷ b: the product, with b added, fits 64 bits
 pub record Small (x a b : ℕ) : Type 0 where
@@ -22,23 +23,13 @@ pub record SmallEnds (x : Bracket) (a b : ℕ) : Type 0 where
   pub lower : Small (x .lower) a b
   pub upper : Small (x .upper) a b
 
--- of the sums of a case: its days, and a mean rate of each term from -1,000 to 10,000 steps
-pub record SumsWithin (k : Case) : Type 0 where
-  pub daysSome : 1 ≤ k .days
-  pub daysMost : k .days ≤ 70
-  pub least : (i : ℕ) → i < 60 → 99000 * k .days ≤ getD (k .sums) i 0
-  pub most : (i : ℕ) → i < 60 → getD (k .sums) i 0 ≤ 110000 * k .days
-
--- of a case whose curve is moved: by at most 1,000 steps
-pub record MovedWithin (k : Case) (more less : ℕ) : Type 0 where
-  pub sums : SumsWithin k
+-- of a curve that is shifted: mean rates from -1,000 to 10,000 steps, and a shift of at most 1,000
+pub record ShiftWithin (k : Case) (more less : ℕ) : Type 0 where
+  pub perStep : k .«per_step» ≤ 70
+  pub least : (i : ℕ) → i < 60 → 99000 * k .«per_step» ≤ getD (k .sums) i 0
+  pub most : (i : ℕ) → i < 60 → getD (k .sums) i 0 ≤ 110000 * k .«per_step»
   pub moreMost : more ≤ 1000
   pub lessMost : less ≤ 1000
-
-pub record CaseWithin (k : Case) : Type 0 where
-  pub sums : SumsWithin k
-  pub upMost : k .shocks .«up_shift» ≤ 1000
-  pub downMost : k .shocks .«down_shift» ≤ 1000
 
 -- of the growth over j years: P(t) and P(t - 1) within 7,770,000, and no growth on the way above 1.2
 pub record YearsWithin (p q j : ℕ) : Type 0 where

@@ -2,7 +2,8 @@
 ghost use mathlib.Core.Path.{_≡_};
 ghost use Prim.Native.Nat.{_+_, _*_, _-_};
 ghost use Rattle.arith.specs.Rounding.{divide};
-ghost use Rattle.model.specs.Rounded.{bracket, scaled, endOf};
+ghost use Rattle.model.specs.Rounded.{scaled};
+ghost use Rattle.model.specs.Brackets.{bracket, endOf};
 ghost use Rattle.curve.specs.Ranges.{YearsWithin, GrowthWithin, WeighWithin};
 use super::ends::times_both;
 use model::case::Case;

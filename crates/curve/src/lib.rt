@@ -6,5 +6,5 @@ pub mod growth;
 pub mod rates;
 pub mod results;
 pub mod search;
-pub mod sums;
+pub mod shift;
 pub mod weights;

@@ -9,11 +9,11 @@ use borrow.Author.Tests.{le-leb, lt-leb}
 use lib.Dec.{leb}
 use lib.IntN.{ℤ}
 use lib.ListN.{length, drop}
+use Rattle.model.specs.Curve.{base}
 use Rattle.model.specs.Reading.{caseOf}
 use Rattle.model.specs.Refusals.{Check, firstOf, checks, refusal}
 use Rattle.model.specs.Rounded as Rounded
 use Rattle.model.specs.Buffers.{valuationRefusal, factorEntries, rateEntries, factorsAfter, ratesAfter, answered, valuationOf}
-use Rattle.model.specs.declared.case.Case.{Case}
 use Rattle.model.specs.declared.figures.Valuation.{Valuation}
 use Rattle.model.specs.declared.figures.Valuation.the-variants.{Refused, Valued}
 use Rattle.casefile.specs.Answers.{numberOf, answerOf, readingOf}
@@ -21,20 +21,10 @@ use Rattle.casefile.specs.declared.Answer.the-variants.{Accepted, Refused as Re
 use Rattle.casefile.specs.declared.Reading.{Reading}
 use Rattle.casefile.proofs.AcceptedReading.{accepted-reading, reading-number}
 use Rattle.engine.specs.Guarantee.{Call}
-use Rattle.curve.specs.Sums.{curveHeld}
-use Rattle.solvency.specs.declared.buffer.Money.{Money}
-use Rattle.working.specs.declared.Worked.{Worked}
-use Rattle.working.specs.Working.{CaseFits, moneyBy, workedOf}
-use Rattle.working.proofs.HeldCase.{held-fits, held-worked}
-
--- an accepted case, valued: `value_case` as its contract has it
-pub valued-case : (c : Case) (w : Worked) (f₀ f : List ℕ) (z₀ z : List ℤ) → w ≡ workedOf c → f ≡ w .factors ++ drop 240 f₀ → z ≡ w .rates ++ drop 240 z₀
-    → (Valued (w .money .figures) (w .money .verdict) ≡ Valued (workedOf c .money .figures) (workedOf c .money .verdict))
-    × ((f ≡ workedOf c .factors ++ drop 240 f₀) × (z ≡ workedOf c .rates ++ drop 240 z₀))
-valued-case c w f₀ f z₀ z e p q = (
-  ap (λ (x : Worked). Valued (x .money .figures) (x .money .verdict)) e,
-  (p ∙ ap (λ (x : Worked). x .factors ++ drop 240 f₀) e, q ∙ ap (λ (x : Worked). x .rates ++ drop 240 z₀) e),
-)
+use Rattle.solvency.specs.declared.figures.Money.{Money}
+use Rattle.working.specs.Ranges.{CaseFits}
+use Rattle.working.specs.Working.{factorsOn, ratesOn, moneyOn}
+use Rattle.working.proofs.HeldCase.{held-fits, held-factors, held-rates, held-money}
 
 -- one check in front of others
 pub fails : (b : Bool) (rest : List Check) → b ≡ false → firstOf ((b, 13) ∷ rest) ≡ 13
@@ -54,13 +44,18 @@ unfolding readingOf
 zero-answer file z = ap answerOf z
 
 -- what an accepted reading holds: a case in range, whose working is that of the file's case
-pub reading-fits : (file : List ℕ) (r : Reading) → r ≡ readingOf file → r .answer ≡ Accepted → CaseFits (r .«case»)
-reading-fits file r e a = let x = accepted-reading file r e a in subst CaseFits (sym (x .holds)) (held-fits (caseOf file) (x .within))
+module _ (file : List ℕ) (r : Reading) (e : r ≡ readingOf file) (a : r .answer ≡ Accepted) where
+  pub reading-fits : CaseFits (r .«case»)
+  reading-fits = let x = accepted-reading file r e a in subst CaseFits (sym (x .holds)) (held-fits (caseOf file) (x .within))
 
-reading-worked : (file : List ℕ) (r : Reading) → r ≡ readingOf file → r .answer ≡ Accepted
-    → _≡_ {A = Worked} (workedOf (r .«case»))
-    (record { factors = factorEntries (caseOf file); rates = rateEntries (caseOf file); money = record { figures = Rounded.figures (caseOf file); verdict = Rounded.verdict (caseOf file) } })
-reading-worked file r e a = let x = accepted-reading file r e a in ap workedOf (x .holds) ∙ held-worked (caseOf file) (x .within)
+  reading-factors : factorsOn (r .«case») base ≡ factorEntries (caseOf file)
+  reading-factors = let x = accepted-reading file r e a in rw (x .holds) (held-factors (caseOf file) (x .within))
+
+  reading-rates : ratesOn (r .«case») ≡ rateEntries (caseOf file)
+  reading-rates = let x = accepted-reading file r e a in rw (x .holds) (held-rates (caseOf file) (x .within))
+
+  reading-money : moneyOn (r .«case») ≡ record { figures = Rounded.figures (caseOf file); verdict = Rounded.verdict (caseOf file) }
+  reading-money = let x = accepted-reading file r e a in ap moneyOn (x .holds) ∙ held-money (caseOf file) (x .within)
 
 -- the number of a refused file is not 0
 refused-number : (file : List ℕ) (r : Reading) → r ≡ readingOf file → (n : ℕ) → r .answer ≡ RefusedFile n → (refusal file ≡ n) × ((n ≡ 0) → ⊥)
@@ -81,10 +76,9 @@ module _ (file : List ℕ) (r : Reading) (e : r ≡ readingOf file) where
       go zero h = absurd (h refl)
       go (suc n) h = refl
 
-  pub figures-accepted : r .answer ≡ Accepted → (m : Money) → m ≡ moneyBy (λ c. Rounded.factor (curveHeld (r .«case») c)) (r .«case»)
-      → Valued (m .figures) (m .verdict) ≡ answered (refusal file) (caseOf file)
+  pub figures-accepted : r .answer ≡ Accepted → (m : Money) → m ≡ moneyOn (r .«case») → Valued (m .figures) (m .verdict) ≡ answered (refusal file) (caseOf file)
   figures-accepted a m g =
-      rw (accepted-reading file r e a .noRefusal) (ap (λ (x : Money). Valued (x .figures) (x .verdict)) (g ∙ ap (λ (x : Worked). x .money) (reading-worked file r e a)))
+      rw (accepted-reading file r e a .noRefusal) (ap (λ (x : Money). Valued (x .figures) (x .verdict)) (g ∙ reading-money file r e a))
 
 module _ (file : List ℕ) (f₀ : List ℕ) (z₀ : List ℤ) (call : Call file f₀ z₀) where
   -- the contract of `value`: the answer, both buffers at the end, and what holds of every call
@@ -123,15 +117,14 @@ module _ (file : List ℕ) (f₀ : List ℕ) (z₀ : List ℤ) (call : Call file
 
     -- an accepted file
     pub accepted-file : r .answer ≡ Accepted → (v : Valuation) (f : List ℕ) (z : List ℤ)
-        → v ≡ Valued (workedOf (r .«case») .money .figures) (workedOf (r .«case») .money .verdict)
-        → f ≡ workedOf (r .«case») .factors ++ drop 240 f₀
-        → z ≡ workedOf (r .«case») .rates ++ drop 240 z₀
+        → v ≡ Valued (moneyOn (r .«case») .figures) (moneyOn (r .«case») .verdict)
+        → f ≡ factorsOn (r .«case») base ++ drop 240 f₀
+        → z ≡ ratesOn (r .«case») ++ drop 240 z₀
         → Meets v f z
     unfolding valuationOf factorsAfter ratesAfter
     accepted-file a v f z p q t =
-        let w = reading-worked file r e a in
         let o : valuationRefusal (length f₀) (length z₀) file ≡ 0 = own ∙ accepted-reading file r e a .noRefusal in
-        let x = p ∙ ap (λ (y : Worked). Valued (y .money .figures) (y .money .verdict)) w in
-        let y = q ∙ ap (λ (y : Worked). y .factors ++ drop 240 f₀) w in
-        let u = t ∙ ap (λ (y : Worked). y .rates ++ drop 240 z₀) w in
+        let x = p ∙ ap (λ (y : Money). Valued (y .figures) (y .verdict)) (reading-money file r e a) in
+        let y = q ∙ ap (λ (y : List ℕ). y ++ drop 240 f₀) (reading-factors file r e a) in
+        let u = t ∙ ap (λ (y : List ℤ). y ++ drop 240 z₀) (reading-rates file r e a) in
         (rw o x, (rw o y, (rw o u, call)))

@@ -1,5 +1,4 @@
 -- Laws that the proofs of the functions cite.
-pub mod Stores
 pub mod Texts
 pub mod Copied
 pub mod Worked

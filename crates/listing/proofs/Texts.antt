@@ -9,9 +9,9 @@ use Rattle.model.specs.declared.figures.Bracket.{Bracket}
 use Rattle.model.specs.declared.figures.Figures.{Figures}
 use Rattle.model.specs.declared.figures.Verdict.{Verdict}
 use Rattle.model.specs.declared.figures.Valuation.the-variants.{Valued}
-use Rattle.listing.specs.Wrote.{Wrote}
-use Rattle.listing.specs.Parts.{spaced, named, worths, firstMargins, lastMargins, judged}
-use Rattle.listing.proofs.Stores.{as-text}
+use Rattle.output.specs.Wrote.{Wrote}
+use Rattle.listing.specs.Parts.{spaced, named, values, firstLosses, lastLosses, judged}
+use Rattle.output.proofs.Stores.{as-text}
 
 line-named : (name : String) (b : Bracket) → named (ascii name) b ≡ line name b
 unfolding spaced named line
@@ -22,6 +22,6 @@ pub as-line : {before : List ℕ} {at r : ℕ} {after : List ℕ} {bytes : List 
     → Wrote before at (named bytes b) 45 r after → Wrote before at (line name b) 45 r after
 as-line name b e p = as-text (ap (λ (n : List ℕ). named n b) e ∙ line-named name b) (omega arith) p
 
-pub joined : (f : Figures) (v : Verdict) → worths f ++ firstMargins f ++ lastMargins f ++ judged v ≡ listing (Valued f v)
-unfolding worths firstMargins lastMargins judged listing
+pub joined : (f : Figures) (v : Verdict) → values f ++ firstLosses f ++ lastLosses f ++ judged v ≡ listing (Valued f v)
+unfolding values firstLosses lastLosses judged listing
 joined f v = simp append-assoc

@@ -1,3 +1,2 @@
 -- What the contracts of `listing` cite beside the definitions of `model`.
-pub mod Wrote
 pub mod Parts

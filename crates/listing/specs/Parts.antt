@@ -15,14 +15,14 @@ unfoldable pub named : List ℕ → Bracket → List ℕ
 named name b = name ++ spaced (b .lower) ++ spaced (b .upper) ++ ascii "\n"
 
 -- L B A, S1 S2 S3, S4 S5 S6 S, and V with the verdict
-unfoldable pub worths : Figures → List ℕ
-worths f = line "L" (f .l) ++ line "B" (f .b) ++ line "A" (f .a)
+unfoldable pub values : Figures → List ℕ
+values f = line "L" (f .l) ++ line "B" (f .b) ++ line "A" (f .a)
 
-unfoldable pub firstMargins : Figures → List ℕ
-firstMargins f = line "S1" (f .s1) ++ line "S2" (f .s2) ++ line "S3" (f .s3)
+unfoldable pub firstLosses : Figures → List ℕ
+firstLosses f = line "S1" (f .s1) ++ line "S2" (f .s2) ++ line "S3" (f .s3)
 
-unfoldable pub lastMargins : Figures → List ℕ
-lastMargins f = line "S4" (f .s4) ++ line "S5" (f .s5) ++ line "S6" (f .s6) ++ line "S" (f .s)
+unfoldable pub lastLosses : Figures → List ℕ
+lastLosses f = line "S4" (f .s4) ++ line "S5" (f .s5) ++ line "S6" (f .s6) ++ line "S" (f .s)
 
 unfoldable pub judged : Verdict → List ℕ
 judged v = ascii "V " ++ word v ++ ascii "\n"

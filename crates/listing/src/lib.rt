@@ -3,39 +3,14 @@ use model::figures::Bracket;
 use model::figures::Figures;
 use model::figures::Valuation;
 use model::figures::Verdict;
+use output::put;
+use output::put_digits;
 ghost use mathlib.Core.Path.{_≡_};
-ghost use Prim.Native.Nat.{_+_, _^_, _≤_, _<_};
+ghost use Prim.Native.Nat.{_+_, _≤_};
 ghost use lib.ListN.{length, take};
-ghost use Rattle.model.specs.Listing.{digits, word, listing, listingAfter, listingLength};
-ghost use Rattle.listing.specs.Wrote.{Wrote};
-ghost use Rattle.listing.specs.Parts.{spaced, named, worths, firstMargins, lastMargins, judged};
-
-// Stores text from at on, and answers the place after it.
-fn put(buf: &mut [u8], at: usize, text: &[u8]) -> usize
-    requires { ⌜ at + length (now text) ≤ length (now buf) ⌝ }
-    ensures { λ r. ⌜ Wrote (now (buf .entry)) at (now (text .entry)) (length (now (text .entry))) r (now (buf .exit)) ⌝ }
-{
-    let mut i = 0;
-    while i < text.len() {
-        buf[at + i] = text[i];
-        i += 1;
-    }
-    at + i
-}
-
-// Stores the digits of n, at most k, from at on.
-fn put_digits(buf: &mut [u8], at: usize, k: u64, n: u64) -> usize
-    requires { ⌜ (at + k ≤ length (now buf)) × (n < 10 ^ k) × (0 < k) ⌝ }
-    ensures { λ r. ⌜ Wrote (now (buf .entry)) at (digits k n) k r (now (buf .exit)) ⌝ }
-{
-    if n < 10 {
-        buf[at] = 48 + n as u8;
-        return at + 1;
-    }
-    let at_last = put_digits(buf, at, k - 1, n / 10);
-    buf[at_last] = 48 + (n % 10) as u8;
-    at_last + 1
-}
+ghost use Rattle.model.specs.Listing.{word, listing, listingAfter, listingLength};
+ghost use Rattle.output.specs.Wrote.{Wrote};
+ghost use Rattle.listing.specs.Parts.{spaced, named, values, firstLosses, lastLosses, judged};
 
 // A space and a number.
 fn put_number(buf: &mut [u8], at: usize, n: u64) -> usize
@@ -58,9 +33,9 @@ fn put_line(buf: &mut [u8], at: usize, name: &[u8], b: Bracket) -> usize
 }
 
 // The lines of L, B and A.
-fn put_worths(buf: &mut [u8], at: usize, f: Figures) -> usize
+fn put_values(buf: &mut [u8], at: usize, f: Figures) -> usize
     requires { ⌜ at + 135 ≤ length (now buf) ⌝ }
-    ensures { λ r. ⌜ Wrote (now (buf .entry)) at (worths f) 135 r (now (buf .exit)) ⌝ }
+    ensures { λ r. ⌜ Wrote (now (buf .entry)) at (values f) 135 r (now (buf .exit)) ⌝ }
 {
     let at_b = put_line(buf, at, b"L", f.l);
     let at_a = put_line(buf, at_b, b"B", f.b);
@@ -68,9 +43,9 @@ fn put_worths(buf: &mut [u8], at: usize, f: Figures) -> usize
 }
 
 // The lines of S1, S2 and S3.
-fn put_first_margins(buf: &mut [u8], at: usize, f: Figures) -> usize
+fn put_first_losses(buf: &mut [u8], at: usize, f: Figures) -> usize
     requires { ⌜ at + 135 ≤ length (now buf) ⌝ }
-    ensures { λ r. ⌜ Wrote (now (buf .entry)) at (firstMargins f) 135 r (now (buf .exit)) ⌝ }
+    ensures { λ r. ⌜ Wrote (now (buf .entry)) at (firstLosses f) 135 r (now (buf .exit)) ⌝ }
 {
     let at_s2 = put_line(buf, at, b"S1", f.s1);
     let at_s3 = put_line(buf, at_s2, b"S2", f.s2);
@@ -78,9 +53,9 @@ fn put_first_margins(buf: &mut [u8], at: usize, f: Figures) -> usize
 }
 
 // The lines of S4, S5, S6 and S.
-fn put_last_margins(buf: &mut [u8], at: usize, f: Figures) -> usize
+fn put_last_losses(buf: &mut [u8], at: usize, f: Figures) -> usize
     requires { ⌜ at + 180 ≤ length (now buf) ⌝ }
-    ensures { λ r. ⌜ Wrote (now (buf .entry)) at (lastMargins f) 180 r (now (buf .exit)) ⌝ }
+    ensures { λ r. ⌜ Wrote (now (buf .entry)) at (lastLosses f) 180 r (now (buf .exit)) ⌝ }
 {
     let at_s5 = put_line(buf, at, b"S4", f.s4);
     let at_s6 = put_line(buf, at_s5, b"S5", f.s5);
@@ -116,9 +91,9 @@ fn put_valued(buf: &mut [u8], f: Figures, v: Verdict) -> usize
     requires { ⌜ 512 ≤ length (now buf) ⌝ }
     ensures { λ r. ⌜ Wrote (now (buf .entry)) 0 (listing (Valuation.Valued f v)) 512 r (now (buf .exit)) ⌝ }
 {
-    let at_s1 = put_worths(buf, 0, f);
-    let at_s4 = put_first_margins(buf, at_s1, f);
-    let at_verdict = put_last_margins(buf, at_s4, f);
+    let at_s1 = put_values(buf, 0, f);
+    let at_s4 = put_first_losses(buf, at_s1, f);
+    let at_verdict = put_last_losses(buf, at_s4, f);
     put_verdict(buf, at_verdict, v)
 }
 
@@ -143,8 +118,8 @@ fn put_valuation(buf: &mut [u8], v: Valuation) -> usize
     }
 }
 
-// Writes the listing of a valuation to the front of a buffer, and answers its length. The text stands in
-// an array of its own first, so that a buffer that is too short is left alone; then the answer is 0.
+// Writes the listing of a valuation to the front of a buffer, and answers its length. It is first written into an array, so
+// that a buffer that is too short is left alone; then the answer is 0.
 pub fn write_listing(v: Valuation, out: &mut [u8]) -> usize
     ensures count { λ r. ⌜ r ≡ listingLength v (length (now (out .entry))) ⌝ }
     ensures text { λ _. ⌜ now (out .exit) ≡ listingAfter v (now (out .entry)) ⌝ }

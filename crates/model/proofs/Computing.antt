@@ -37,7 +37,8 @@ use Rattle.model.specs.Refusals.{
   refusal,
   ratesPart,
 }
-use Rattle.model.specs.Curve.{movedSum, curve, P}
+use Rattle.model.specs.Brackets.{largest, smallest}
+use Rattle.model.specs.Curve.{movedSum, curve, P, weight, weights}
 use Rattle.model.specs.Exact as Exact
 use Rattle.model.specs.Rounded as Rounded
 use Rattle.model.specs.Margins.{weightedSum}
@@ -62,8 +63,8 @@ unfolding
     fileMap daysAt dayCount pensionAt pensionCount bondsAt bondCount amountsAt shocksAt peopleAt endAt daysOf caseOf
     firstOf mapChecks ufrChecks daysChecks flowsChecks amountsChecks shocksChecks peopleChecks endChecks checks refusal ratesPart
     movedSum curve P
-    Exact.weights Exact.weight Exact.G Exact.weighed Exact.growth Exact.product Exact.factor Exact.worth Exact.judge
-    Rounded.scaled Rounded.growth Rounded.weighed Rounded.factor Rounded.largest Rounded.smallest Rounded.rateOf Rounded.worth Rounded.judge
+    weights weight Exact.G Exact.weighed Exact.growth Exact.product Exact.factor Exact.worth Exact.judge
+    Rounded.scaled Rounded.growth Rounded.weighed Rounded.factor largest smallest Rounded.rateOf Rounded.worth Rounded.judge
     divide root rootOfDigits size
     weightedSum valuationRefusal byTerm factorEntries rateEntries factorsAfter ratesAfter valuationOf windowPoint
     ascii digits decimal word line listing

@@ -1,6 +1,7 @@
 -- Statements about the definitions of specs/ that are computed: each number here is worked out by the definitions themselves. The theorems
 -- are in the crate `theory`, and what takes long to compute is in the crate `pinned`.
 pub mod Computing
+pub mod Changed
 pub mod Worked
 pub mod Refused
 pub mod Pinned

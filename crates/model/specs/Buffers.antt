@@ -6,6 +6,7 @@ use lib.Dec.{leb}
 use lib.ListN.{length, getD, drop}
 use lib.IntN.{ℤ, pos}
 use Rattle.arith.specs.Rounding.{End, low, high}
+use Rattle.model.specs.Constants.{lastTerm}
 use Rattle.model.specs.Case.{FileCase}
 use Rattle.model.specs.Reading.{caseOf}
 use Rattle.model.specs.Refusals.{firstOf, checks}
@@ -37,10 +38,10 @@ abbrev pub rateEntryOf : List ℤ → End → ℕ → ℤ
 rateEntryOf = entryOr (pos 0)
 
 unfoldable pub factorEntries : FileCase → List ℕ
-factorEntries k = byTerm (Rounded.factor (curve k base)) 120
+factorEntries k = byTerm (Rounded.factor (curve k base)) lastTerm
 
 unfoldable pub rateEntries : FileCase → List ℤ
-rateEntries k = byTerm (Rounded.zeroRate (curve k base)) 120
+rateEntries k = byTerm (Rounded.zeroRate (curve k base)) lastTerm
 
 -- "into entries 0 to 239; later entries keep their content"; "A refusal .. changes nothing lent."
 abbrev pub written : {A : Type 0} → ℕ → List A → List A → List A

@@ -31,6 +31,40 @@ noAmounts = record {
   currency = 0;
 }
 
+-- The same case with another UFR, with other days, with other pension flows.
+abbrev pub withUfr : ℕ → FileCase → FileCase
+withUfr ufr k = record {
+  ufr = ufr;
+  days = k .days;
+  pension = k .pension;
+  bonds = k .bonds;
+  amounts = k .amounts;
+  shocks = k .shocks;
+  people = k .people;
+}
+
+abbrev pub withDays : List (List ℤ) → FileCase → FileCase
+withDays days k = record {
+  ufr = k .ufr;
+  days = days;
+  pension = k .pension;
+  bonds = k .bonds;
+  amounts = k .amounts;
+  shocks = k .shocks;
+  people = k .people;
+}
+
+abbrev pub withPension : List ℕ → FileCase → FileCase
+withPension flows k = record {
+  ufr = k .ufr;
+  days = k .days;
+  pension = flows;
+  bonds = k .bonds;
+  amounts = k .amounts;
+  shocks = k .shocks;
+  people = k .people;
+}
+
 -- "s(t) the sum of term t's rates over the days and s(0) = 0"
 unfoldable pub s : List (List ℤ) → ℕ → ℤ
 s days zero = pos 0

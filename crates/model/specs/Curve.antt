@@ -1,7 +1,8 @@
 -- The curve that a case is valued on: the base curve, and the up and the down curve (document 01, 'The exact working' and 'The rounded
 -- working', whose curves are those of the DNB note of 2012, source document 001, step 2: the mean over the days).
-use Prim.Native.Nat.{ℕ, zero, suc, _*_}
-use lib.ListN.{length}
+use Prim.Native.Nat.{ℕ, zero, suc, _*_, _-_}
+use mathlib.Core.List.{List, [], _∷_}
+use lib.ListN.{length, getD}
 use lib.IntN.{ℤ, pos, negsuc, negℤ, _+ℤ_, _*ℤ_}
 use Rattle.model.specs.Constants.{stepsPerOne}
 use Rattle.model.specs.Case.{FileCase, s}
@@ -51,3 +52,17 @@ natural (negsuc n) = 0
 -- "P(t) = N + s(t)": 1 + R(t) is P(t) ÷ N
 unfoldable pub P : Curve → ℕ → ℕ
 P c t = natural (pos (c .N) +ℤ c .sum t)
+
+-- "Weights w in thousandths, 21 to 60": how much the UFR counts in the adjusted growth of a term. They are those of the DNB note of 2012
+-- (source document 001, the table of fixed weights under step 4), and the same for every fund.
+unfoldable pub weights : List ℕ
+weights =
+    86 ∷ 186 ∷ 274 ∷ 351 ∷ 420 ∷ 481 ∷ 536 ∷ 584 ∷ 628 ∷ 666
+    ∷ 701 ∷ 732 ∷ 760 ∷ 785 ∷ 808 ∷ 828 ∷ 846 ∷ 863 ∷ 878 ∷ 891
+    ∷ 903 ∷ 914 ∷ 923 ∷ 932 ∷ 940 ∷ 947 ∷ 954 ∷ 960 ∷ 965 ∷ 970
+    ∷ 974 ∷ 978 ∷ 982 ∷ 985 ∷ 988 ∷ 990 ∷ 993 ∷ 995 ∷ 997 ∷ 998
+    ∷ []
+
+-- w of a term from 21 to 60; no other term has a weight, and none is asked for
+unfoldable pub weight : ℕ → ℕ
+weight t = getD weights (t - 21) 0

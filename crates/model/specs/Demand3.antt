@@ -7,13 +7,13 @@ use mathlib.Core.Logic.{_≢_, _⊎_}
 use lib.IntN.{ℤ, pos, negℤ, _+ℤ_}
 use lib.Signed.{_≤ℤ_, _<ℤ_}
 use Rattle.arith.specs.Rounding.{End, low, high}
-use Rattle.model.specs.Constants.{stepsPerOne, unit}
+use Rattle.model.specs.Constants.{stepsPerOne, unit, lastMarketTerm, lastTerm}
 use Rattle.model.specs.Fraction.{Fraction, _//_, _*ᶠ_, _^ᶠ_, whole, Real, _≤ᶠ_}
 use Rattle.model.specs.Case.{FileCase}
 use Rattle.model.specs.Limits.{Between}
 use Rattle.model.specs.Curve.{Move, base, curve, natural, P}
 use Rattle.model.specs.Exact as Exact
-use Rattle.model.specs.Rounded.{endOf}
+use Rattle.model.specs.Brackets.{endOf}
 use Rattle.model.specs.Margins.{WL, WB, NearFirst, NearSecond, firstMargin, secondMargin}
 use Rattle.model.specs.declared.figures.Bracket.{Bracket}
 use Rattle.model.specs.declared.figures.Figures.{Figures}
@@ -28,10 +28,6 @@ pub record Given : Type 0 where
   pub rate : End → ℕ → ℤ
 
 -- ---- the demand's own numbers
--- "the factor and the zero rate of every term from 1 to 120"
-abbrev pub lastTerm : ℕ
-lastTerm = 120
-
 -- "Zero rate: test steps z from -2,000 to 20,000."
 abbrev pub leastStep : ℤ
 leastStep = negℤ (pos 2000)
@@ -101,7 +97,7 @@ pub record Demand3 (k : FileCase) (given : Given) : Type 0 where
   pub productReal : (m : Move) (t : ℕ) → t ≤ lastTerm → (0 < Exact.product (curve k m) t .num) × Real (Exact.product (curve k m) t)
   pub valueReal : (m : Move) → Real (Exact.L k m) × Real (Exact.B k m)
   -- "P(t) = N + s(t), where a shift adds or takes n × shift": as integers, on every curve, so that no P(t) is cut off at 0
-  pub PUncut : (m : Move) (t : ℕ) → t ≤ 60 → pos (P (curve k m) t) ≡ pos (curve k m .N) +ℤ curve k m .sum t
+  pub PUncut : (m : Move) (t : ℕ) → t ≤ lastMarketTerm → pos (P (curve k m) t) ≡ pos (curve k m .N) +ℤ curve k m .sum t
   -- both zero rates of every term are steps from -2,000 to 20,000, and so above -1
   pub rateFound : (e : End) (t : ℕ) → 1 ≤ t → t ≤ lastTerm → Between leastStep mostStep (given .rate e t)
   -- "Then each exact figure lies in its bracket: the factor and the zero rate of every term from 1 to 120, L, B, A, S1 to S6 and S."

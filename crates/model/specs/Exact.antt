@@ -4,26 +4,12 @@ use Prim.Native.Nat.{ℕ, zero, suc, _+_, _*_, _-_}
 use mathlib.Core.Bool.{cond}
 use mathlib.Core.List.{List, [], _∷_}
 use lib.Dec.{leb}
-use lib.ListN.{getD}
-use Rattle.model.specs.Constants.{stepsPerOne}
+use Rattle.model.specs.Constants.{stepsPerOne, lastUnweighedTerm, lastMarketTerm}
 use Rattle.model.specs.Fraction.{Fraction, _//_, _+ᶠ_, _∸ᶠ_, _*ᶠ_, _÷ᶠ_, _^ᶠ_, square, whole, less, larger}
 use Rattle.model.specs.Case.{FileCase, allExceptCurrency, ageGap}
-use Rattle.model.specs.Curve.{Curve, Move, base, up, down, curve, P}
+use Rattle.model.specs.Curve.{Curve, Move, base, up, down, curve, P, weight}
 use Rattle.model.specs.declared.figures.Verdict.{Verdict}
 use Rattle.model.specs.declared.figures.Verdict.the-variants.{Dekkingstekort, Reservetekort, VrijVermogen}
-
--- "Weights w in thousandths, 21 to 60"
-unfoldable pub weights : List ℕ
-weights =
-    86 ∷ 186 ∷ 274 ∷ 351 ∷ 420 ∷ 481 ∷ 536 ∷ 584 ∷ 628 ∷ 666
-    ∷ 701 ∷ 732 ∷ 760 ∷ 785 ∷ 808 ∷ 828 ∷ 846 ∷ 863 ∷ 878 ∷ 891
-    ∷ 903 ∷ 914 ∷ 923 ∷ 932 ∷ 940 ∷ 947 ∷ 954 ∷ 960 ∷ 965 ∷ 970
-    ∷ 974 ∷ 978 ∷ 982 ∷ 985 ∷ 988 ∷ 990 ∷ 993 ∷ 995 ∷ 997 ∷ 998
-    ∷ []
-
--- w of a term from 21 to 60; no other term has a weight, and none is asked for
-unfoldable pub weight : ℕ → ℕ
-weight t = getD weights (t - 21) 0
 
 -- 1 + R(t), where R(t) = s(t) ÷ (100,000 × n); and 1 + UFR
 abbrev pub onePlusR : Curve → ℕ → Fraction
@@ -42,7 +28,7 @@ weighed c t = ((1000 - weight t) // 1000) *ᶠ G c t +ᶠ (weight t // 1000) *�
 
 -- "the adjusted growth is G(t) up to 20, .. for 21 to 60, and 1 + UFR for 61 to 120"
 unfoldable pub growth : Curve → ℕ → Fraction
-growth c t = cond (leb t 20) (G c t) (cond (leb t 60) (weighed c t) (onePlusUfr c))
+growth c t = cond (leb t lastUnweighedTerm) (G c t) (cond (leb t lastMarketTerm) (weighed c t) (onePlusUfr c))
 
 -- "the product of growths 1 to t". The zero rate is "the number above -1 whose (1 + rate)^t is that product".
 unfoldable pub product : Curve → ℕ → Fraction

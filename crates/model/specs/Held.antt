@@ -12,11 +12,11 @@ use Rattle.model.specs.declared.case.Case.{Case}
 abbrev pub padded : ℕ → List ℕ → List ℕ
 padded n xs = table (λ i. getD xs i 0) n
 
--- of the days, their number and P(t) of the terms 1 to 60; of the flows, their number and room for the most that there can be
+-- of the days, P(t) of the terms 1 to 60 and what one step adds to it, n; of the flows, their number and room for the most that there can be
 unfoldable pub held : FileCase → Case
 held k = record {
   ufr = k .ufr;
-  days = length (k .days);
+  «per_step» = length (k .days);
   sums = table (λ i. P (curve k base) (suc i)) 60;
   «pension_count» = length (k .pension);
   pension = padded 120 (k .pension);
@@ -31,7 +31,7 @@ held k = record {
 unfoldable pub defaultCase : Case
 defaultCase = record {
   ufr = defaultUfr;
-  days = 0;
+  «per_step» = 0;
   sums = replicate 60 0;
   «pension_count» = 0;
   pension = replicate 120 0;

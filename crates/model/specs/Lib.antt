@@ -7,6 +7,7 @@ pub mod Layout
 pub mod Reading
 pub mod Refusals
 pub mod Fraction
+pub mod Brackets
 pub mod Curve
 pub mod CurveWithin
 pub mod Held

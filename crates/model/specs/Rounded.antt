@@ -7,14 +7,13 @@ use lib.Dec.{leb, ltb}
 use lib.IntN.{ℤ, pos, _-ℤ_}
 use Rattle.arith.specs.Rounding.{End, low, high, other, divide}
 use Rattle.arith.specs.Root.{root}
-use Rattle.model.specs.Constants.{stepsPerOne, unit}
+use Rattle.model.specs.Constants.{stepsPerOne, unit, lastUnweighedTerm, lastMarketTerm}
 use Rattle.model.specs.Case.{FileCase, allExceptCurrency, ageGap}
-use Rattle.model.specs.Curve.{Curve, Move, base, up, down, curve, P}
-use Rattle.model.specs.Exact.{weight}
+use Rattle.model.specs.Brackets.{bracket, largest, smallest}
+use Rattle.model.specs.Curve.{Curve, Move, base, up, down, curve, P, weight}
 use Rattle.model.specs.declared.case.Amounts.{Amounts}
 use Rattle.model.specs.declared.case.Shocks.{Shocks}
 use Rattle.model.specs.declared.case.People.{People}
-use Rattle.model.specs.declared.figures.Bracket.{Bracket}
 use Rattle.model.specs.declared.figures.Figures.{Figures}
 use Rattle.model.specs.declared.figures.Verdict.{Verdict}
 use Rattle.model.specs.declared.figures.Verdict.the-variants.{Dekkingstekort, Reservetekort, VrijVermogen, Onbeslist}
@@ -39,13 +38,13 @@ ufrGrowth c = unit + c .ufr * 10 ^ 7
 -- "Terms 21 to 60: weigh the growth with 10^12 + UFR × 10^7, ÷ 1,000 .. From 61: the UFR growth."
 unfoldable pub weighed : Curve → End → ℕ → ℕ
 weighed c e t =
-    cond (leb t 60) (divide e ((1000 - weight t) * growth c e t + weight t * ufrGrowth c) 1000) (ufrGrowth c)
+    cond (leb t lastMarketTerm) (divide e ((1000 - weight t) * growth c e t + weight t * ufrGrowth c) 1000) (ufrGrowth c)
 
 -- "Factor, t to 20: from 10^12, t times × N ÷ P(t)."; then "new lower factor = old lower × 10^12 ÷ upper growth, and crosswise"
 unfoldable pub factor : Curve → End → ℕ → ℕ
 factor c e zero = unit
 factor c e (suc t) =
-    cond (leb (suc t) 20)
+    cond (leb (suc t) lastUnweighedTerm)
     (scaled e (c .N) (P c (suc t)) (suc t))
     (divide e (factor c e t * unit) (weighed c (other e) (suc t)))
 
@@ -63,15 +62,6 @@ lowerTest factor t i = leb (factor high t) (tested low t i)
 
 abbrev pub upperTest : (End → ℕ → ℕ) → ℕ → ℕ → Bool
 upperTest factor t i = leb (tested high t i) (factor low t)
-
--- the largest index below n that passes, and the smallest of the n indices from i on; `none` where none passes
-unfoldable pub largest : (ℕ → Bool) → ℕ → ℕ → ℕ
-largest test zero none = none
-largest test (suc n) none = let r = largest test n none in cond (test n) n r
-
-unfoldable pub smallest : (ℕ → Bool) → ℕ → ℕ → ℕ → ℕ
-smallest test i zero none = none
-smallest test i (suc n) none = let r = smallest test (suc i) n none in cond (test i) i r
 
 -- "Lower rate: the largest z .. Upper rate: the smallest z ..". Where no step passes, it is 20,001, which is no step; that both
 -- rates of an accepted file's base curve are steps is part of demand 3.
@@ -146,14 +136,6 @@ judge a l s =
     (cond (ltb (a high) (l low + s low)) Reservetekort
     (cond (leb (l high + s high) (a low)) VrijVermogen Onbeslist))
     Onbeslist)
-
--- a bracket from its ends, and an end of a bracket
-abbrev pub bracket : (End → ℕ) → Bracket
-bracket figure = record { lower = figure low; upper = figure high }
-
-abbrev pub endOf : Bracket → End → ℕ
-endOf b low = b .lower
-endOf b high = b .upper
 
 -- the ten brackets, and the verdict
 abbrev pub figuresOf : (Move → End → ℕ) → (Move → End → ℕ) → Amounts → Shocks → People → Figures

@@ -6,7 +6,7 @@ use lib.Dec.{leb}
 use lib.IntN.{pos}
 use lib.Ieee.{Float, binary64, ofInt}
 use lib.ListN.{length, getD}
-use Rattle.model.specs.Rounded.{bracket}
+use Rattle.model.specs.Brackets.{bracket}
 use Rattle.model.specs.Buffers.{entryOf}
 use Rattle.model.specs.declared.figures.Bracket.{Bracket}
 use Rattle.model.specs.declared.figures.Figures.{Figures}

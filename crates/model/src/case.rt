@@ -1,4 +1,4 @@
-// The case as the engine holds it: of the days it keeps their number and the sums of each term.
+// The case as the engine holds it: of the days it keeps the sums of each term, and what one rate step adds to a sum.
 ghost use mathlib.Core.Path.{_≡_};
 ghost use Rattle.model.specs.Held.{defaultCase};
 
@@ -38,11 +38,12 @@ pub struct People {
     pub mean_age: u64,
 }
 
-// `sums` has P(t) of the terms 1 to 60: over the days, the sum of 100,000 and the rate in steps.
+// `sums` has P(t) of the terms 1 to 60: over the days, the sum of 100,000 and the rate in steps. `per_step` is what one rate step
+// adds to such a sum: it is added once a day, so it is the number of days. N, which is 1 in these units, is 100,000 times that.
 // Of `pension` and `bonds` the first `pension_count` and `bond_count` are flows, and the rest is 0.
 pub struct Case {
     pub ufr: u64,
-    pub days: u64,
+    pub per_step: u64,
     pub sums: [u64; 60],
     pub pension_count: usize,
     pub pension: [u64; 120],
@@ -62,6 +63,15 @@ impl Case {
 
     // The number of units in a factor or a growth of 1: a unit is 10^-12.
     pub const UNIT: u64 = 1_000_000_000_000;
+
+    // The last term whose growth is the market's own, with no weight of the UFR.
+    pub const LAST_UNWEIGHED_TERM: usize = 20;
+
+    // The last term that a file has rates of. From the next on the growth is the UFR's.
+    pub const LAST_MARKET_TERM: usize = 60;
+
+    // The last term that has a factor and a zero rate.
+    pub const LAST_TERM: usize = 120;
 
     // The case with the default UFR and 0 in every other field.
     pub fn default() -> Case
@@ -98,7 +108,7 @@ impl Case {
         };
         Case {
             ufr: Case::DEFAULT_UFR,
-            days: 0,
+            per_step: 0,
             sums: [0; 60],
             pension_count: 0,
             pension: [0; 120],

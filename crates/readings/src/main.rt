@@ -62,7 +62,7 @@ fn print_case(c: Case) {
     let shocks = c.shocks;
     let people = c.people;
     print_number(c.ufr);
-    print_number(c.days);
+    print_number(c.per_step);
     print_numbers(&sums);
     print_number(c.pension_count as u64);
     print_numbers(&pension);

@@ -13,7 +13,8 @@ use lib.Seq.{take-suc, length-take-le}
 use Rattle.arith.specs.Range.{InRange}
 use Rattle.arith.specs.Rounding.{End, low, high, divide}
 use Rattle.arith.proofs.Rounding.{divide-le}
-use Rattle.model.specs.Rounded.{bracket, worth}
+use Rattle.model.specs.Rounded.{worth}
+use Rattle.model.specs.Brackets.{bracket}
 use Rattle.model.specs.declared.figures.Bracket.{Bracket}
 use Rattle.solvency.specs.Ranges.{FactorsFit}
 

@@ -1,4 +1,3 @@
-pub mod TwoEnds
 pub mod Flows
 pub mod Products
 pub mod Same

@@ -6,7 +6,8 @@ use Rattle.arith.specs.Rounding.{End}
 use Rattle.model.specs.Curve.{base}
 use Rattle.model.specs.Limits.{AmountsWithin}
 use Rattle.model.specs.Rounded as Rounded
-use Rattle.model.specs.Rounded.{bracket, endOf, judge, figuresOf, verdictOf, bufferOf, interestLoss, equityLoss, currencyLoss, commodityLoss, creditLoss, mortalityLoss}
+use Rattle.model.specs.Rounded.{judge, figuresOf, verdictOf, bufferOf, interestLoss, equityLoss, currencyLoss, commodityLoss, creditLoss, mortalityLoss}
+use Rattle.model.specs.Brackets.{bracket, endOf}
 use Rattle.model.specs.declared.case.Amounts.{Amounts}
 use Rattle.model.specs.declared.case.Shocks.{Shocks}
 use Rattle.model.specs.declared.case.People.{People}
@@ -16,7 +17,7 @@ use Rattle.model.specs.declared.figures.Verdict.{Verdict}
 use Rattle.solvency.specs.OnCurves.{on, moneyOf}
 use Rattle.solvency.specs.Ranges.{UpTo, WorthFits}
 use Rattle.solvency.specs.declared.worth.Worths.{Worths}
-use Rattle.solvency.specs.declared.buffer.Money.{Money}
+use Rattle.solvency.specs.declared.figures.Money.{Money}
 
 pub figures-are : (l b : Worths) (a : Amounts) (x : Shocks) (p : People) (assets s1 s2 s3 s4 s5 s6 s : Bracket)
     → assets ≡ bracket (Rounded.assets (endOf (b .base)) a)

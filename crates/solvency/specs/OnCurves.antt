@@ -3,13 +3,14 @@ use Prim.Native.Nat.{ℕ}
 use mathlib.Core.List.{List}
 use Rattle.arith.specs.Rounding.{End}
 use Rattle.model.specs.Curve.{Move, base, up, down}
-use Rattle.model.specs.Rounded.{bracket, endOf, figuresOf, verdictOf}
+use Rattle.model.specs.Rounded.{figuresOf, verdictOf}
+use Rattle.model.specs.Brackets.{bracket, endOf}
 use Rattle.model.specs.declared.case.Amounts.{Amounts}
 use Rattle.model.specs.declared.case.Shocks.{Shocks}
 use Rattle.model.specs.declared.case.People.{People}
 use Rattle.solvency.specs.declared.worth.Curves.{Curves}
 use Rattle.solvency.specs.declared.worth.Worths.{Worths}
-use Rattle.solvency.specs.declared.buffer.Money.{Money}
+use Rattle.solvency.specs.declared.figures.Money.{Money}
 
 abbrev pub on : Worths → Move → End → ℕ
 on w base = endOf (w .base)

@@ -1,36 +1,15 @@
-// The root buffer S, all ten figures, and the verdict.
+// The root buffer S.
 ghost use mathlib.Core.Path.{_≡_};
 ghost use Prim.Native.Nat.{_+_, _*_, _^_, _≤_, _<_};
 ghost use Rattle.arith.specs.Value.{val};
-ghost use Rattle.model.specs.Limits.{AmountsWithin, ShocksWithin, PeopleWithin};
+ghost use Rattle.model.specs.Brackets.{bracket, endOf};
 ghost use Rattle.model.specs.Rounded as Rounded;
-ghost use Rattle.model.specs.Rounded.{bracket, judge, endOf, figuresOf};
-ghost use Rattle.solvency.specs.OnCurves.{on, moneyOf};
-ghost use Rattle.solvency.specs.Ranges.{UpTo, LossFits, WorthsFit, SixFit, Judgeable};
-use super::assets::assets;
-use super::assets::s1;
-use super::losses::s2;
-use super::losses::s3;
-use super::losses::s4;
-use super::losses::s5;
-use super::losses::s6;
+ghost use Rattle.solvency.specs.Ranges.{UpTo, LossFits, SixFit};
 use super::roots::roots;
-use super::worth::Worths;
 use arith::digits::Wide;
 use arith::digits::product;
 use arith::digits::sum;
-use model::case::Amounts;
-use model::case::People;
-use model::case::Shocks;
 use model::figures::Bracket;
-use model::figures::Figures;
-use model::figures::Verdict;
-
-// The figures and the verdict.
-pub struct Money {
-    pub figures: Figures,
-    pub verdict: Verdict,
-}
 
 // 1,000 times two squares.
 fn two_squares(a: u64, b: u64) -> Wide
@@ -56,9 +35,9 @@ fn squares(c: u64, s1: u64, s2: u64, s3: u64, s4: u64, s5: u64, s6: u64) -> Wide
     let second = two_squares(s3, s4);
     let third = two_squares(s5, s6);
     let correlated = product(twice, s1, s2);
-    let upper = sum(first, second);
-    let lower = sum(third, correlated);
-    sum(upper, lower)
+    let first_four = sum(first, second);
+    let others = sum(third, correlated);
+    sum(first_four, others)
 }
 
 // S: the root of the sum of squares, rounded at both ends.
@@ -96,68 +75,4 @@ pub fn buffer(
         s6.upper,
     );
     roots(least, most, 1000)
-}
-
-// The verdict, from the ends of A, L and S.
-pub fn verdict_of(a: Bracket, l: Bracket, s: Bracket) -> Verdict
-    requires { ⌜ Judgeable a l s ⌝ }
-    ensures { λ r. ⌜ r ≡ judge (endOf a) (endOf l) (endOf s) ⌝ }
-{
-    if 20 * a.upper < 21 * l.lower {
-        return Verdict::Dekkingstekort;
-    }
-    if 20 * a.lower < 21 * l.upper {
-        return Verdict::Onbeslist;
-    }
-    if a.upper < l.lower + s.lower {
-        return Verdict::Reservetekort;
-    }
-    if l.upper + s.upper <= a.lower {
-        return Verdict::VrijVermogen;
-    }
-    Verdict::Onbeslist
-}
-
-// All ten figures, from the worth of the pension flows and the bonds on the three curves.
-pub fn figures(l: Worths, b: Worths, a: Amounts, x: Shocks, p: People) -> Figures
-    requires { ⌜ WorthsFit l × WorthsFit b × AmountsWithin a × ShocksWithin x × PeopleWithin p ⌝ }
-    ensures { λ r. ⌜ r ≡ figuresOf (on l) (on b) a x p ⌝ }
-    ensures bound { λ r. ⌜ Judgeable (r .a) (r .l) (r .s) ⌝ }
-{
-    let owed = l.base;
-    let bonds = b.base;
-    let invested = assets(bonds, a);
-    let first = s1(l, b);
-    let second = s2(a, x);
-    let third = s3(a, x);
-    let fourth = s4(a, x);
-    let fifth = s5(a, x);
-    let sixth = s6(owed, p);
-    let correlation = x.correlation;
-    let root = buffer(correlation, first, second, third, fourth, fifth, sixth);
-    Figures {
-        l: owed,
-        b: bonds,
-        a: invested,
-        s1: first,
-        s2: second,
-        s3: third,
-        s4: fourth,
-        s5: fifth,
-        s6: sixth,
-        s: root,
-    }
-}
-
-// The figures and the verdict by them.
-pub fn money_by(l: Worths, b: Worths, a: Amounts, x: Shocks, p: People) -> Money
-    requires { ⌜ WorthsFit l × WorthsFit b × AmountsWithin a × ShocksWithin x × PeopleWithin p ⌝ }
-    ensures { λ r. ⌜ r ≡ moneyOf (on l) (on b) a x p ⌝ }
-{
-    let all = figures(l, b, a, x, p);
-    let verdict = verdict_of(all.a, all.l, all.s);
-    Money {
-        figures: all,
-        verdict,
-    }
 }

@@ -1,17 +1,15 @@
-// S2 to S6: the losses on equity and property, currency, commodities and credit, and the mortality margin.
+// S2 to S5: the losses on equity and property, currency, commodities and credit.
 ghost use mathlib.Core.Path.{_≡_};
-ghost use Prim.Native.Nat.{_+_, _-_, _*_, _^_, _≤_, _<_};
+ghost use Prim.Native.Nat.{_*_, _^_, _≤_};
 ghost use Rattle.arith.specs.Rounding.{divide};
-ghost use Rattle.model.specs.Case.{ageGap};
-ghost use Rattle.model.specs.Limits.{AmountsWithin, ShocksWithin, PeopleWithin};
-ghost use Rattle.model.specs.Rounded.{bracket, endOf, equityLoss, currencyLoss, commodityLoss, creditLoss, mortalityLoss};
-ghost use Rattle.solvency.specs.Ranges.{WorthFits, LossFits};
-use super::roots::roots;
+ghost use Rattle.model.specs.Limits.{AmountsWithin, ShocksWithin};
+ghost use Rattle.model.specs.Rounded.{equityLoss, currencyLoss, commodityLoss, creditLoss};
+ghost use Rattle.model.specs.Brackets.{bracket};
+ghost use Rattle.solvency.specs.Ranges.{LossFits};
 use arith::digits::product;
 use arith::halving::quotient_ceil;
 use arith::halving::quotient_floor;
 use model::case::Amounts;
-use model::case::People;
 use model::case::Shocks;
 use model::figures::Bracket;
 
@@ -80,30 +78,4 @@ pub fn s5(a: Amounts, x: Shocks) -> Bracket
     let lower = quotient_floor(cents, 1_000_000_000);
     let upper = quotient_ceil(cents, 1_000_000_000);
     Bracket { lower, upper }
-}
-
-// The months by which the pension age exceeds the mean age, or 0.
-fn age_gap(p: People) -> u64
-    ensures { λ r. ⌜ r ≡ ageGap p ⌝ }
-{
-    if p.mean_age < p.pension_age {
-        p.pension_age - p.mean_age
-    } else {
-        0
-    }
-}
-
-// S6: the liabilities times the root of TSO² + NSA², by document 01's fraction.
-pub fn s6(l: Bracket, p: People) -> Bracket
-    requires { ⌜ WorthFits l × PeopleWithin p ⌝ }
-    ensures { λ r. ⌜ r ≡ bracket (mortalityLoss (endOf l) p) ⌝ }
-    ensures bound { λ r. ⌜ LossFits r ⌝ }
-{
-    let gap = age_gap(p);
-    let g = 320 + 3 * gap;
-    let k = p.heads * (g * g) + 92_160_000;
-    let d = 256_000_000 * p.heads;
-    let least = product(l.lower, l.lower, k);
-    let most = product(l.upper, l.upper, k);
-    roots(least, most, d)
 }

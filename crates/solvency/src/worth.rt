@@ -2,7 +2,8 @@
 ghost use Rattle.model.specs.Buffers.{entryOf};
 ghost use mathlib.Core.Path.{_≡_};
 ghost use lib.ListN.{take};
-ghost use Rattle.model.specs.Rounded.{bracket, worth};
+ghost use Rattle.model.specs.Rounded.{worth};
+ghost use Rattle.model.specs.Brackets.{bracket};
 ghost use Rattle.solvency.specs.OnCurves.{worths, entriesOn};
 ghost use Rattle.solvency.specs.Ranges.{FlowsFit, FactorsFit, CurvesFit, WorthFits, WorthsFit};
 use arith::scale::mul_div_ceil;

@@ -12,8 +12,9 @@ use Rattle.model.specs.Limits.{WithinLimits}
 use Rattle.model.specs.Curve.{Curve, base, curve, P}
 use Rattle.model.specs.Exact as Exact
 use Rattle.model.specs.Rounded as Rounded
-use Rattle.model.specs.Rounded.{bracket, endOf}
-use Rattle.model.specs.Demand3.{Bounds, In, SquareIn, Given, lastTerm, Demand3}
+use Rattle.model.specs.Brackets.{bracket, endOf}
+use Rattle.model.specs.Constants.{lastTerm}
+use Rattle.model.specs.Demand3.{Bounds, In, SquareIn, Given, Demand3}
 use Rattle.theory.proofs.Bracket.{Bounded}
 use Rattle.model.specs.CurveWithin.{CurveWithin}
 use Rattle.theory.proofs.Differences.{not-cut}

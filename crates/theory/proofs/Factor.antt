@@ -9,9 +9,9 @@ use native.Mathlib.Omega.{arith}
 use native.Mathlib.Nat.{mul-le-mul-left, pow-zero, mul-pos}
 use native.Mathlib.Decide.{decLe}
 use Rattle.model.specs.Fraction.{_÷ᶠ_, _^ᶠ_, _≈_}
-use Rattle.model.specs.Curve.{Curve, P}
+use Rattle.model.specs.Curve.{Curve, P, weight}
 use Rattle.model.specs.Exact as Exact
-use Rattle.model.specs.Exact.{G, onePlusR, onePlusUfr, weight}
+use Rattle.model.specs.Exact.{G, onePlusR, onePlusUfr}
 use Rattle.arith.specs.Rounding.{End, low, high, other, divide}
 use Rattle.model.specs.Constants.{unit}
 use Rattle.model.specs.Rounded as Rounded

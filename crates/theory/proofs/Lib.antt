@@ -12,7 +12,10 @@ pub mod Written
 pub mod Read
 pub mod Acceptance
 pub mod Bracket
+pub mod ByEnds
+pub mod Agree
 pub mod CaseCurves
+pub mod Changed
 pub mod Steps
 pub mod Growth
 pub mod Factor

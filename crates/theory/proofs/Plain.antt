@@ -13,7 +13,7 @@ use Rattle.model.specs.Fraction.{Fraction}
 use Rattle.model.specs.Case.{FileCase}
 use Rattle.model.specs.Curve.{Move, base, curve, natural, P}
 use Rattle.model.specs.Exact as Exact
-use Rattle.model.specs.Rounded.{endOf}
+use Rattle.model.specs.Brackets.{endOf}
 use Rattle.model.specs.Margins.{WL, WB, NearFirst, NearSecond}
 use Rattle.model.specs.Demand3.{In, Given, Demand3}
 use Rattle.model.specs.declared.figures.Verdict.the-variants.{Onbeslist}

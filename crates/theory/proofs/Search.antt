@@ -12,7 +12,8 @@ use Rattle.arith.proofs.Rounding.{divide-floor, divide-ceiling, divide-le, le-d
 use Rattle.model.specs.Constants.{stepsPerOne}
 use Rattle.model.specs.Curve.{Curve}
 use Rattle.model.specs.Rounded as Rounded
-use Rattle.model.specs.Rounded.{scaled, tested, lowerTest, upperTest, largest, smallest}
+use Rattle.model.specs.Rounded.{scaled, tested, lowerTest, upperTest}
+use Rattle.model.specs.Brackets.{largest, smallest}
 use Rattle.theory.proofs.Conditions.{below, at}
 use Rattle.theory.proofs.ZeroRate.{largest-found, smallest-found}
 

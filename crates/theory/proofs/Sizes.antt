@@ -10,8 +10,7 @@ use native.Mathlib.Decide.{decLe}
 use Rattle.arith.specs.Rounding.{low, high, divide}
 use Rattle.arith.proofs.Rounding.{divide-le}
 use Rattle.model.specs.Constants.{unit}
-use Rattle.model.specs.Curve.{Curve, P}
-use Rattle.model.specs.Exact.{weight, weights}
+use Rattle.model.specs.Curve.{Curve, P, weight, weights}
 use Rattle.model.specs.Rounded as Rounded
 use Rattle.model.specs.Rounded.{scaled, ufrGrowth}
 use Rattle.model.specs.CurveWithin.{CurveWithin}

@@ -7,8 +7,7 @@ use lib.Dec.{T, leb, leb→le}
 use native.Mathlib.Omega.{arith}
 use native.Mathlib.Nat.{add-suc, le-dest, mul-le-mul, mul-le-mul-left, mul-le-mul-right, mul-lt-mul-of-pos-right, le-of-mul-le-mul-right, lt-of-mul-lt-mul-right}
 use native.Mathlib.Decide.{decLe}
-use Rattle.model.specs.Curve.{Curve, P}
-use Rattle.model.specs.Exact.{weight, weights}
+use Rattle.model.specs.Curve.{Curve, P, weight, weights}
 use Rattle.arith.specs.Rounding.{low, high, divide}
 use Rattle.model.specs.Constants.{unit}
 use Rattle.model.specs.Rounded as Rounded

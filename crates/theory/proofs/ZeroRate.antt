@@ -9,19 +9,17 @@ use native.Mathlib.Omega.{arith}
 use native.Mathlib.Nat.{mul-le-mul, mul-le-mul-left, mul-le-mul-right, le-of-mul-le-mul-right, pow-suc, pow-zero, le-dest, le-trans, le-of-mul-le-mul-left, lt-of-not-le, not-suc-le-self, not-suc-le-zero}
 use native.Mathlib.Numerals.{add-one}
 use native.Mathlib.Decide.{decLe}
-use Rattle.model.specs.Curve.{Curve, P}
+use Rattle.model.specs.Curve.{Curve, P, weight, weights, natural}
 use Rattle.model.specs.Exact as Exact
-use Rattle.model.specs.Exact.{G, weight, weights}
+use Rattle.model.specs.Exact.{G}
 use Rattle.arith.specs.Rounding.{End, low, high, divide}
-use Rattle.model.specs.Constants.{unit}
+use Rattle.model.specs.Constants.{unit, stepsPerOne}
 use Rattle.model.specs.Rounded as Rounded
-use Rattle.model.specs.Rounded.{scaled}
+use Rattle.model.specs.Rounded.{scaled, stepAt, lowerTest, upperTest}
 use Rattle.theory.proofs.Bracket.{Bounded}
 use Rattle.model.specs.CurveWithin.{BaseWithin}
-use Rattle.model.specs.Constants.{stepsPerOne}
 use Rattle.model.specs.Limits.{Between}
-use Rattle.model.specs.Curve.{natural}
-use Rattle.model.specs.Rounded.{stepAt, lowerTest, upperTest, largest, smallest}
+use Rattle.model.specs.Brackets.{largest, smallest}
 use Rattle.model.specs.Demand3.{RateBounds}
 use Rattle.theory.proofs.Differences.{Diff, again, diff-pos, diff-sum, diff-neg, diff-minus, le-diff, lt-diff, natural-is}
 use lib.IntN.{pos, negℤ, _+ℤ_}

@@ -14,7 +14,7 @@ use Rattle.model.specs.Case.{FileCase}
 use Rattle.model.specs.Limits.{WithinLimits}
 use Rattle.model.specs.Curve.{base, curve}
 use Rattle.model.specs.Rounded as Rounded
-use Rattle.model.specs.Rounded.{bracket}
+use Rattle.model.specs.Brackets.{bracket}
 use Rattle.model.specs.Reading.{caseOf}
 use Rattle.model.specs.Refusals.{firstOf, refusal}
 use Rattle.model.specs.Buffers.{byTerm, factorEntries, factorsAfter, valuationRefusal}

@@ -1,5 +1,5 @@
--- The bridge: a struct that stands for a case of document 01 within the limits is in range, and what is worked out of it is the rounded
--- working of that case. Assumes nothing.
+-- The bridge from document 01's case to the engine's: the struct that holds a case within the limits is in range, and what is worked
+-- out of it is the rounded working of that case. Assumes nothing.
 use Prim.Native.Nat.{ℕ, _≤_, _<_}
 use mathlib.Core.Path.{_≡_, refl, ap, _∙_, fun-ext}
 use mathlib.Core.List.{List}
@@ -7,6 +7,7 @@ use native.Mathlib.Omega.{arith}
 use lib.ListN.{length, getD, take}
 use lib.Seq.{ext-getD, getD-take, length-take-le}
 use Rattle.arith.specs.Rounding.{End}
+use Rattle.model.specs.Constants.{lastTerm}
 use Rattle.model.specs.Case.{FileCase}
 use Rattle.model.specs.Limits.{WithinLimits, FlowsWithin}
 use Rattle.model.specs.Curve.{Move, base, curve}
@@ -15,13 +16,13 @@ use Rattle.model.specs.Buffers.{byTerm, factorEntries, rateEntries}
 use Rattle.model.specs.Rounded as Rounded
 use Rattle.model.specs.Rounded.{rateOf}
 use Rattle.theory.proofs.Lists.{length-table, getD-table}
-use Rattle.curve.specs.Sums.{curveHeld}
-use Rattle.curve.proofs.HeldCurves.{held-within, held-curve-within, held-base-within, held-factor}
+use Rattle.curve.specs.Shifted.{curveHeld}
+use Rattle.working.proofs.HeldCurves.{held-per-step-most, held-curve-within, held-base-within, held-factor}
 use Rattle.solvency.specs.OnCurves.{moneyOf}
 use Rattle.solvency.specs.Ranges.{FlowsFit}
-use Rattle.solvency.specs.declared.buffer.Money.{Money}
-use Rattle.working.specs.declared.Worked.{Worked}
-use Rattle.working.specs.Working.{CaseFits, factorsOn, moneyBy, workedOf}
+use Rattle.solvency.specs.declared.figures.Money.{Money}
+use Rattle.working.specs.Ranges.{CaseFits}
+use Rattle.working.specs.Working.{factorsOn, ratesOn, moneyOn}
 
 -- the flows of a padded list
 take-padded : (n : ℕ) (xs : List ℕ) → length xs ≤ n → take (length xs) (padded n xs) ≡ xs
@@ -38,15 +39,11 @@ flows-fit n xs h l w = record {
   flow = λ i p. rw (getD-table (λ i. getD xs i 0) n i 0 (omega arith)) (w .each i p);
 }
 
-same-worked : (f g : End → ℕ → ℕ) (m n : Money) → f ≡ g → m ≡ n
-    → _≡_ {A = Worked} (record { factors = byTerm f 120; rates = byTerm (rateOf f) 120; money = m }) (record { factors = byTerm g 120; rates = byTerm (rateOf g) 120; money = n })
-same-worked f g m n p q = rw (p, q)
-
 module _ (k : FileCase) (w : WithinLimits k) where
   pub held-fits : CaseFits (held k)
   unfolding held
   held-fits = record {
-    sums = held-within k w;
+    perStep = held-per-step-most k w;
     curves = held-curve-within k w;
     base = held-base-within k w;
     pension = flows-fit 120 (k .pension) (w .mostPension) (omega arith) (w .pension);
@@ -71,14 +68,17 @@ module _ (k : FileCase) (w : WithinLimits k) where
   parts f pension bonds =
       moneyOf (λ m e. Rounded.worth e (f m e) 1 pension) (λ m e. Rounded.worth e (f m e) 1 bonds) (k .amounts) (k .shocks) (k .people)
 
-  pub held-money : moneyBy (λ m. Rounded.factor (curveHeld (held k) m)) (held k) ≡ record { figures = Rounded.figures k; verdict = Rounded.verdict k }
+  pub held-money : moneyOn (held k) ≡ record { figures = Rounded.figures k; verdict = Rounded.verdict k }
   unfolding held
   held-money =
       ap (λ (f : Move → End → ℕ → ℕ). parts f (take (held k .«pension_count») (held k .pension)) (take (held k .«bond_count») (held k .bonds))) factors
       ∙ ap (λ (x : List ℕ). parts (λ m. Rounded.factor (curve k m)) x (take (held k .«bond_count») (held k .bonds))) held-pension
       ∙ ap (λ (x : List ℕ). parts (λ m. Rounded.factor (curve k m)) (k .pension) x) held-bonds
 
-  pub held-worked : _≡_ {A = Worked} (workedOf (held k))
-      (record { factors = factorEntries k; rates = rateEntries k; money = record { figures = Rounded.figures k; verdict = Rounded.verdict k } })
-  unfolding factorEntries rateEntries
-  held-worked = same-worked _ _ _ _ (held-factor k w base) held-money
+  pub held-factors : factorsOn (held k) base ≡ factorEntries k
+  unfolding factorEntries
+  held-factors = ap (λ (f : End → ℕ → ℕ). byTerm f lastTerm) (held-factor k w base)
+
+  pub held-rates : ratesOn (held k) ≡ rateEntries k
+  unfolding rateEntries
+  held-rates = ap (λ (f : End → ℕ → ℕ). byTerm (rateOf f) lastTerm) (held-factor k w base)

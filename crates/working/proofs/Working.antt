@@ -1,36 +1,64 @@
 -- What the code asks of a case that fits, and its figures by entries of factors. Assumes nothing.
-use Prim.Native.Nat.{ℕ, suc, _+_, _≤_, _<_}
+use Prim.Native.Nat.{ℕ, suc, _+_, _*_, _≤_, _<_}
 use mathlib.Core.Path.{_≡_, refl, ap, sym, _∙_, subst, fun-ext}
-use mathlib.Core.List.{List, [], _∷_}
+use mathlib.Core.List.{List, [], _∷_, _++_}
 use native.Mathlib.Omega.{arith}
 use lib.Dec.{lit≤}
 use lib.IntN.{ℤ}
-use lib.ListN.{length, take}
+use lib.ListN.{length, take, getD, drop}
 use lib.Seq.{length-take-le}
 use Rattle.arith.specs.Rounding.{End, low, high}
-use Rattle.model.specs.Curve.{Curve, Move, base, up, down}
+use Rattle.model.specs.Curve.{Curve, Move, base, up, down, added, taken, P}
 use Rattle.model.specs.CurveWithin.{CurveWithin}
 use Rattle.model.specs.Buffers.{byTerm, entryOf}
 use Rattle.model.specs.Rounded as Rounded
 use Rattle.model.specs.Rounded.{worth, rateOf}
 use Rattle.model.specs.declared.case.Case.{Case}
+use Rattle.model.specs.declared.figures.Valuation.the-variants.{Valued}
+use Rattle.theory.proofs.Lists.{getD-table}
 use Rattle.theory.proofs.Entries.{length-byTerm, entry-is}
 use Rattle.theory.proofs.MoneySizes.{factor-most}
-use Rattle.curve.specs.declared.sums.CurveSums.{CurveSums}
-use Rattle.curve.specs.Sums.{curveOf, movedSums, curveHeld}
-use Rattle.curve.specs.Ranges.{FactorsWithin, RatesWithin}
+use Rattle.curve.specs.declared.shift.CurveSums.{CurveSums}
+use Rattle.curve.specs.Shifted.{curveOf, shiftedSum, shiftedSums, movedSums, curveHeld}
+use Rattle.curve.specs.Ranges.{ShiftWithin, FactorsWithin, RatesWithin}
+use Rattle.curve.proofs.Curves.{N-of, P-of}
 use Rattle.curve.proofs.RateEntries.{rates-of-entries, entries-within}
 use Rattle.solvency.specs.OnCurves.{on, worths, entriesOn, moneyOf}
 use Rattle.solvency.specs.Ranges.{FlowsFit, FactorsFit, CurvesFit}
-use Rattle.solvency.specs.declared.buffer.Money.{Money}
+use Rattle.solvency.specs.declared.figures.Money.{Money}
 use Rattle.solvency.specs.declared.worth.Worths.{Worths}
 use Rattle.solvency.specs.declared.worth.Curves.{Curves}
-use Rattle.working.specs.declared.Worked.{Worked}
-use Rattle.working.specs.Working.{CaseFits, factorsOn, curvesOn, owed, bonds, moneyBy, workedOf}
+use Rattle.working.specs.Ranges.{CaseFits}
+use Rattle.working.specs.Working.{factorsOn, curvesOn, ratesOn, owed, bonds, moneyBy, moneyOn}
 
 -- ---- the curves
+-- the base curve's sums are the case's own
+base-sum : (c : Case) (i : ℕ) → i < 60 → P (curveHeld c base) (suc i) ≡ getD (c .sums) i 0
+unfolding shiftedSums shiftedSum
+base-sum c i h = P-of (movedSums base c) (suc i) ∙ getD-table (shiftedSum 0 0 c) 61 (suc i) 0 (omega arith) ∙ omega arith
+
+N-held : (c : Case) (m : Move) → curveHeld c m .N ≡ 100000 * c .«per_step»
+unfolding shiftedSums
+N-held c m = N-of (movedSums m c)
+
+module _ {c : Case} (h : CaseFits c) where
+  shift-most : (m : Move) → (added (c .shocks) m ≤ 1000) × (taken (c .shocks) m ≤ 1000)
+  shift-most base = (omega arith, omega arith)
+  shift-most up = (h .shocks .upShift, omega arith)
+  shift-most down = (omega arith, h .shocks .downShift)
+
+  pub shift-within : (m : Move) → ShiftWithin c (added (c .shocks) m) (taken (c .shocks) m)
+  shift-within m = record {
+    perStep = h .perStep;
+    least = λ i l. omega (arith, h .base .baseLeast (suc i) l, base-sum c i l, N-held c base);
+    most = λ i l. omega (arith, h .base .baseMost (suc i) l, base-sum c i l, N-held c base);
+    moreMost = shift-most m .0;
+    lessMost = shift-most m .1;
+  }
+
 pub sums-within : {c : Case} (m : Move) (s : CurveSums) → CaseFits c → s ≡ movedSums m c → FactorsWithin s
-sums-within m s h e = subst FactorsWithin (sym e) (h .curves m)
+sums-within {c} m s h e =
+    subst FactorsWithin (sym e) (record { within = h .curves m; most = omega (arith, N-of (movedSums m c), N-held c m, h .perStep) })
 
 pub factors-are : (c : Case) (m : Move) (s : CurveSums) (r : List ℕ) → s ≡ movedSums m c → r ≡ byTerm (Rounded.factor (curveOf s)) 120 → r ≡ factorsOn c m
 factors-are c m s r e f = f ∙ ap (λ (x : CurveSums). byTerm (Rounded.factor (curveOf x)) 120) e
@@ -44,7 +72,7 @@ entries-fit c w = record {
 
 module _ {c : Case} (h : CaseFits c) (s : Curves) (e : s ≡ curvesOn c) where
   fit : (m : Move) → FactorsFit (factorsOn c m)
-  fit m = entries-fit (curveHeld c m) (h .curves m .within)
+  fit m = entries-fit (curveHeld c m) (h .curves m)
 
   pub curves-fit : CurvesFit s
   curves-fit = subst CurvesFit (sym e) (record { base = fit base; up = fit up; down = fit down })
@@ -79,7 +107,7 @@ module _ {c : Case} (h : CaseFits c) where
       at up e = worth-entries (Rounded.factor (curveHeld c up)) e xs l
       at down e = worth-entries (Rounded.factor (curveHeld c down)) e xs l
 
-  own-money : moneyBy (λ m. entryOf (entriesOn (curvesOn c) m)) c ≡ moneyBy (λ m. Rounded.factor (curveHeld c m)) c
+  own-money : moneyBy (λ m. entryOf (entriesOn (curvesOn c) m)) c ≡ moneyOn c
   own-money =
       ap (λ (l : Move → End → ℕ). moneyOf l (bonds (λ m. entryOf (entriesOn (curvesOn c) m)) c) (c .amounts) (c .shocks) (c .people))
       (flows-by (take (c .«pension_count») (c .pension)) (few (c .pension) (c .«pension_count») (h .pension)))
@@ -87,15 +115,16 @@ module _ {c : Case} (h : CaseFits c) where
       (flows-by (take (c .«bond_count») (c .bonds)) (few (c .bonds) (c .«bond_count») (h .bonds)))
 
   module _ (s : Curves) (e : s ≡ curvesOn c) (r : Money) (g : r ≡ moneyBy (λ m. entryOf (entriesOn s m)) c) where
-    pub money-is : r ≡ moneyBy (λ m. Rounded.factor (curveHeld c m)) c
+    pub money-is : r ≡ moneyOn c
     money-is = g ∙ ap (λ (x : Curves). moneyBy (λ m. entryOf (entriesOn x m)) c) e ∙ own-money
 
-    pub worked-is : (b : List ℕ) (z : List ℤ) → b ≡ s .base → z ≡ byTerm (rateOf (entryOf b)) 120 → _≡_ {A = Worked} (record { factors = b; rates = z; money = r }) (workedOf c)
-    worked-is b z i j =
-        let x : b ≡ factorsOn c base = i ∙ ap (λ (y : Curves). y .base) e in
-        let y : z ≡ byTerm (Rounded.zeroRate (curveHeld c base)) 120 =
-        j ∙ ap (λ (l : List ℕ). byTerm (rateOf (entryOf l)) 120) x ∙ rates-of-entries (Rounded.factor (curveHeld c base)) in
-        rw (x, y, money-is)
+    -- `value_case`: the answer, and both buffers at the end
+    pub valued : (b f f₀ : List ℕ) (z y y₀ : List ℤ) → b ≡ s .base → z ≡ byTerm (rateOf (entryOf b)) 120 → f ≡ b ++ drop 240 f₀ → y ≡ z ++ drop 240 y₀
+        → (Valued (r .figures) (r .verdict) ≡ Valued (moneyOn c .figures) (moneyOn c .verdict)) × ((f ≡ factorsOn c base ++ drop 240 f₀) × (y ≡ ratesOn c ++ drop 240 y₀))
+    valued b f f₀ z y y₀ i j k l =
+        let x : b ≡ factorsOn c base = i ∙ ap (λ (w : Curves). w .base) e in
+        let q : z ≡ ratesOn c = j ∙ ap (λ (w : List ℕ). byTerm (rateOf (entryOf w)) 120) x ∙ rates-of-entries (Rounded.factor (curveHeld c base)) in
+        (ap (λ (w : Money). Valued (w .figures) (w .verdict)) money-is, (k ∙ ap (λ (w : List ℕ). w ++ drop 240 f₀) x, l ∙ ap (λ (w : List ℤ). w ++ drop 240 y₀) q))
 
 -- ---- at any factors
 on-worths : (f : Move → End → ℕ) → on (worths f) ≡ f

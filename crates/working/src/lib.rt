@@ -1,53 +1,53 @@
-// The rounded working of a case that the engine holds: factors of the three curves, zero rates, figures and verdict.
+// The rounded working of a case that the engine holds: the factors of its three curves, its zero rates, its figures and its verdict.
+mod fill;
+
 ghost use mathlib.Core.Path.{_≡_};
+ghost use Prim.Native.Nat.{_≤_};
+ghost use mathlib.Core.List.{_++_};
+ghost use lib.ListN.{length, drop};
 ghost use Rattle.model.specs.Curve.{base};
 ghost use Rattle.model.specs.Buffers.{entryOf};
-ghost use Rattle.model.specs.Rounded as Rounded;
-ghost use Rattle.curve.specs.Sums.{curveHeld};
-ghost use Rattle.working.specs.Working.{CaseFits, factorsOn, curvesOn, moneyBy, workedOf};
+ghost use Rattle.model.specs.declared.figures.Valuation.the-variants.{Valued};
 ghost use Rattle.solvency.specs.OnCurves.{entriesOn};
 ghost use Rattle.solvency.specs.Ranges.{CurvesFit};
+ghost use Rattle.working.specs.Working.{factorsOn, curvesOn, ratesOn, moneyBy, moneyOn};
+ghost use Rattle.working.specs.Ranges.{CaseFits};
 use curve::factor::factors;
 use curve::rates::zero_rates;
-use curve::sums::base_curve;
-use curve::sums::down_curve;
-use curve::sums::up_curve;
+use curve::shift::shifted_curve;
+use fill::fill_factors;
+use fill::fill_rates;
 use model::case::Case;
-use solvency::buffer::Money;
-use solvency::buffer::money_by;
+use model::figures::Valuation;
+use solvency::figures::Money;
+use solvency::figures::money_by;
 use solvency::worth::Curves;
 use solvency::worth::worths_of;
-
-// What is worked out of a case: the entries of both buffers, the figures and the verdict.
-pub struct Worked {
-    pub factors: [u64; 240],
-    pub rates: [i64; 240],
-    pub money: Money,
-}
 
 // The factors of the base curve alone.
 pub fn factors_of(case: Case) -> [u64; 240]
     requires { ⌜ CaseFits case ⌝ }
     ensures { λ r. ⌜ r ≡ factorsOn case base ⌝ }
 {
-    let sums = base_curve(case);
-    factors(sums)
+    let base_curve = shifted_curve(case, 0, 0);
+    factors(base_curve)
 }
 
+// The factors of the base, the up and the down curve.
 pub fn curves_of(case: Case) -> Curves
     requires { ⌜ CaseFits case ⌝ }
     ensures { λ r. ⌜ r ≡ curvesOn case ⌝ }
 {
-    let base_sums = base_curve(case);
-    let base = factors(base_sums);
-    let up_sums = up_curve(case);
-    let up = factors(up_sums);
-    let down_sums = down_curve(case);
-    let down = factors(down_sums);
+    let base_curve = shifted_curve(case, 0, 0);
+    let base = factors(base_curve);
+    let up_curve = shifted_curve(case, case.shocks.up_shift, 0);
+    let up = factors(up_curve);
+    let down_curve = shifted_curve(case, 0, case.shocks.down_shift);
+    let down = factors(down_curve);
     Curves { base, up, down }
 }
 
-// The figures and the verdict of a case at given factors, its own or others.
+// The figures and the verdict of a case at given factors of the three curves, its own or others.
 pub fn money_on(case: Case, c: Curves) -> Money
     requires { ⌜ CaseFits case × CurvesFit c ⌝ }
     ensures { λ r. ⌜ r ≡ moneyBy (λ m. entryOf (entriesOn c m)) case ⌝ }
@@ -57,26 +57,29 @@ pub fn money_on(case: Case, c: Curves) -> Money
     money_by(owed, bonds, case.amounts, case.shocks, case.people)
 }
 
-// The figures and the verdict of a case: no zero rates are worked out.
+// The figures and the verdict of a case. No zero rate is worked out.
 pub fn money_of(case: Case) -> Money
     requires { ⌜ CaseFits case ⌝ }
-    ensures { λ r. ⌜ r ≡ moneyBy (λ m. Rounded.factor (curveHeld case m)) case ⌝ }
+    ensures { λ r. ⌜ r ≡ moneyOn case ⌝ }
 {
     let curves = curves_of(case);
     money_on(case, curves)
 }
 
-pub fn work_out(case: Case) -> Worked
-    requires { ⌜ CaseFits case ⌝ }
-    ensures { λ r. ⌜ r ≡ workedOf case ⌝ }
+// Values a case: writes the entries 0 to 239 of both lent buffers, and answers the figures and the verdict.
+pub fn value_case(case: Case, factors: &mut [u64], rates: &mut [i64]) -> Valuation
+    requires { ⌜ CaseFits case × (240 ≤ length (now factors)) × (240 ≤ length (now rates)) ⌝ }
+    ensures { λ r. ⌜ r ≡ Valued (moneyOn case .figures) (moneyOn case .verdict) ⌝ }
+    ensures factors { λ r. ⌜ now (factors .exit) ≡ factorsOn case base ++ drop 240 (now (factors .entry)) ⌝ }
+    ensures rates { λ r. ⌜ now (rates .exit) ≡ ratesOn case ++ drop 240 (now (rates .entry)) ⌝ }
 {
     let curves = curves_of(case);
     let base = curves.base;
-    let rates = zero_rates(base);
+    let steps = zero_rates(base);
+    fill_factors(base, factors);
+    fill_rates(steps, rates);
     let money = money_on(case, curves);
-    Worked {
-        factors: base,
-        rates,
-        money,
-    }
+    let figures = money.figures;
+    let verdict = money.verdict;
+    Valuation::Valued(figures, verdict)
 }

@@ -4,7 +4,7 @@ use mathlib.Core.Path.{refl}
 use Rattle.model.specs.Numbers.{table}
 use Rattle.model.specs.Listing.{ascii}
 use Rattle.listing.specs.Parts.{named}
-use Rattle.listing.proofs.Stores.{then, as-text}
+use Rattle.output.proofs.Stores.{then, as-text}
 use borrow.Author.Needs.{needs}
 use Rattle.listing.proofs.put_line.Statement.{statement}
 use Rattle.listing.proofs.put_line.Tie as tie

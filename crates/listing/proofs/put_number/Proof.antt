@@ -2,7 +2,7 @@
 use Rattle.model.specs.Numbers.{table}
 use Rattle.model.specs.Listing.{ascii, decimal}
 use Rattle.listing.specs.Parts.{spaced}
-use Rattle.listing.proofs.Stores.{then}
+use Rattle.output.proofs.Stores.{then}
 use borrow.Author.Needs.{needs}
 use Rattle.listing.proofs.put_number.Statement.{statement}
 use Rattle.listing.proofs.put_number.Tie as tie

@@ -3,7 +3,7 @@ use native.Mathlib.Omega.{arith}
 use mathlib.Core.Path.{refl}
 use Rattle.model.specs.Numbers.{table}
 use Rattle.model.specs.Listing.{ascii, decimal, listing}
-use Rattle.listing.proofs.Stores.{then, as-text}
+use Rattle.output.proofs.Stores.{then, as-text}
 use borrow.Author.Needs.{needs}
 use Rattle.listing.proofs.put_refused.Statement.{statement}
 use Rattle.listing.proofs.put_refused.Tie as tie

@@ -1,19 +1,19 @@
 -- `put_valued`: the four parts join to the listing.
 use native.Mathlib.Omega.{arith}
-use Rattle.listing.proofs.Stores.{then, as-text}
+use Rattle.output.proofs.Stores.{then, as-text}
 use Rattle.listing.proofs.Texts.{joined}
 use borrow.Author.Needs.{needs}
 use Rattle.listing.proofs.put_valued.Statement.{statement}
 use Rattle.listing.proofs.put_valued.Tie as tie
 
-put-worths-requires : tie.Need-put-worths-requires
-put-worths-requires c κs = search needs
+put-values-requires : tie.Need-put-values-requires
+put-values-requires c κs = search needs
 
-put-first-margins-requires : tie.Need-put-first-margins-requires
-put-first-margins-requires c κs = search needs
+put-first-losses-requires : tie.Need-put-first-losses-requires
+put-first-losses-requires c κs = search needs
 
-put-last-margins-requires : tie.Need-put-last-margins-requires
-put-last-margins-requires c κs = search needs
+put-last-losses-requires : tie.Need-put-last-losses-requires
+put-last-losses-requires c κs = search needs
 
 put-verdict-requires : tie.Need-put-verdict-requires
 put-verdict-requires c κs = search needs
@@ -28,15 +28,15 @@ returns c =
     let s2 = s3 .before .before .before .before in
     let s1 = s2 .before .before .before .before in
     as-text (joined _ _) (omega arith)
-    (then (then (then (s1 .put-worths .ensures) (s2 .put-first-margins .ensures)) (s3 .put-last-margins .ensures)) (s4 .put-verdict .ensures))
+    (then (then (then (s1 .put-values .ensures) (s2 .put-first-losses .ensures)) (s3 .put-last-losses .ensures)) (s4 .put-verdict .ensures))
 
 pub put-valued-spec : {M : Type 1} → statement M
 put-valued-spec =
     tie.close
     (tie.spec
-    put-worths-requires
-    put-first-margins-requires
-    put-last-margins-requires
+    put-values-requires
+    put-first-losses-requires
+    put-last-losses-requires
     put-verdict-requires
     same-length
     returns)

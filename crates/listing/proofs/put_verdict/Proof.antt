@@ -2,7 +2,7 @@
 use Rattle.model.specs.Numbers.{table}
 use Rattle.model.specs.Listing.{ascii}
 use Rattle.listing.specs.Parts.{judged}
-use Rattle.listing.proofs.Stores.{then}
+use Rattle.output.proofs.Stores.{then}
 use borrow.Author.Needs.{needs}
 use Rattle.listing.proofs.put_verdict.Statement.{statement}
 use Rattle.listing.proofs.put_verdict.Tie as tie

@@ -3,7 +3,7 @@ use native.Mathlib.Omega.{arith}
 use mathlib.Core.Path.{refl}
 use Rattle.model.specs.Numbers.{table}
 use Rattle.model.specs.Listing.{ascii, word}
-use Rattle.listing.proofs.Stores.{as-text}
+use Rattle.output.proofs.Stores.{as-text}
 use borrow.Author.Needs.{needs}
 use Rattle.listing.proofs.put_word.Statement.{statement}
 use Rattle.listing.proofs.put_word.Tie as tie

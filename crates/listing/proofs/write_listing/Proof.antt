@@ -3,7 +3,7 @@ use native.Mathlib.Omega.{arith}
 use mathlib.Core.Path.{sym}
 use native.Mathlib.Nat.{le-refl}
 use lib.ListN.{length, take}
-use Rattle.listing.proofs.Stores.{as-text}
+use Rattle.output.proofs.Stores.{as-text}
 use Rattle.listing.proofs.Copied.{front, part, too-short, copied}
 use borrow.Author.Needs.{needs}
 use Rattle.listing.proofs.write_listing.Statement.{statement}

@@ -42,7 +42,7 @@ returns c =
     let file = c .before .before .before .before .before .before .before .before .before .before .before .args .file .now in
     λ i. record {
       ufr = c .before .before .before .before .before .before .before .before .before .ufr-in .ensures i;
-      days = (c .before .before .before .before .before .before .before .before .day-count .ensures .0 ∙ days-counted file) i;
+      «per_step» = (c .before .before .before .before .before .before .before .before .day-count .ensures .0 ∙ days-counted file) i;
       sums = c .before .before .before .before .before .before .before .sums-in .ensures i;
       «pension_count» = (c .before .before .before .before .before .before .pension-count .ensures .0 ∙ pension-counted file) i;
       pension = c .before .before .before .before .before .pension-in .ensures i;

@@ -1,7 +1,7 @@
 -- `solvency::buffer::buffer` meets its contract. Assumes nothing.
 use Rattle.model.specs.Rounded as Rounded
-use Rattle.model.specs.Rounded.{endOf}
-use Rattle.solvency.proofs.TwoEnds.{bracket-is}
+use Rattle.model.specs.Brackets.{endOf}
+use Rattle.theory.proofs.ByEnds.{bracket-by}
 use borrow.Author.Needs.{needs}
 use Rattle.solvency.proofs.buffer.buffer.Statement.{statement}
 use Rattle.solvency.proofs.buffer.buffer.Tie as tie
@@ -19,7 +19,7 @@ returns : tie.Need-returns
 returns c =
     let a = c .before .before .before .args in
     let r = c .roots .ensures in (
-      bracket-is _ _ (λ e. Rounded.buffer e (a .c) (endOf (a .s1) e) (endOf (a .s2) e) (endOf (a .s3) e) (endOf (a .s4) e) (endOf (a .s5) e) (endOf (a .s6) e)) (rw (c .before .before .squares .ensures .0) at (r .lower)) (rw (c .before .squares2 .ensures .0) at (r .upper)),
+      bracket-by _ _ (λ e. Rounded.buffer e (a .c) (endOf (a .s1) e) (endOf (a .s2) e) (endOf (a .s3) e) (endOf (a .s4) e) (endOf (a .s5) e) (endOf (a .s6) e)) (rw (c .before .before .squares .ensures .0) at (r .lower)) (rw (c .before .squares2 .ensures .0) at (r .upper)),
       record { lower = r .lowerMost; upper = r .upperMost },
     )
 

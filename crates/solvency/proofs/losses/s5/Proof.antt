@@ -3,7 +3,7 @@ use native.Mathlib.Omega.{arith}
 use Rattle.arith.specs.Rounding.{low, high}
 use Rattle.model.specs.Rounded.{creditLoss}
 use Rattle.solvency.proofs.Products.{years-most, widened-most, credit-fits, credit-is, credit-end}
-use Rattle.solvency.proofs.TwoEnds.{bracket-is}
+use Rattle.theory.proofs.ByEnds.{bracket-by}
 use borrow.Author.Needs.{needs}
 use Rattle.solvency.proofs.losses.s5.Statement.{statement}
 use Rattle.solvency.proofs.losses.s5.Tie as tie
@@ -30,7 +30,7 @@ returns c =
     let e = credit-is (a .credit) (x .duration) (x .spread) (x .«spread_rise») (c .before .before .before .before .before .before .pre .0 .credit) (c .before .before .before .before .before .before .pre .1 .duration) (c .before .before .before .before .before .before .pre .1 .spread) (c .before .before .before .before .before .before .pre .1 .spreadRise) _ (c .before .before .product .ensures) in
     let lo = c .before .quotient-floor .ensures .0 in
     let hi = c .quotient-ceil .ensures .0 in (
-      bracket-is _ _ (creditLoss a x) (rw e at lo) (rw e at hi),
+      bracket-by _ _ (creditLoss a x) (rw e at lo) (rw e at hi),
       record {
         lower = credit-end (a .credit) (x .duration) (x .spread) (x .«spread_rise») (c .before .before .before .before .before .before .pre .0 .credit) (c .before .before .before .before .before .before .pre .1 .duration) (c .before .before .before .before .before .before .pre .1 .spread) (c .before .before .before .before .before .before .pre .1 .spreadRise) _ (c .before .before .product .ensures) low _ lo;
         upper = credit-end (a .credit) (x .duration) (x .spread) (x .«spread_rise») (c .before .before .before .before .before .before .pre .0 .credit) (c .before .before .before .before .before .before .pre .1 .duration) (c .before .before .before .before .before .before .pre .1 .spread) (c .before .before .before .before .before .before .pre .1 .spreadRise) _ (c .before .before .product .ensures) high _ hi;

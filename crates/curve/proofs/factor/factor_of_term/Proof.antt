@@ -1,0 +1,38 @@
+-- `curve::factor::factor_of_term` meets its contract. Assumes nothing.
+use borrow.Author.Needs.{needs}
+use Rattle.curve.proofs.Discounts.{first-within, first-is, cross-within, next-is}
+use Rattle.curve.proofs.factor.factor_of_term.Statement.{statement}
+use Rattle.curve.proofs.factor.factor_of_term.Tie as tie
+
+mul-p : tie.Need-mul-p
+mul-p c = search needs
+
+element-copy-out-p : tie.Need-element-copy-out-p
+element-copy-out-p c = search needs
+
+unweighed-factor-requires : tie.Need-unweighed-factor-requires
+unweighed-factor-requires c κs = first-within _ _ _ (c .before .before .pre) (c .before .if1 .taken)
+
+returns : tie.Need-returns
+returns c = first-is _ _ _ (c .before .before .before .pre .some) (c .before .before .if1 .taken) (c .unweighed-factor .ensures)
+
+weighed-growth-requires : tie.Need-weighed-growth-requires
+weighed-growth-requires c κs = search needs
+
+discounted-requires : tie.Need-discounted-requires
+discounted-requires c κs = cross-within _ _ _ _ (c .before .before .pre) (c .before .if1 .left) (c .weighed-growth .ensures)
+
+returns-2 : tie.Need-returns-2
+returns-2 c = next-is _ _ _ _ _ (c .before .before .before .pre) (c .before .before .if1 .left) (c .before .weighed-growth .ensures) (c .discounted .ensures)
+
+pub factor-of-term-spec : {M : Type 1} → statement M
+factor-of-term-spec =
+    tie.close
+    (tie.spec
+    mul-p
+    element-copy-out-p
+    unweighed-factor-requires
+    returns
+    weighed-growth-requires
+    discounted-requires
+    returns-2)

@@ -1,0 +1,2 @@
+-- Laws of writing into a buffer.
+pub mod Stores

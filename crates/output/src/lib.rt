@@ -1,0 +1,32 @@
+// Bytes and numbers in base ten, written into a lent buffer.
+ghost use Prim.Native.Nat.{_+_, _^_, _≤_, _<_};
+ghost use lib.ListN.{length};
+ghost use Rattle.model.specs.Listing.{digits};
+ghost use Rattle.output.specs.Wrote.{Wrote};
+
+// Stores text from at on, and answers the offset after it.
+pub fn put(buf: &mut [u8], at: usize, text: &[u8]) -> usize
+    requires { ⌜ at + length (now text) ≤ length (now buf) ⌝ }
+    ensures { λ r. ⌜ Wrote (now (buf .entry)) at (now (text .entry)) (length (now (text .entry))) r (now (buf .exit)) ⌝ }
+{
+    let mut i = 0;
+    while i < text.len() {
+        buf[at + i] = text[i];
+        i += 1;
+    }
+    at + i
+}
+
+// Stores the digits of n, at most k, from at on.
+pub fn put_digits(buf: &mut [u8], at: usize, k: u64, n: u64) -> usize
+    requires { ⌜ (at + k ≤ length (now buf)) × (n < 10 ^ k) × (0 < k) ⌝ }
+    ensures { λ r. ⌜ Wrote (now (buf .entry)) at (digits k n) k r (now (buf .exit)) ⌝ }
+{
+    if n < 10 {
+        buf[at] = 48 + n as u8;
+        return at + 1;
+    }
+    let at_last = put_digits(buf, at, k - 1, n / 10);
+    buf[at_last] = 48 + (n % 10) as u8;
+    at_last + 1
+}

@@ -1,0 +1,53 @@
+-- `solvency::figures::figures` meets its contract. Assumes nothing.
+use Rattle.solvency.proofs.Same.{figures-are, assets-fit, worth-fits}
+use borrow.Author.Needs.{needs}
+use Rattle.solvency.proofs.figures.figures.Statement.{statement}
+use Rattle.solvency.proofs.figures.figures.Tie as tie
+
+assets-requires : tie.Need-assets-requires
+assets-requires c κs = search needs
+
+s1-requires : tie.Need-s1-requires
+s1-requires c κs = search needs
+
+s2-requires : tie.Need-s2-requires
+s2-requires c κs = search needs
+
+s3-requires : tie.Need-s3-requires
+s3-requires c κs = search needs
+
+s4-requires : tie.Need-s4-requires
+s4-requires c κs = search needs
+
+s5-requires : tie.Need-s5-requires
+s5-requires c κs = search needs
+
+s6-requires : tie.Need-s6-requires
+s6-requires c κs = search needs
+
+buffer-requires : tie.Need-buffer-requires
+buffer-requires c κs = (c .before .before .before .before .before .before .before .before .before .pre .3 .correlation, c .before .before .before .before .before .s1 .ensures .1, c .before .before .before .before .s2 .ensures .1, c .before .before .before .s3 .ensures .1, c .before .before .s4 .ensures .1, c .before .s5 .ensures .1, c .s6 .ensures .1)
+
+returns : tie.Need-returns
+returns c =
+    let i = c .before .before .before .before .before .before .before .before .before .before in
+    let v = i .args in
+    let assets = c .before .before .before .before .before .before .before .assets .ensures in (
+      figures-are (v .l) (v .b) (v .a) (v .x) (v .p) _ _ _ _ _ _ _ _ assets (c .before .before .before .before .before .before .s1 .ensures .0) (c .before .before .before .before .before .s2 .ensures .0) (c .before .before .before .before .s3 .ensures .0) (c .before .before .before .s4 .ensures .0)
+          (c .before .before .s5 .ensures .0) (c .before .s6 .ensures .0) (c .buffer .ensures .0),
+      record { assets = assets-fit _ _ _ (i .pre .1 .base) (i .pre .2) assets; liabilities = worth-fits _ (i .pre .0 .base); buffer = c .buffer .ensures .1 },
+    )
+
+pub figures-spec : {M : Type 1} → statement M
+figures-spec =
+    tie.close
+    (tie.spec
+    assets-requires
+    s1-requires
+    s2-requires
+    s3-requires
+    s4-requires
+    s5-requires
+    s6-requires
+    buffer-requires
+    returns)

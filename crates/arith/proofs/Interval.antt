@@ -5,10 +5,9 @@ use mathlib.Core.Bool.{Bool, true, false}
 use lib.Dec.{leb}
 use borrow.Author.Tests.{leb-true, leb-false}
 use native.Mathlib.Omega.{arith}
-use Rattle.arith.specs.Rounding.{low, high, divide}
+use Rattle.arith.specs.Rounding.{low}
 use Rattle.arith.specs.Root.{root}
-use Rattle.arith.proofs.Rounding.{divide-low-is, divide-high-exact, divide-high-more}
-use Rattle.arith.proofs.Root.{multiple-pos, root-low-is}
+use Rattle.arith.proofs.Root.{root-low-is}
 
 -- the middle lies between
 pub middle : (lo hi : ℕ) → lo + 1 < hi → (lo < (lo + hi) / 2) × ((lo + hi) / 2 < hi)
@@ -21,22 +20,8 @@ test-true b p q n m e f g t = rw (f, g) at (leb-true p n (sym e ∙ t))
 pub test-false : (b : Bool) (p q n m : ℕ) → b ≡ leb p n → p ≡ q → n ≡ m → b ≡ false → m < q
 test-false b p q n m e f g t = rw (f, g) at (leb-false p n (sym e ∙ t))
 
--- at the end hi is next to lo, and lo is the quotient, or the root
-pub quotient-found : (n d lo hi : ℕ) → lo * d * 1 ≤ n → n < hi * d * 1 → lo < hi → hi ≤ lo + 1 → lo ≡ divide low n d
-quotient-found n d lo hi a b l m =
-    let e : hi ≡ lo + 1 = omega arith in
-    let f : n < (lo + 1) * d * 1 = rw e at b in
-    divide-low-is n d lo (omega arith) (omega arith)
-
+-- at the end hi is next to lo, and lo is the root
 pub root-found : (n d lo hi : ℕ) → lo * lo * d ≤ n → n < hi * hi * d → lo < hi → hi ≤ lo + 1 → lo ≡ root low n d
 root-found n d lo hi a b l m =
     let e : hi ≡ lo + 1 = omega arith in
     root-low-is n d lo (record { reaches = a; last = rw e at b })
-
--- rounded up, from the quotient k rounded down, whose multiple is tested
-module _ (n m d k : ℕ) (h : n < m * d) (e : k ≡ divide low n d) where
-  pub quotient-exact : n ≤ k * d * 1 → k ≡ divide high n d
-  quotient-exact l = divide-high-exact n d k (multiple-pos n m d h) e (omega arith)
-
-  pub quotient-more : k * d * 1 < n → k + 1 ≡ divide high n d
-  quotient-more l = divide-high-more n d k (multiple-pos n m d h) e (omega arith)

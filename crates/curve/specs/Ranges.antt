@@ -4,6 +4,7 @@ use Prim.Native.Nat.{ℕ, _+_, _*_, _-_, _^_, _≤_, _<_}
 use mathlib.Core.Path.{_≡_}
 use mathlib.Core.List.{List}
 use lib.ListN.{getD}
+use Rattle.arith.specs.Range.{Small}
 use Rattle.arith.specs.Rounding.{low, high}
 use Rattle.model.specs.declared.case.Case.{Case}
 use Rattle.model.specs.declared.figures.Bracket.{Bracket}
@@ -13,11 +14,7 @@ use Rattle.model.specs.CurveWithin.{CurveWithin}
 use Rattle.curve.specs.declared.sums.CurveSums.{CurveSums}
 use Rattle.curve.specs.Sums.{curveOf}
 
--- of x × a ÷ b: the product, with b added, fits 64 bits
-pub record Small (x a b : ℕ) : Type 0 where
-  pub some : 0 < b
-  pub fits : x * a + b ≤ 2 ^ 64
-
+-- of both ends of a bracket × a ÷ b: the product, with b added, fits 64 bits
 pub record SmallEnds (x : Bracket) (a b : ℕ) : Type 0 where
   pub lower : Small (x .lower) a b
   pub upper : Small (x .upper) a b

@@ -56,8 +56,9 @@ module _ {a : Amounts} {x : Shocks} (w : AmountsWithin a × ShocksWithin x) wher
   credit-range = record {
     left = omega (arith, w .0 .credit);
     right = omega (arith, widened-most);
-    least = lit≤ tt;
+    some = lit< tt;
     most = lit≤ tt;
+    fits = lt-of-le-of-lt (mul-le-mul (w .0 .credit) widened-most) (lit< tt);
   }
 
   pub credit-most : (e : End) → creditLoss a x e ≤ 50 * 10 ^ 12

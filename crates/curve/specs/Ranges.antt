@@ -1,6 +1,6 @@
 -- What the functions of `curve` ask of their numbers, so that nothing on the way passes 64 bits.
 use Rattle.model.specs.Buffers.{entryOf}
-use Prim.Native.Nat.{ℕ, _+_, _*_, _-_, _^_, _≤_, _<_}
+use Prim.Native.Nat.{ℕ, _*_, _-_, _^_, _≤_, _<_}
 use mathlib.Core.Path.{_≡_}
 use mathlib.Core.List.{List}
 use lib.ListN.{getD}

@@ -1,8 +1,8 @@
--- The laws of `arith`. Other crates cite Rounding and Root; the rest serves the proofs of this crate's functions.
+-- The laws of `arith`. Other crates cite Rounding, Root and Bisection; the rest serves the proofs of this crate's functions.
 pub mod Rounding
 pub mod Root
 pub mod Worked
 pub mod LongDivision
 pub mod Carry
 pub mod Order
-pub mod Interval
+pub mod Bisection

@@ -25,15 +25,12 @@ abbrev pub quotient : (a b c : ℕ) → ℕ
 quotient a b c = upper a b / c * 2097152 + lower a b c / c
 
 module _ {a b c : ℕ} (h : InRange a b c) where
-  pub divisor-pos : 0 < c
-  divisor-pos = omega arith
-
   pub upper-fits : upper a b < 2 ^ 63
   upper-fits = omega (arith, mul-le-mul {n₁ = a} {m₁ = b / 2097152} {n₂ = 2 ^ 42 - 1} {m₂ = 2 ^ 21 - 1} (omega arith) (omega arith))
 
   -- what is carried to the lower digit
   pub carried-fits : upper a b % c * 2097152 < 2 ^ 63
-  carried-fits = omega (arith, mod-lt (upper a b) divisor-pos)
+  carried-fits = omega (arith, mod-lt (upper a b) (h .some))
 
   pub added-fits : a * (b % 2097152) < 2 ^ 63
   added-fits = omega (arith, mul-le-mul {n₁ = a} {m₁ = b % 2097152} {n₂ = 2 ^ 42 - 1} {m₂ = 2 ^ 21 - 1} (omega arith) (omega arith))
@@ -42,24 +39,22 @@ module _ {a b c : ℕ} (h : InRange a b c) where
   whole = two-digits a b c _ _ _ _ _ _ (div-add-mod' b 2097152) (div-add-mod' (upper a b) c) (div-add-mod' (lower a b c) c)
 
   pub quotient-is : quotient a b c ≡ (a * b) / c
-  quotient-is = sym (ap (λ (n : ℕ). n / c) (sym whole) ∙ digits-div (quotient a b c) (mod-lt (lower a b c) divisor-pos))
+  quotient-is = sym (ap (λ (n : ℕ). n / c) (sym whole) ∙ digits-div (quotient a b c) (mod-lt (lower a b c) (h .some)))
 
   pub remainder-is : lower a b c % c ≡ (a * b) % c
-  remainder-is = sym (ap (λ (n : ℕ). n % c) (sym whole) ∙ digits-mod (quotient a b c) (mod-lt (lower a b c) divisor-pos))
+  remainder-is = sym (ap (λ (n : ℕ). n % c) (sym whole) ∙ digits-mod (quotient a b c) (mod-lt (lower a b c) (h .some)))
 
   -- the quotient fits, with room for one more
   pub quotient-fits : (a * b) / c < 2 ^ 64 - 1
-  quotient-fits =
-      div-lt-iff-lt-mul divisor-pos .1
-      (omega (arith, mul-le-mul {n₁ = a} {m₁ = b} {n₂ = 2 ^ 42 - 1} {m₂ = 2 ^ 42 - 1} (omega arith) (omega arith)))
+  quotient-fits = div-lt-iff-lt-mul (h .some) .1 (h .fits)
 
   -- rounded up, from the quotient q and the remainder r
   pub nothing-left : (q r : ℕ) → q ≡ (a * b) / c → r ≡ (a * b) % c → r ≡ 0 → q ≡ divide high (a * b) c
   unfolding divide
   nothing-left q r e f z =
-      divide-high-exact (a * b) c q divisor-pos e (rw e (omega (arith, div-add-mod' (a * b) c)))
+      divide-high-exact (a * b) c q (h .some) e (rw e (omega (arith, div-add-mod' (a * b) c)))
 
   pub something-left : (q r : ℕ) → q ≡ (a * b) / c → r ≡ (a * b) % c → (r ≡ 0 → ⊥) → q + 1 ≡ divide high (a * b) c
   unfolding divide
   something-left q r e f z =
-      divide-high-more (a * b) c q divisor-pos e (rw e (omega (arith, div-add-mod' (a * b) c)))
+      divide-high-more (a * b) c q (h .some) e (rw e (omega (arith, div-add-mod' (a * b) c)))

@@ -37,7 +37,7 @@ unsquare-lt-by : (a b d : ℕ) → a * a * d < b * b * d → a < b
 unsquare-lt-by a b d h = unsquare-lt a b (lt-of-mul-lt-mul-right d h)
 
 -- a number below a multiple of d: d is not 0
-pub multiple-pos : (n m d : ℕ) → n < m * d → 0 < d
+multiple-pos : (n m d : ℕ) → n < m * d → 0 < d
 multiple-pos n m zero h = omega arith
 multiple-pos n m (suc d) h = omega arith
 

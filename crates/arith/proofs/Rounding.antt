@@ -2,7 +2,7 @@
 -- Assumes nothing.
 use Prim.Native.Nat.{ℕ, _+_, _-_, _*_, _/_, _≤_, _<_}
 use mathlib.Core.Path.{_≡_, refl, sym, subst}
-use native.Mathlib.Nat.{div-mul-le-self, lt-div-mul-add, div-lt-iff-lt-mul, le-div-iff-mul-le, div-eq-of-lt-le, le-antisymm, le-refl}
+use native.Mathlib.Nat.{div-mul-le-self, lt-div-mul-add, div-lt-iff-lt-mul, le-div-iff-mul-le, div-eq-of-lt-le, le-antisymm, le-refl, mul-le-mul-left}
 use native.Mathlib.Omega.{arith}
 use Rattle.arith.specs.Rounding.{End, low, high, other, divide}
 
@@ -72,3 +72,16 @@ module _ (a b k : ℕ) (pos : 0 < b) (e : k ≡ divide low a b) where
 
   pub divide-high-more : k * b < a → k + 1 ≡ divide high a b
   divide-high-more h = divide-high-is a b (k + 1) (omega (arith, near)) (omega arith)
+
+-- a common factor of the dividend and the divisor makes no difference
+pub divide-common : (e : End) (c a b : ℕ) → 0 < c → 0 < b → divide e (c * a) (c * b) ≡ divide e a b
+divide-common low c a b some pos =
+    let (least, less) = divide-floor a b pos in
+    let l = mul-le-mul-left c least in
+    let m = mul-le-mul-left c less in
+    sym (divide-low-is (c * a) (c * b) (divide low a b) (omega arith) (omega arith))
+divide-common high c a b some pos =
+    let (most, more) = divide-ceiling a b pos in
+    let l = mul-le-mul-left c most in
+    let m = mul-le-mul-left c more in
+    sym (divide-high-is (c * a) (c * b) (divide high a b) (omega arith) (omega arith))

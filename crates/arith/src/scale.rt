@@ -1,8 +1,25 @@
-// The product of two numbers divided by a third, where the product passes 64 bits. There is no loop.
+// The product of two numbers divided by a third, rounded at an end: where the product fits 64 bits,
+// and where it passes them. There is no loop.
 ghost use mathlib.Core.Path.{_≡_};
 ghost use Prim.Native.Nat.{_*_, _/_, _%_};
-ghost use Rattle.arith.specs.Range.{InRange};
+ghost use Rattle.arith.specs.Range.{Small, InRange};
 ghost use Rattle.arith.specs.Rounding.{low, high, divide};
+
+// x * a / b, rounded down.
+pub fn times_floor(x: u64, a: u64, b: u64) -> u64
+    requires { ⌜ Small x a b ⌝ }
+    ensures { λ r. ⌜ r ≡ divide low (x * a) b ⌝ }
+{
+    x * a / b
+}
+
+// x * a / b, rounded up.
+pub fn times_ceil(x: u64, a: u64, b: u64) -> u64
+    requires { ⌜ Small x a b ⌝ }
+    ensures { λ r. ⌜ r ≡ divide high (x * a) b ⌝ }
+{
+    (x * a + (b - 1)) / b
+}
 
 // What a division gives.
 struct Division {

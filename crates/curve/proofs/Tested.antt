@@ -7,12 +7,13 @@ use native.Mathlib.Numerals.{add-one}
 use native.Mathlib.Nat.{mul-le-mul-left}
 use borrow.Author.Tests.{le-leb, lt-leb}
 use lib.Dec.{T, leb, leb→le}
+use Rattle.arith.specs.Range.{Small}
 use Rattle.arith.specs.Rounding.{End, low, high, divide}
 use Rattle.arith.proofs.Rounding.{divide-floor, divide-le}
 use Rattle.model.specs.Rounded.{scaled, tested}
 use Rattle.theory.proofs.Conditions.{below, at}
 use Rattle.theory.proofs.Search.{scaled-ends, tested-small}
-use Rattle.curve.specs.Ranges.{Small, StepWithin}
+use Rattle.curve.specs.Ranges.{StepWithin}
 use Rattle.curve.proofs.Years.{scaled-suc}
 
 pub test-fits : (e : End) (x t i k : ℕ) → StepWithin t i → k ≤ t → x ≡ tested e k i → Small x 100000 (98000 + i)

@@ -1,9 +1,10 @@
 -- What the functions of `curve` ask of their numbers, so that nothing on the way passes 64 bits.
 use Rattle.model.specs.Buffers.{entryOf}
-use Prim.Native.Nat.{ℕ, _+_, _*_, _-_, _^_, _≤_, _<_}
+use Prim.Native.Nat.{ℕ, _*_, _-_, _^_, _≤_, _<_}
 use mathlib.Core.Path.{_≡_}
 use mathlib.Core.List.{List}
 use lib.ListN.{getD}
+use Rattle.arith.specs.Range.{Small}
 use Rattle.arith.specs.Rounding.{low, high}
 use Rattle.model.specs.declared.case.Case.{Case}
 use Rattle.model.specs.declared.figures.Bracket.{Bracket}
@@ -14,11 +15,7 @@ use Rattle.model.specs.CurveWithin.{CurveWithin}
 use Rattle.curve.specs.declared.shift.CurveSums.{CurveSums}
 use Rattle.curve.specs.Shifted.{curveOf}
 
--- of x × a ÷ b: the product, with b added, fits 64 bits
-pub record Small (x a b : ℕ) : Type 0 where
-  pub some : 0 < b
-  pub fits : x * a + b ≤ 2 ^ 64
-
+-- of both ends of a bracket × a ÷ b: the product, with b added, fits 64 bits
 pub record SmallEnds (x : Bracket) (a b : ℕ) : Type 0 where
   pub lower : Small (x .lower) a b
   pub upper : Small (x .upper) a b

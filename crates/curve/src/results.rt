@@ -8,8 +8,8 @@ ghost use Rattle.arith.specs.Rounding.{low, high};
 ghost use Rattle.model.specs.Rounded.{tested};
 ghost use Rattle.curve.specs.Ranges.{StepWithin};
 ghost use Rattle.curve.specs.Kept.{Kept, PartOf};
-use super::ends::times_ceil;
-use super::ends::times_floor;
+use arith::scale::times_ceil;
+use arith::scale::times_floor;
 use model::case::Case;
 
 // A result of a number of years.

@@ -5,7 +5,7 @@ use Prim.Native.Nat.{ℕ, suc, _+_, _*_, _-_, _^_, _≤_, _<_}
 use mathlib.Core.Path.{_≡_, refl}
 use mathlib.Core.List.{List, [], _∷_, _++_}
 use native.Mathlib.Omega.{arith}
-use native.Mathlib.Nat.{mul-le-mul, le-trans}
+use native.Mathlib.Nat.{mul-le-mul, le-trans, lt-of-le-of-lt}
 use native.Mathlib.Numerals.{add-one}
 use lib.Dec.{lit≤, lit<}
 use lib.ListN.{length, getD, take}
@@ -51,7 +51,13 @@ high-most factors i f h = rw (factor-high factors i) at (f .factor high (suc i) 
 
 -- one flow: its product is in range, and it is worth at most 220,000,000 euros
 pub flow-range : (x f : ℕ) → x ≤ 100000000 → f ≤ 22 * 10 ^ 11 → InRange x f 10000000000
-flow-range x f h k = record { left = omega arith; right = omega arith; least = lit≤ tt; most = lit≤ tt }
+flow-range x f h k = record {
+  left = omega arith;
+  right = omega arith;
+  some = lit< tt;
+  most = lit≤ tt;
+  fits = lt-of-le-of-lt (mul-le-mul h k) (lit< tt);
+}
 
 pub flow-most : (e : End) (x f v : ℕ) → x ≤ 100000000 → f ≤ 22 * 10 ^ 11 → v ≡ divide e (x * f) 10000000000 → v ≤ 22 * 10 ^ 9
 flow-most e x f v h k p = rw p (divide-le e (x * f) 10000000000 (22 * 10 ^ 9) (lit< tt) (le-trans (mul-le-mul h k) (lit≤ tt)))

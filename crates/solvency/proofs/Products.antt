@@ -1,14 +1,24 @@
 -- Products of numbers in their ranges, and the quotients and roots of such products.
 -- Assumes nothing.
 use Prim.Native.Nat.{ℕ, _+_, _*_, _-_, _^_, _≤_, _<_, max}
-use mathlib.Core.Path.{_≡_, _∙_}
+use mathlib.Core.Path.{_≡_, sym, ap, _∙_}
 use native.Mathlib.Omega.{arith}
 use native.Mathlib.Nat.{mul-le-mul, mul-le-mul-left, le-trans, lt-of-le-of-lt, lt-of-lt-of-le, le-refl}
 use lib.Dec.{lit≤, lit<}
-use Rattle.arith.specs.Rounding.{End, divide}
+use Rattle.arith.specs.Range.{InRange}
+use Rattle.arith.specs.Rounding.{End, low, high, divide}
 use Rattle.arith.specs.Root.{root}
-use Rattle.arith.proofs.Rounding.{divide-le}
+use Rattle.arith.proofs.Rounding.{divide-le, divide-common}
 use Rattle.arith.proofs.Root.{root-le}
+use Rattle.model.specs.Limits.{AmountsWithin, ShocksWithin}
+use Rattle.model.specs.Rounded.{creditLoss}
+use Rattle.model.specs.declared.case.Amounts.{Amounts}
+use Rattle.model.specs.declared.case.Shocks.{Shocks}
+use Rattle.solvency.specs.Ranges.{UpTo}
+
+-- a bracket whose figure is at most m at both ends
+pub up-to : (m a b : ℕ) (f : End → ℕ) → a ≡ f low → b ≡ f high → ((e : End) → f e ≤ m) → UpTo m (record { lower = a; upper = b })
+up-to m a b f p q h = record { lower = rw p (h low); upper = rw q (h high) }
 
 -- a loss: an amount times thousandths
 pub loss-most : (a b : ℕ) → a ≤ 100000000000 → b ≤ 1000 → a * b ≤ 10 ^ 14
@@ -34,26 +44,32 @@ larger-most r a b m x y e p q h k = omega arith
 pub fall-most : (a b c d : ℕ) → a ≤ 264 * 10 ^ 10 → b ≤ 264 * 10 ^ 10 → (a + b) - (c + d) ≤ 50 * 10 ^ 12
 fall-most a b c d h k = omega arith
 
--- S5: the two products of 64 bits, and that of both with 100
-module _ (credit duration spread rise : ℕ) (h1 : credit ≤ 100000000000) (h2 : duration ≤ 500) (h3 : spread ≤ 10000) (h4 : rise ≤ 1000) where
-  pub years-most : credit * duration ≤ 5 * 10 ^ 13
-  years-most = le-trans (mul-le-mul h1 h2) (lit≤ tt)
+-- S5: 100 ÷ 10^9 is 1 ÷ 10^7
+pub credit-is : (a : Amounts) (x : Shocks) (e : End) → divide e (a .credit * (x .duration * x .spread * x .«spread_rise»)) 10000000 ≡ creditLoss a x e
+credit-is a x e =
+    sym (divide-common e 100 (a .credit * (x .duration * x .spread * x .«spread_rise»)) 10000000 (lit< tt) (lit< tt))
+    ∙ ap (λ (n : ℕ). divide e n (10 ^ 9)) (omega arith)
 
-  pub widened-most : spread * rise ≤ 10 ^ 7
-  widened-most = le-trans (mul-le-mul h3 h4) (lit≤ tt)
+module _ {a : Amounts} {x : Shocks} (w : AmountsWithin a × ShocksWithin x) where
+  pub years-most : x .duration * x .spread ≤ 5 * 10 ^ 6
+  years-most = le-trans (mul-le-mul (w .1 .duration) (w .1 .spread)) (lit≤ tt)
 
-  module _ (v : ℕ) (e : v ≡ credit * duration * (spread * rise) * 100) where
-    credit-most : v ≤ 5 * 10 ^ 22
-    credit-most = rw e (le-trans (mul-le-mul (mul-le-mul years-most widened-most) (le-refl 100)) (lit≤ tt))
+  pub widened-most : x .duration * x .spread * x .«spread_rise» ≤ 5 * 10 ^ 9
+  widened-most = le-trans (mul-le-mul years-most (w .1 .spreadRise)) (lit≤ tt)
 
-    pub credit-fits : v < 2 ^ 63 * 1000000000
-    credit-fits = lt-of-le-of-lt credit-most (lit< tt)
+  pub credit-range : InRange (a .credit) (x .duration * x .spread * x .«spread_rise») 10000000
+  credit-range = record {
+    left = omega (arith, w .0 .credit);
+    right = omega (arith, widened-most);
+    some = lit< tt;
+    most = lit≤ tt;
+    fits = lt-of-le-of-lt (mul-le-mul (w .0 .credit) widened-most) (lit< tt);
+  }
 
-    pub credit-is : v ≡ 100 * (credit * duration * spread * rise)
-    credit-is = e ∙ (omega arith)
-
-    pub credit-end : (end : End) (r : ℕ) → r ≡ divide end v 1000000000 → r ≤ 50 * 10 ^ 12
-    credit-end end r p = rw p (divide-le end v 1000000000 (50 * 10 ^ 12) (lit< tt) (le-trans credit-most (lit≤ tt)))
+  pub credit-most : (e : End) → creditLoss a x e ≤ 50 * 10 ^ 12
+  credit-most e = rw (← credit-is a x e)
+      (divide-le e (a .credit * (x .duration * x .spread * x .«spread_rise»)) 10000000 (50 * 10 ^ 12) (lit< tt)
+      (le-trans (mul-le-mul (w .0 .credit) widened-most) (lit≤ tt)))
 
 -- S6: by the head count h and the age gap d
 module _ (h d : ℕ) (some : 1 ≤ h) (most : h ≤ 1000000) (gap : d ≤ 1200) where

@@ -7,8 +7,8 @@ ghost use Rattle.model.specs.Rounded.{equityLoss, currencyLoss, commodityLoss, 
 ghost use Rattle.model.specs.Brackets.{bracket};
 ghost use Rattle.solvency.specs.Ranges.{LossFits};
 use arith::digits::product;
-use arith::halving::quotient_ceil;
-use arith::halving::quotient_floor;
+use arith::scale::mul_div_ceil;
+use arith::scale::mul_div_floor;
 use model::case::Amounts;
 use model::case::Shocks;
 use model::figures::Bracket;
@@ -66,16 +66,14 @@ pub fn s4(a: Amounts, x: Shocks) -> Bracket
     from_thousandths(100 * commodities)
 }
 
-// S5: credit × duration × spread × spread rise. The product passes 64 bits.
+// S5: credit × duration × spread × spread rise, by 100 ÷ 10^9, which is 1 ÷ 10^7. The product passes 64 bits.
 pub fn s5(a: Amounts, x: Shocks) -> Bracket
     requires { ⌜ AmountsWithin a × ShocksWithin x ⌝ }
     ensures { λ r. ⌜ r ≡ bracket (creditLoss a x) ⌝ }
     ensures bound { λ r. ⌜ LossFits r ⌝ }
 {
-    let years = a.credit * x.duration;
-    let widened = x.spread * x.spread_rise;
-    let cents = product(years, widened, 100);
-    let lower = quotient_floor(cents, 1_000_000_000);
-    let upper = quotient_ceil(cents, 1_000_000_000);
+    let widened = x.duration * x.spread * x.spread_rise;
+    let lower = mul_div_floor(a.credit, widened, 10_000_000);
+    let upper = mul_div_ceil(a.credit, widened, 10_000_000);
     Bracket { lower, upper }
 }

@@ -5,7 +5,7 @@ use mathlib.Core.Path.{_≡_}
 use native.Mathlib.Omega.{arith}
 use lib.IntN.{ℤ, pos, _+ℤ_}
 use Rattle.arith.specs.Rounding.{End, low, high}
-use Rattle.model.specs.Constants.{unit}
+use Rattle.model.specs.Constants.{unit, lastTerm}
 use Rattle.model.specs.Fraction.{Fraction, _*ᶠ_, whole}
 use Rattle.model.specs.Case.{FileCase}
 use Rattle.model.specs.Limits.{WithinLimits}
@@ -13,7 +13,6 @@ use Rattle.model.specs.Curve.{Curve, base, curve, P}
 use Rattle.model.specs.Exact as Exact
 use Rattle.model.specs.Rounded as Rounded
 use Rattle.model.specs.Brackets.{bracket, endOf}
-use Rattle.model.specs.Constants.{lastTerm}
 use Rattle.model.specs.Demand3.{Bounds, In, SquareIn, Given, Demand3}
 use Rattle.theory.proofs.Bracket.{Bounded}
 use Rattle.model.specs.CurveWithin.{CurveWithin}

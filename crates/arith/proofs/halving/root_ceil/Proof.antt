@@ -1,7 +1,7 @@
 -- `arith::halving::root_ceil` meets its contract. Assumes nothing.
 use mathlib.Core.Path.{refl}
 use borrow.Author.Needs.{needs}
-use Rattle.arith.proofs.Interval.{test-true, test-false}
+use Rattle.arith.proofs.Bisection.{test-true, test-false}
 use Rattle.arith.proofs.Root.{root-high-exact, root-high-more}
 use Rattle.arith.proofs.halving.root_ceil.Statement.{statement}
 use Rattle.arith.proofs.halving.root_ceil.Tie as tie

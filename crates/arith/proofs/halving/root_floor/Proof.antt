@@ -5,18 +5,19 @@ use native.Mathlib.Nat.{lt-of-lt-of-le}
 use borrow.Author.Needs.{needs}
 use native.Mathlib.Omega.{arith}
 use Rattle.arith.specs.Value.{val}
-use Rattle.arith.proofs.Interval.{test-true, test-false, middle, root-found}
+use Rattle.arith.proofs.Root.{root-low-is}
+use Rattle.arith.proofs.Bisection.{Parted, middle-left, middle-right, neighbours, test-true, test-false}
 use Rattle.arith.proofs.halving.root_floor.Statement.{statement}
 use Rattle.arith.proofs.halving.root_floor.Tie as tie
 
 abbrev Inv-loop : tie.InvT-loop
-Inv-loop num den lo₀ hi₀ lo hi = (lo * lo * den ≤ val num) × (val num < hi * hi * den) × (lo < hi) × (hi ≤ 2 ^ 56)
+Inv-loop num den lo₀ hi₀ lo hi = Parted (λ r. r * r * den ≤ val num) (λ r. val num < r * r * den) (2 ^ 56) lo hi
 
 abbrev μ-loop : tie.MeasureT-loop
 μ-loop num den lo₀ hi₀ lo hi = hi - lo
 
 loop-holds : tie.Need-loop-holds Inv-loop μ-loop
-loop-holds c = (omega arith, c .pre, omega arith, omega arith)
+loop-holds c = record { order = omega arith; most = omega arith; below = omega arith; above = c .pre }
 
 add-loop : tie.Need-add-loop Inv-loop μ-loop
 add-loop c = omega arith
@@ -37,7 +38,7 @@ loop-again : tie.Need-loop-again Inv-loop μ-loop
 loop-again c =
     let inv = c .before .before .before .before .loop .inv in
     let found = test-true _ _ _ _ _ (c .before .at-most .ensures) (c .before .before .product .ensures) refl (c .if1 .taken) in
-    (found, inv .1, middle _ _ (c .before .before .before .loop-test .taken) .1, inv .3)
+    middle-left inv (c .before .before .before .loop-test .taken) found
 
 loop-less-2 : tie.Need-loop-less-2 Inv-loop μ-loop
 loop-less-2 c = omega arith
@@ -46,12 +47,13 @@ loop-again-2 : tie.Need-loop-again-2 Inv-loop μ-loop
 loop-again-2 c =
     let inv = c .before .before .before .before .loop .inv in
     let found = test-false _ _ _ _ _ (c .before .at-most .ensures) (c .before .before .product .ensures) refl (c .if1 .left) in
-    (inv .0, found, middle _ _ (c .before .before .before .loop-test .taken) .0, omega arith)
+    middle-right inv (c .before .before .before .loop-test .taken) found
 
 returns : tie.Need-returns Inv-loop μ-loop
 returns c =
     let inv = c .before .loop .inv in
-    (root-found _ _ _ _ (inv .0) (inv .1) (inv .2) (c .loop-test .left), lt-of-lt-of-le (inv .2) (inv .3))
+    let (reaches, last) = neighbours inv (c .loop-test .left) in
+    (root-low-is _ _ _ (record { reaches = reaches; last = last }), lt-of-lt-of-le (inv .order) (inv .most))
 
 pub root-floor-spec : {M : Type 1} → statement M
 root-floor-spec =

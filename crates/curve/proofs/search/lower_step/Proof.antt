@@ -1,38 +1,37 @@
 -- `curve::search::lower_step` meets its contract. What is sought lies between lo and hi at every turn, and they come nearer. Assumes nothing.
 use Prim.Native.Nat.{_-_}
-use mathlib.Core.Path.{refl}
 use native.Mathlib.Omega.{arith}
 use Rattle.curve.specs.Kept.{Kept}
-use Rattle.curve.proofs.Halved.{LowerParted, parted-first, parted-left, parted-right, test-left, lower-some, lower-found}
+use Rattle.curve.proofs.Halved.{LowerHalved, all-places, step-left, step-right, tests-most, lower-some, lower-found}
 use Rattle.curve.proofs.search.lower_step.Statement.{statement}
 use Rattle.curve.proofs.search.lower_step.Tie as tie
 
 abbrev Inv-loop : tie.InvT-loop
-Inv-loop t factor steps₀ results₀ terms₀ lo₀ hi₀ d₀ steps results terms lo hi d = LowerParted t factor d lo hi × Kept t steps results terms
+Inv-loop t factor steps₀ results₀ terms₀ lo₀ hi₀ d₀ steps results terms lo hi d = LowerHalved t factor d lo hi × Kept t steps results terms
 
 abbrev μ-loop : tie.MeasureT-loop
 μ-loop t factor steps₀ results₀ terms₀ lo₀ hi₀ d₀ steps results terms lo hi d = hi - lo
 
 loop-holds : tie.Need-loop-holds Inv-loop μ-loop
-loop-holds c = (parted-first, c .pre .1)
+loop-holds c = (all-places, c .pre .1)
 
 add-loop : tie.Need-add-loop Inv-loop μ-loop
-add-loop c = omega (arith, c .loop .inv .0 .order, c .loop .inv .0 .most)
+add-loop c = omega (arith, c .loop .inv .0 .places .order, c .loop .inv .0 .places .most)
 
 add-mid : tie.Need-add-mid Inv-loop μ-loop
-add-mid c = omega (arith, c .before .loop .inv .0 .order, c .before .loop .inv .0 .most)
+add-mid c = omega (arith, c .before .loop .inv .0 .places .order, c .before .loop .inv .0 .places .most)
 
 sub-step : tie.Need-sub-step Inv-loop μ-loop
 sub-step c = omega arith
 
 lower-result-requires : tie.Need-lower-result-requires Inv-loop μ-loop
 lower-result-requires c κs =
-    let parted = c .before .before .before .before .loop .inv .0 in
+    let halved = c .before .before .before .before .loop .inv .0 in
     let test = c .before .before .before .loop-test .taken in
-    (record { term = c .before .before .before .before .before .pre .0 .term; step = omega (arith, parted .most) }, test-left _ _ _ parted test, c .before .before .before .before .loop .inv .1)
+    (record { term = c .before .before .before .before .before .pre .0 .term; step = omega (arith, halved .places .most) }, tests-most halved test, c .before .before .before .before .loop .inv .1)
 
 add-d : tie.Need-add-d Inv-loop μ-loop
-add-d c = omega (arith, c .before .before .before .before .before .loop .inv .0 .tests)
+add-d c = omega (arith, tests-most (c .before .before .before .before .before .loop .inv .0) (c .before .before .before .before .loop-test .taken))
 
 loop-less : tie.Need-loop-less Inv-loop μ-loop
 loop-less c = omega arith
@@ -40,7 +39,7 @@ loop-less c = omega arith
 loop-again : tie.Need-loop-again Inv-loop μ-loop
 loop-again c =
     let learnt = c .before .lower-result .ensures in
-    (parted-left _ _ _ _ (c .before .before .before .before .before .before .loop .inv .0) (c .before .before .before .before .before .loop-test .taken) refl (omega (arith, learnt .0)), learnt .1)
+    (step-left (c .before .before .before .before .before .before .loop .inv .0) (c .before .before .before .before .before .loop-test .taken) (omega (arith, learnt .0)), learnt .1)
 
 loop-less-2 : tie.Need-loop-less-2 Inv-loop μ-loop
 loop-less-2 c = omega arith
@@ -48,7 +47,7 @@ loop-less-2 c = omega arith
 loop-again-2 : tie.Need-loop-again-2 Inv-loop μ-loop
 loop-again-2 c =
     let learnt = c .before .lower-result .ensures in
-    (parted-right _ _ _ _ (c .before .before .before .before .before .before .loop .inv .0) (c .before .before .before .before .before .loop-test .taken) refl (omega (arith, learnt .0)), learnt .1)
+    (step-right (c .before .before .before .before .before .before .loop .inv .0) (c .before .before .before .before .before .loop-test .taken) (omega (arith, learnt .0)), learnt .1)
 
 sub-result : tie.Need-sub-result Inv-loop μ-loop
 sub-result c = lower-some _ _ _ _ _ (c .before .loop .inv .0) (c .before .before .pre .0 .passes) (c .loop-test .left)

@@ -4,13 +4,14 @@ use mathlib.Core.Path.{_≡_, refl, sym, _∙_}
 use native.Mathlib.Omega.{arith}
 use native.Mathlib.Numerals.{add-one}
 use native.Mathlib.Nat.{mul-le-mul}
+use Rattle.arith.specs.Range.{Small, InRange}
 use Rattle.arith.specs.Rounding.{End, low, high, divide}
 use Rattle.model.specs.Constants.{unit}
 use Rattle.model.specs.Rounded.{scaled}
 use Rattle.model.specs.Brackets.{bracket, endOf}
 use Rattle.model.specs.declared.figures.Bracket.{Bracket}
 use Rattle.theory.proofs.Search.{scaled-ends}
-use Rattle.curve.specs.Ranges.{SmallEnds, YearsWithin, GrowthWithin, FirstWithin}
+use Rattle.curve.specs.Ranges.{TimesWithin, ScaledWithin, GrowthWithin}
 use Rattle.theory.proofs.ByEnds.{by-ends, end-is}
 
 pub scaled-none : (e : End) (a b : ℕ) → scaled e a b 0 ≡ unit
@@ -25,29 +26,43 @@ pub scaled-once : (e : End) (a b j : ℕ) → 0 < j → scaled e a b j ≡ divid
 scaled-once e a b zero h = absurd (let z : ⊥ = omega arith in z)
 scaled-once e a b (suc j) h = let k : suc j - 1 ≡ j = omega arith in rw k (scaled-suc e a b j)
 
--- both ends below a bound have a product that fits
-pub small-ends : (x : Bracket) (f : End → ℕ) (a b m k : ℕ) → x ≡ bracket f → 0 < b → f low ≤ f high → f high ≤ m → a ≤ k → m * k + b ≤ 2 ^ 64 → SmallEnds x a b
-small-ends x f a b m k e h l u ha fits = record {
-  lower = record { some = h; fits = omega (arith, mul-le-mul {n₁ = x .lower} {m₁ = a} {n₂ = m} {m₂ = k} (omega (arith, end-is x f e low)) ha) };
-  upper = record { some = h; fits = omega (arith, mul-le-mul {n₁ = x .upper} {m₁ = a} {n₂ = m} {m₂ = k} (omega (arith, end-is x f e high)) ha) };
+-- both ends of a bracket × a ÷ b, by what is known of its figure
+times-within : (x : Bracket) (f : End → ℕ) (a b : ℕ) → x ≡ bracket f → 0 < b → b ≤ 2 ^ 40 → a ≤ 2 * b → f low ≤ f high → f high < 2 ^ 42 → TimesWithin x a b
+times-within x f a b e some most ratio order upper = record {
+  order = omega (arith, end-is x f e low, end-is x f e high);
+  upper = omega (arith, end-is x f e high);
+  some = some;
+  most = most;
+  ratio = ratio;
 }
 
-pub years-small : (x : Bracket) (p q j i : ℕ) → YearsWithin p q j → i ≤ j → x ≡ bracket (λ e. scaled e p q i) → SmallEnds x p q
-years-small x p q j i w h k =
-    small-ends x (λ e. scaled e p q i) p q (12 * 10 ^ 11) 7770000 k (w .some) (scaled-ends p q i (w .some)) (w .years i h) (w .mostP) (omega (arith, w .mostQ))
+pub years-within : (x : Bracket) (a b j i : ℕ) → ScaledWithin a b j → i ≤ j → x ≡ bracket (λ e. scaled e a b i) → TimesWithin x a b
+years-within x a b j i w h k =
+    times-within x (λ e. scaled e a b i) a b k (w .some) (w .most) (w .ratio) (scaled-ends a b i (w .some)) (w .years i h)
 
-pub fewer-years : (p q j i : ℕ) → YearsWithin p q j → i ≤ j → YearsWithin p q i
-fewer-years p q j i w h = record { some = w .some; mostP = w .mostP; mostQ = w .mostQ; years = λ n l. w .years n (omega arith) }
+pub fewer-years : (a b j i : ℕ) → ScaledWithin a b j → i ≤ j → ScaledWithin a b i
+fewer-years a b j i w h = record { some = w .some; most = w .most; ratio = w .ratio; years = λ n l. w .years n (omega arith) }
 
-pub growth-small : (x : Bracket) (n p q j : ℕ) → GrowthWithin n p q j → x ≡ bracket (λ e. scaled e p q j) → SmallEnds x p n
-growth-small x n p q j w k =
+pub last-year-within : (x : Bracket) (n p q j : ℕ) → GrowthWithin n p q j → x ≡ bracket (λ e. scaled e p q j) → TimesWithin x p n
+last-year-within x n p q j w k =
     let y = w .years in
-    small-ends x (λ e. scaled e p q j) p n (12 * 10 ^ 11) 7770000 k (w .some) (scaled-ends p q j (y .some)) (y .years j (omega arith)) (y .mostP)
-    (omega (arith, w .most))
+    times-within x (λ e. scaled e p q j) p n k (w .some) (w .most) (w .ratio) (scaled-ends p q j (y .some)) (y .years j (omega arith))
 
-pub first-small : (x : Bracket) (n p t i : ℕ) → FirstWithin n p t → i ≤ t → x ≡ bracket (λ e. scaled e n p i) → SmallEnds x n p
-first-small x n p t i w h k =
-    small-ends x (λ e. scaled e n p i) n p (15 * 10 ^ 11) 7000000 k (w .some) (scaled-ends n p i (w .some)) (w .years i h) (w .mostN) (omega (arith, w .mostP))
+-- the products of both ways: where a is below 2^23 and x below 2^41, and where they are within 2^42
+pub short-way : (x a b : ℕ) → 0 < b → b ≤ 2 ^ 40 → a < 2 ^ 23 → x < 2 ^ 41 → Small x a b
+short-way x a b some most ha hx = record {
+  some = some;
+  fits = omega (arith, mul-le-mul {n₁ = x} {m₁ = a} {n₂ = 2 ^ 41 - 1} {m₂ = 2 ^ 23 - 1} (omega arith) (omega arith));
+}
+
+pub long-way : (x a b : ℕ) → 0 < b → b ≤ 2 ^ 40 → a ≤ 2 * b → x < 2 ^ 42 → InRange x a b
+long-way x a b some most ratio hx = record {
+  left = hx;
+  right = omega arith;
+  some = some;
+  most = omega arith;
+  fits = omega (arith, mul-le-mul {n₁ = x} {m₁ = a} {n₂ = 2 ^ 42 - 1} {m₂ = 2 * b} (omega arith) ratio);
+}
 
 -- a bracket taken once × a ÷ b, by what it was
 pub taken : (x r : Bracket) (f : End → ℕ) (a b : ℕ) → x ≡ bracket f → r ≡ bracket (λ e. divide e (endOf x e * a) b) → r ≡ bracket (λ e. divide e (f e * a) b)

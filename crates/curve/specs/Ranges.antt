@@ -4,7 +4,6 @@ use Prim.Native.Nat.{ℕ, _*_, _-_, _^_, _≤_, _<_}
 use mathlib.Core.Path.{_≡_}
 use mathlib.Core.List.{List}
 use lib.ListN.{getD}
-use Rattle.arith.specs.Range.{Small}
 use Rattle.arith.specs.Rounding.{low, high}
 use Rattle.model.specs.declared.case.Case.{Case}
 use Rattle.model.specs.declared.figures.Bracket.{Bracket}
@@ -15,30 +14,35 @@ use Rattle.model.specs.CurveWithin.{CurveWithin}
 use Rattle.curve.specs.declared.shift.CurveSums.{CurveSums}
 use Rattle.curve.specs.Shifted.{curveOf}
 
--- of both ends of a bracket × a ÷ b: the product, with b added, fits 64 bits
-pub record SmallEnds (x : Bracket) (a b : ℕ) : Type 0 where
-  pub lower : Small (x .lower) a b
-  pub upper : Small (x .upper) a b
+-- of a bracket × a ÷ b: its ends are in order and below 2^42, about 4.39 × 10^12, and a ÷ b is at most 2
+pub record TimesWithin (x : Bracket) (a b : ℕ) : Type 0 where
+  pub order : x .lower ≤ x .upper
+  pub upper : x .upper < 2 ^ 42
+  pub some : 0 < b
+  pub most : b ≤ 2 ^ 40
+  pub ratio : a ≤ 2 * b
 
 -- of a curve that is shifted: mean rates from -1,000 to 10,000 steps, and a shift of at most 1,000
 pub record ShiftWithin (k : Case) (more less : ℕ) : Type 0 where
-  pub perStep : k .«per_step» ≤ 70
+  pub perStep : k .«per_step» ≤ 7000
   pub least : (i : ℕ) → i < 60 → 99000 * k .«per_step» ≤ getD (k .sums) i 0
   pub most : (i : ℕ) → i < 60 → getD (k .sums) i 0 ≤ 110000 * k .«per_step»
   pub moreMost : more ≤ 1000
   pub lessMost : less ≤ 1000
 
--- of the growth over j years: P(t) and P(t - 1) within 7,770,000, and no growth on the way above 1.2
-pub record YearsWithin (p q j : ℕ) : Type 0 where
-  pub some : 0 < q
-  pub mostP : p ≤ 7770000
-  pub mostQ : q ≤ 7770000
-  pub years : (i : ℕ) → i ≤ j → scaled high p q i ≤ 12 * 10 ^ 11
+-- of 10^12, j times × a ÷ b: no result on the way reaches 2^42
+pub record ScaledWithin (a b j : ℕ) : Type 0 where
+  pub some : 0 < b
+  pub most : b ≤ 2 ^ 40
+  pub ratio : a ≤ 2 * b
+  pub years : (i : ℕ) → i ≤ j → scaled high a b i < 2 ^ 42
 
+-- of the growth of term j + 1, where p is P(j + 1) and q is P(j)
 pub record GrowthWithin (n p q j : ℕ) : Type 0 where
-  pub years : YearsWithin p q j
+  pub years : ScaledWithin p q j
   pub some : 0 < n
-  pub most : n ≤ 7000000
+  pub most : n ≤ 2 ^ 40
+  pub ratio : p ≤ 2 * n
 
 -- of a growth that is weighed
 pub record WeighWithin (growth : Bracket) (w u : ℕ) : Type 0 where
@@ -46,13 +50,6 @@ pub record WeighWithin (growth : Bracket) (w u : ℕ) : Type 0 where
   pub upper : growth .upper ≤ 2 * 10 ^ 12
   pub weight : w ≤ 1000
   pub ufr : u ≤ 2 * 10 ^ 12
-
--- of the factor of a term t up to 20: no factor on the way above 1.5
-pub record FirstWithin (n p t : ℕ) : Type 0 where
-  pub some : 0 < p
-  pub mostN : n ≤ 7000000
-  pub mostP : p ≤ 7770000
-  pub years : (i : ℕ) → i ≤ t → scaled high n p i ≤ 15 * 10 ^ 11
 
 -- of a factor divided by a growth
 pub record CrossWithin (f g : Bracket) : Type 0 where
@@ -63,10 +60,10 @@ pub record CrossWithin (f g : Bracket) : Type 0 where
   pub upperLeast : 2 ^ 20 ≤ g .upper
   pub upperMost : g .upper ≤ 2 ^ 42
 
--- of a curve: what the checks of a file leave true of it, over at most 70 days
+-- of a curve: what the checks of a file leave true of it, where a step adds at most 7,000 to a sum
 pub record FactorsWithin (c : CurveSums) : Type 0 where
   pub within : CurveWithin (curveOf c)
-  pub most : c .n ≤ 7000000
+  pub most : c .n ≤ 700000000
 
 -- of the factor of term t, that f is the one before it
 pub record NextWithin (c : CurveSums) (f : Bracket) (t : ℕ) : Type 0 where

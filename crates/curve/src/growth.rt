@@ -4,15 +4,15 @@ ghost use Prim.Native.Nat.{_+_, _*_, _-_};
 ghost use Rattle.arith.specs.Rounding.{divide};
 ghost use Rattle.model.specs.Rounded.{scaled};
 ghost use Rattle.model.specs.Brackets.{bracket, endOf};
-ghost use Rattle.curve.specs.Ranges.{YearsWithin, GrowthWithin, WeighWithin};
-use super::ends::times_both;
+ghost use Rattle.curve.specs.Ranges.{ScaledWithin, GrowthWithin, WeighWithin};
+use super::times::times_both;
 use model::case::Case;
 use model::figures::Bracket;
 
 // The growth over j years is that over j - 1 years taken once more: one times p / q, where p is
 // P(t) and q is P(t - 1).
 pub fn growth_over(p: u64, q: u64, j: usize) -> Bracket
-    requires { ⌜ YearsWithin p q j ⌝ }
+    requires { ⌜ ScaledWithin p q j ⌝ }
     ensures { λ r. ⌜ r ≡ bracket (λ e. scaled e p q j) ⌝ }
 {
     if j == 0 {

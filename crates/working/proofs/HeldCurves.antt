@@ -41,8 +41,8 @@ module _ (k : FileCase) (w : WithinLimits k) where
   }
 
   -- ---- what is cited of it
-  pub held-per-step-most : held k .«per_step» ≤ 70
-  held-per-step-most = rw held-per-step (w .days .most)
+  pub held-per-step-most : held k .«per_step» ≤ 7000
+  held-per-step-most = omega (arith, held-per-step, w .days .most)
 
   pub held-curve-within : (m : Move) → CurveWithin (curveHeld (held k) m)
   held-curve-within m = same-within (curve k m) (curveHeld (held k) m) (agree-back _ _ (held-agree m)) (curve-within k w m)

@@ -8,7 +8,7 @@ use Rattle.curve.specs.Shifted.{curveHeld}
 use Rattle.solvency.specs.Ranges.{FlowsFit}
 
 pub record CaseFits (c : Case) : Type 0 where
-  pub perStep : c .«per_step» ≤ 70
+  pub perStep : c .«per_step» ≤ 7000
   pub base : BaseWithin (curveHeld c base)
   pub curves : (m : Move) → CurveWithin (curveHeld c m)
   pub pension : FlowsFit (c .pension) (c .«pension_count»)

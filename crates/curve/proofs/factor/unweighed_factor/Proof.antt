@@ -4,7 +4,7 @@ use mathlib.Core.Path.{_≡_}
 use native.Mathlib.Omega.{arith}
 use Rattle.model.specs.Rounded.{scaled}
 use Rattle.model.specs.Brackets.{bracket}
-use Rattle.curve.proofs.Years.{first-small, no-years, next-year, all-years}
+use Rattle.curve.proofs.Years.{years-within, no-years, next-year, all-years}
 use Rattle.curve.proofs.factor.unweighed_factor.Statement.{statement}
 use Rattle.curve.proofs.factor.unweighed_factor.Tie as tie
 
@@ -18,7 +18,7 @@ loop-holds : tie.Need-loop-holds Inv-loop μ-loop
 loop-holds c = (omega arith, no-years _ _)
 
 times-both-requires : tie.Need-times-both-requires Inv-loop μ-loop
-times-both-requires c κs = first-small _ _ _ _ _ (c .before .before .pre) (omega arith) (c .before .loop .inv .1)
+times-both-requires c κs = years-within _ _ _ _ _ (c .before .before .pre) (omega arith) (c .before .loop .inv .1)
 
 add-i : tie.Need-add-i Inv-loop μ-loop
 add-i c = omega arith

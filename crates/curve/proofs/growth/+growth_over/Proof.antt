@@ -5,11 +5,11 @@ use native.Mathlib.Omega.{arith}
 use borrow.Fn.Kinds.{In}
 use borrow.Fn.PlainCycle.{Measures, is, falls, and}
 use Rattle.model.specs.Rounded.{scaled}
-use Rattle.curve.proofs.Years.{years-small, fewer-years, once-more}
+use Rattle.curve.proofs.Years.{years-within, fewer-years, once-more}
 use Rattle.curve.proofs.growth.growth_over.Reads as growth-over
 use Rattle.curve.proofs.growth.growth_over.Kinds as growth-over-kinds
 use Rattle.curve.proofs.growth.+growth_over.Lts-growth_over as growth-over-lts
-use Rattle.curve.proofs.ends.times_both.Reads as times-both-reads
+use Rattle.curve.proofs.times.times_both.Reads as times-both-reads
 use Rattle.curve.proofs.growth.+growth_over.{statement}
 use Rattle.curve.proofs.growth.+growth_over.Tie.{close}
 
@@ -56,7 +56,7 @@ growth-over-times-both-requires : (t : ℕ) → growth-over-lts.Need-times-both-
   times-both-reads.Asked,
   times-both-reads.Learnt,
 ) (growth-over-at t) growth-over.Post
-growth-over-times-both-requires t c κs = years-small _ _ _ _ _ (c .before .before .pre .1) (omega arith) (c .growth-over .ensures)
+growth-over-times-both-requires t c κs = years-within _ _ _ _ _ (c .before .before .pre .1) (omega arith) (c .growth-over .ensures)
 
 growth-over-returns-2 : (t : ℕ) → growth-over-lts.Need-returns-2 (
   growth-over-below t,

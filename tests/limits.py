@@ -172,8 +172,8 @@ def groups():
     yield "order", "The order of checks: two faults each.", list(order_rows())
 
 
-# The rows that a must-fail edit is put to, by group: of a file that gets past its rates a row takes 30 ms and more, so these are few.
-# A group that is not named has all its rows among them.
+# The rows that the must-fail edits of `model` are put to, by group: those that refuse one of them, and few others, since a file that gets
+# past its rates takes 20 to 250 ms. A group that is not named has all its rows among them.
 QUICK = {
     "rates": ["-1001, day 1, term 1", "10001, day 1, term 1", "short, and the first too high"],
     "pension-counts": ["121"],

@@ -1,8 +1,8 @@
 """Files at each limit, on both sides, and in each place of the order of checks: groups of rows (what, file), from the paper's own limits.
 
 The refusal of a row is that of tests/reference.py. tests/pinned.py writes the rows down as computed statements about the definitions,
-and tests/compare_reader.py puts them to the engine. A number that passes its check is mostly shown by a file that ends behind the
-field, which is refused with 1: such a file is short.
+all of them for the crate `pinned` and the quick ones (QUICK) for `model`, and tests/compare_reader.py puts them to the engine. A number
+that passes its check is mostly shown by a file that ends behind the field, which is refused with 1: such a file is short.
 """
 
 from reference import SHOCK_LIMITS, SHOCKS
@@ -147,7 +147,7 @@ def steep_days(n, term, forward):
 
 
 def forward_rows():
-    for n, term in ((1, 2), (1, 60), (3, 21)):
+    for n, term in ((1, 2), (1, 60), (2, 3), (3, 21)):
         for bound in (-2_000 * n, 12_000 * n):
             for more in (0, 1):
                 forward = bound + (more if bound > 0 else -more)
@@ -170,3 +170,25 @@ def groups():
     yield "people", "H: 1 to 1,000,000; ages: 0 to 1,200.", list(people_rows())
     yield "forwards", "Error 6, one below and one above its limits.", list(forward_rows())
     yield "order", "The order of checks: two faults each.", list(order_rows())
+
+
+# The rows that the must-fail edits of `model` are put to, by group: those that refuse one of them, and few others, since a file that gets
+# past its rates takes 20 to 250 ms. A group that is not named has all its rows among them.
+QUICK = {
+    "rates": ["-1001, day 1, term 1", "10001, day 1, term 1", "short, and the first too high"],
+    "pension-counts": ["121"],
+    "pension-flows": [f"flow 1: {FLOW + 1}"],
+    "bond-counts": ["61"],
+    "bond-flows": [f"flow 1: {FLOW + 1}"],
+    "amounts": [f"amount 8: {AMOUNT + 1}", "short, and the first too high"],
+    "shocks": ["spread: 10000", "duration: 501"],
+    "people": ["all at their limits", f"{HEADS + 1} heads"],
+    "forwards": ["1 days, term 2: 12001", "2 days, term 3: 24000"],
+    "order": ["3 before 9", "9 before 4", "4 before the missing rates", "12 before 2", "2 before 6"],
+}
+
+
+def quick_groups():
+    """The groups again, with their quick rows alone."""
+    for name, what, rows in groups():
+        yield name, what, [row for row in rows if name not in QUICK or row[0] in QUICK[name]]

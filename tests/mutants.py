@@ -15,10 +15,10 @@ contents are the same, and any other verdict only while every file under crates/
 is from run to run, which saves some minutes. --jobs J has J provers at a time (2).
 
 Each mutant goes through stages and stops at the first refusal: the crate of the edited file, and then each crate above it in the order
-of crates.txt, those that name the edited file first. For the model these are its quick computed statements, the theorems, and then its
-slow statements. An edit that the prover refuses in a file of definitions is no definition: it is
-ill-formed, and counted apart, as is one that the compiler refuses. A mutant that keeps the prover longer than TIMEOUT, or takes all its
-steps, is refused by time.
+of crates.txt, those that name the edited file first. For the model these are its quick computed statements, the theorems, the statements
+that take longer, and then the code. An edit that the prover refuses in a file of definitions is no definition: it is ill-formed, and
+counted apart, as is one that the compiler refuses. A mutant that keeps the prover longer than TIMEOUT, or takes all its steps, is
+refused by time.
 
 What is proved of the tree as it is serves as a start: all mutants take from a copy of it what they do not change. That can make no
 refusal, since what is taken was admitted; and a survivor can be tried anew with --only, which takes nothing from it.
@@ -62,10 +62,7 @@ DEFINITIONS = {
     "host": "Flat",
 }
 PROGRAMS = {"valuation", "batch", "readings", "vectors", "curves"}
-THEORY = "theory"
-APART = (THEORY, "pinned")  # crates with no code: theorems, and statements that take long to compute. Their refusals are counted apart
-# Proof files that take most of their crate's time: they are tried only where the rest of the crate passes.
-SLOW = {"model": ["Refused"]}
+APART = ("theory", "pinned")  # crates with no code: theorems, and statements that take long to compute. Their refusals are counted apart
 TIMEOUT = 180  # seconds for one stage
 
 ILL_FORMED, REFUSED, TIME, SURVIVES = "ill-formed", "refused", "time", "survives"
@@ -113,16 +110,8 @@ def naming(path, texts):
 
 
 def stages(crate, deps, first=()):
-    """(crate, without slow proofs) of each stage of a mutant of a crate: its own, then those above it, some of them first.
-
-    The theorems are quicker than the slow proofs of the crate itself, so they are tried before these.
-    """
-    above = sorted((name for name in deps if crate in reached(name, deps)), key=lambda name: name not in first)
-    if crate not in SLOW:
-        return [(name, False) for name in [crate] + above]
-    theorems = [name for name in above if name == THEORY]
-    return ([(name, True) for name in [crate] + theorems]
-            + [(name, False) for name in [crate] + above if name not in theorems])
+    """The crate of each stage of a mutant of a crate: its own, then those above it, some of them first."""
+    return [crate] + sorted((name for name in deps if crate in reached(name, deps)), key=lambda name: name not in first)
 
 
 def crate_texts(root):
@@ -233,31 +222,13 @@ def copied(folder, to):
     shutil.copytree(folder, to, copy_function=link)
 
 
-def copied_crates(root, tree, without):
-    """A copy of the crates; some of them without the proof files that are named."""
-    shutil.copytree(os.path.join(root, "crates"), os.path.join(tree, "crates"), ignore=shutil.ignore_patterns("must-fail"))
-    for crate, files in without.items():
-        proofs = os.path.join(tree, "crates", crate, "proofs")
-        text = mutant_edits.read(proofs, "Lib.antt")
-        for name in [f for f in files if os.path.exists(os.path.join(proofs, f + ".antt"))]:
-            os.remove(os.path.join(proofs, name + ".antt"))
-            text = re.sub(rf"^(pub )?mod {name}\n", "", text, flags=re.M)
-        write(os.path.join(proofs, "Lib.antt"), text)
-
-
-def write(path, text):
-    with open(path, "w", encoding="utf-8") as file:
-        file.write(text)
-
-
 class Worker:
-    """A copy of the tree, one without the slow proofs, and a folder of checked modules, for one mutant after the other."""
+    """A copy of the tree, and a folder of checked modules, for one mutant after the other."""
 
     def __init__(self, root, folder, warm, prover):
         self.folder, self.warm, self.prover = folder, warm, prover
-        self.trees = {slow_left_out: os.path.join(folder, "light" if slow_left_out else "whole") for slow_left_out in (True, False)}
-        copied_crates(root, self.trees[True], SLOW)
-        copied_crates(root, self.trees[False], {})
+        self.tree = os.path.join(folder, "tree")
+        shutil.copytree(os.path.join(root, "crates"), os.path.join(self.tree, "crates"), ignore=shutil.ignore_patterns("must-fail"))
         self.texts = crate_texts(root)
 
     def try_one(self, mutant, show=None):
@@ -265,7 +236,7 @@ class Worker:
         incremental, began = os.path.join(self.folder, "checked"), time.monotonic()
         shutil.rmtree(incremental, ignore_errors=True)
         copied(self.warm, incremental) if self.warm else os.mkdir(incremental)
-        original = mutant_edits.read(self.trees[False], mutant.path)
+        original = mutant_edits.read(self.tree, mutant.path)
         try:
             self.put(mutant.path, mutant.text)
             outcome = self.through_stages(mutant, incremental, show)
@@ -275,16 +246,15 @@ class Worker:
         return outcome
 
     def put(self, path, text):
-        for tree in self.trees.values():
-            write(os.path.join(tree, path), text)
+        with open(os.path.join(self.tree, path), "w", encoding="utf-8") as file:
+            file.write(text)
 
     def through_stages(self, mutant, incremental, show):
-        for crate, slow_left_out in stages(mutant.path.split("/")[1], self.prover.deps, naming(mutant.path, self.texts)):
-            tree = self.trees[slow_left_out]
-            status, said = self.prover.check(tree, crate, incremental)
+        for crate in stages(mutant.path.split("/")[1], self.prover.deps, naming(mutant.path, self.texts)):
+            status, said = self.prover.check(self.tree, crate, incremental)
             if show:
-                show(f"---- {crate}{' without ' + ', '.join(SLOW[crate]) if slow_left_out else ''}: status {status}\n{said}")
-            outcome = judged(status, said, tree, mutant.path, crate)
+                show(f"---- {crate}: status {status}\n{said}")
+            outcome = judged(status, said, self.tree, mutant.path, crate)
             if outcome:
                 return outcome
         return Outcome(SURVIVES)
@@ -510,7 +480,7 @@ def tried(mutants, args, deps, work):
         return {**outcomes, **{m.key: workers[0].try_one(m, print) for m in left}}
     with open(args.results or os.devnull, "a", encoding="utf-8") as results:
         run = Run(left, results, tree)
-        if workers and warmed(workers[0].trees[False], warm, prover):
+        if workers and warmed(workers[0].tree, warm, prover):
             run.all(workers)
     return {**outcomes, **run.outcomes}
 

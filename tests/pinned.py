@@ -1,4 +1,4 @@
-"""Writes numbers of tests/reference.py as computed statements about the definitions, in three files (PATHS below).
+"""Writes numbers of tests/reference.py as computed statements about the definitions, in four files (PATHS below).
 
 Command line: python3 tests/pinned.py           writes the files
               python3 tests/pinned.py --check   ends with 1 if one of them is another
@@ -26,8 +26,8 @@ WRITTEN = """\
 """
 
 PINNED_HEAD = """\
--- Numbers of case files and cases as computed statements about the definitions: what an edit of a definition is held against first.
--- What takes longer to compute is in the crate `pinned`.
+-- Numbers of case files and cases as computed statements about the definitions: what an edit of a definition is held against. What takes
+-- longer to compute is in the crate `pinned`.
 """ + WRITTEN + """\
 use Prim.Native.Nat.{ℕ}
 use mathlib.Core.Path.{_≡_, refl}
@@ -62,15 +62,26 @@ use Rattle.model.specs.declared.figures.Verdict.the-variants.{Dekkingste
 use Rattle.model.proofs.Computing.{pairs, all}
 """
 
-REFUSED_HEAD = """\
--- The refusals of files at each limit, on both sides, and in each place of the order of checks. A number that passes its check is mostly
--- shown by a file that ends behind the field, which is refused with 1.
-""" + WRITTEN + """\
+REFUSED_USES = """\
 use Prim.Native.Nat.{ℕ}
 use mathlib.Core.Path.{_≡_, refl}
 use mathlib.Core.List.{List, [], _∷_, _++_, map}
+"""
+
+QUICK_HEAD = """\
+-- The refusals of files at the limits and in the order of checks: those rows of the table that are quick to compute. The whole table is in
+-- the crate `pinned`.
+""" + WRITTEN + REFUSED_USES + """\
 use Rattle.model.specs.Refusals.{refusal, ratesPart}
 use Rattle.model.proofs.Computing.{pairs, all}
+"""
+
+TABLE_HEAD = """\
+-- The refusals of files at each limit, on both sides, and in each place of the order of checks. A number that passes its check is mostly
+-- shown by a file that ends behind the field, which is refused with 1.
+""" + WRITTEN + REFUSED_USES + """\
+use Rattle.model.specs.Refusals.{refusal, ratesPart}
+use Rattle.model.proofs.Computing.{pairs, all}
 """
 
 FILES_HEAD = """\
@@ -89,7 +100,7 @@ use Rattle.model.specs.Rounded as Rounded
 use Rattle.model.specs.Buffers.{valuationOf}
 use Rattle.model.specs.Listing.{listing}
 use Rattle.model.proofs.Computing.{pairs, text, all}
-use Rattle.model.proofs.Pinned.{bentFile, bentCurve, upFile, downFile, long}
+use Rattle.model.proofs.Pinned.{bentFile, bentCase, bentCurve, upFile, downFile, downCase, long}
 """
 
 TITLES = {
@@ -100,6 +111,9 @@ TITLES = {
 }
 
 
+RISING = [7 * t for t in range(1, 61)]  # the rates of a day, none like the other
+
+
 def ends(one_end):
     return [one_end(LOWER), one_end(UPPER)]
 
@@ -107,13 +121,17 @@ def ends(one_end):
 # ---------------------------------------------------------------- crates/model/proofs/Pinned.antt
 
 def read_statements(name, case, data):
-    """The file, its case by name, and that each is the other's."""
+    """The file, its case by name, and that the case gives the file. The other way is `case_statement`, which takes longer."""
     bonds = "true" if case.bonds else "false"
     return [definition(f"{name}File", "List ℕ", file_term(data), TITLES[name]),
             case_definition(name + "Case", case, "the case that it holds"),
-            computed(f"{name}-case", f"caseOf {name}File ≡ {name}Case"),
             computed(f"{name}-layout",
                      f"fileOf (record {{ ufr = true; bonds = {bonds}; amounts = true }}) {name}Case ≡ {name}File")]
+
+
+def case_statement(name):
+    """That the file holds the case."""
+    return computed(f"{name}-case", f"caseOf {name}File ≡ {name}Case")
 
 
 def bent_statements():
@@ -130,19 +148,13 @@ def bent_statements():
     for t in (21, 60, 61):
         out.append(computed(f"bent-weighed-{t}", *both_ends(
             f"Rounded.weighed bentCurve {{e}} {t}", ends(lambda end: reference.weighed_growth(N, P, case.ufr, t, end)))))
-    for t in (1, 20, 21, 61):
+    for t in (1, 20, 21):
         out.append(computed(f"bent-factor-{t}", *both_ends(f"Rounded.factor bentCurve {{e}} {t}", rounded.factors[t])))
-    out.append(rate_statement(rounded, 1))
     for t in (1, 2):
         out.append(computed_fraction(f"bent-exact-factor-{t}", f"Exact.factor bentCurve {t}", exact.factor(t)))
     for t in (61, 120):
         out.append(computed_fraction(f"bent-exact-growth-{t}", f"Exact.growth bentCurve {t}", exact.adjusted_growth(t)))
     return out
-
-
-def rate_statement(rounded, t, of=("low", "high")):
-    bracket = dict(zip(("low", "high"), rounded.zero_rates[t]))
-    return computed(f"bent-zero-rate-{t}", *(f"Rounded.zeroRate bentCurve {end} {t} ≡ {integer(bracket[end])}" for end in of))
 
 
 def fund_statements(name, case):
@@ -249,6 +261,13 @@ def margin_statements():
     return out
 
 
+def shortage_statements():
+    """DEKKINGSTEKORT, which no other case here has in both workings."""
+    case = examples.c1(amounts=examples.c1().amounts | {"cash": 1_049_999})
+    return [case_definition("shortage", case, "C1 with cash 1,049,999: one euro below the first border."),
+            verdict_statement("shortage", "shortage", case)]
+
+
 def undecided_statements():
     """ONBESLIST on each side of each border."""
     named = [("firstBelow", examples.first_border, reference.DEKKINGSTEKORT, "first border, which the exact figures do not reach"),
@@ -267,11 +286,13 @@ def pinned():
     sections = [PINNED_HEAD, *bent_statements()]
     for name, case in (("up", examples.up()), ("down", examples.down())):
         sections += fund_statements(name, case)
-    sections += width_statements() + demand_statements() + shifted_statements() + margin_statements() + undecided_statements()
+    sections.append(case_statement("up"))
+    sections += width_statements() + demand_statements() + shifted_statements() + margin_statements()
+    sections += shortage_statements() + undecided_statements()
     return "\n".join(sections)
 
 
-# ---------------------------------------------------------------- crates/model/proofs/Refused.antt
+# ---------------------------------------------------------------- Refused.antt of both crates
 
 def group_statement(name, what, rows):
     """The files of a group, and the list of their refusals."""
@@ -283,20 +304,28 @@ def group_statement(name, what, rows):
             + f"\n{computed(f'{name}-refusals', f'map refusal {name}Files ≡ {numbers}')}")
 
 
-def part_statement():
+def part_statement(days):
     """The rates' part of a file that has a UFR, by its content."""
-    data = encode(examples.c1(ufr=4_321, days=[[7 * t for t in range(1, 61)], [300] * 60], amounts=dict.fromkeys(reference.AMOUNTS, 0)),
-                  True, False, False)
+    data = encode(examples.c1(ufr=4_321, days=days, amounts=dict.fromkeys(reference.AMOUNTS, 0)), True, False, False)
     offset, length = reference.rates_part(data)
     return (definition("partFile", "List ℕ", file_term(data), "A file with a UFR, and the part of it that holds the rates.")
             + f"\n{computed('rates-part', f'ratesPart partFile ≡ {file_term(data[offset:offset + length])}')}")
 
 
+def refused_quickly():
+    return "\n".join([QUICK_HEAD, *(group_statement(*group) for group in limits.quick_groups()), part_statement([RISING])])
+
+
 def refused():
-    return "\n".join([REFUSED_HEAD, *(group_statement(*group) for group in limits.groups()), part_statement()])
+    return "\n".join([TABLE_HEAD, *(group_statement(*group) for group in limits.groups()), part_statement([RISING, [300] * 60])])
 
 
 # ---------------------------------------------------------------- crates/pinned/proofs/Files.antt
+
+def rate_statement(rounded, t, of=("low", "high")):
+    bracket = dict(zip(("low", "high"), rounded.zero_rates[t]))
+    return computed(f"bent-zero-rate-{t}", *(f"Rounded.zeroRate bentCurve {end} {t} ≡ {integer(bracket[end])}" for end in of))
+
 
 def listing_statement(name, data):
     lines = reference.listing(data).decode().splitlines()
@@ -319,17 +348,19 @@ def files():
     out = [FILES_HEAD]
     for name in ("bent", "up", "down"):
         out.append(computed(f"{name}-accepted", f"refusal {name}File ≡ 0"))
+    out += [case_statement("bent"), case_statement("down")]
     for name, case in (("up", examples.up()), ("down", examples.down())):
         out += listing_statement(name, encode(case, True, True, True))
-    for t in (40, 60, 120):
+    for t in (40, 60, 61, 120):
         out.append(computed(f"bent-factor-{t}", *both_ends(f"Rounded.factor bentCurve {{e}} {t}", bent.factors[t])))
-    out += [rate_statement(bent, 2), rate_statement(bent, 3), rate_statement(bent, 21, ("high",))]
+    out += [rate_statement(bent, 1), rate_statement(bent, 2), rate_statement(bent, 3), rate_statement(bent, 21, ("high",))]
     out.append(definition("longFile", "List ℕ", file_term(encode(examples.long(), True, True, True)), "the long fund as a file"))
     out.append(computed("long-case", "caseOf longFile ≡ long"))
     return "\n".join(out + shifted_figures())
 
 
-PATHS = {"crates/model/proofs/Pinned.antt": pinned, "crates/model/proofs/Refused.antt": refused, "crates/pinned/proofs/Files.antt": files}
+PATHS = {"crates/model/proofs/Pinned.antt": pinned, "crates/model/proofs/Refused.antt": refused_quickly,
+         "crates/pinned/proofs/Files.antt": files, "crates/pinned/proofs/Refused.antt": refused}
 
 
 def others():

@@ -1,4 +1,5 @@
-"""The must-fail edits, without the prover: each can be applied, and each edit of a definition names the statements that refuse it."""
+"""The must-fail edits, without the prover: each can be applied, each comment line begins with #, and each edit of a definition names the
+statements that refuse it."""
 
 import glob
 import os
@@ -25,7 +26,7 @@ def parts(text):
         elif line.startswith("new:"):
             triples.append((file, old, line.removeprefix("new:").removeprefix(" ")))
         elif file is None:
-            comment.append(line)
+            comment.append(line.removeprefix("# "))
     return " ".join(comment), triples
 
 
@@ -55,6 +56,12 @@ class Edits(unittest.TestCase):
                     self.assertNotEqual(old, new)
                     texts[file] = text.replace(old, new)
 
+    def test_comments_begin_with_a_sign(self):
+        for edit in EDITS:
+            with self.subTest(edit=os.path.relpath(edit, ROOT)):
+                rest = [line for line in read_text(edit).splitlines() if not re.match(r"file: |old: |new:", line)]
+                self.assertEqual([line for line in rest if not line.startswith("# ")], [])
+
     def test_definitions_name_what_refuses_them(self):
         known = statements("model")
         for edit in glob.glob(os.path.join(ROOT, "crates", "model", "must-fail", "*.edit")):
@@ -64,7 +71,7 @@ class Edits(unittest.TestCase):
                 self.assertEqual([name for name in names if name not in known], [])
 
     def test_of_the_test(self):
-        comment, triples = parts("A slip. Refused by a-b, c and d.\nfile: specs/X.antt\nold: 1\nnew: 2\nold: 3\nnew:\n")
+        comment, triples = parts("# A slip. Refused by a-b, c\n# and d.\nfile: specs/X.antt\nold: 1\nnew: 2\nold: 3\nnew:\n")
         self.assertEqual(refusing(comment), ["a-b", "c", "d"])
         self.assertEqual(triples, [("specs/X.antt", "1", "2"), ("specs/X.antt", "3", "")])
         self.assertEqual(refusing("A slip."), [])

@@ -266,18 +266,17 @@ class Resumed(unittest.TestCase):
 
 class Stages(unittest.TestCase):
     DEPS = {"arith": [], "model": ["arith"], "theory": ["arith", "model"], "curve": ["model"], "window": ["model", "theory"], "cursor": []}
-    OWN = [("model", True), ("theory", True), ("model", False)]  # the theorems before the slow proofs of the crate itself
 
     def test_the_own_crate_first_then_those_above(self):
-        self.assertEqual(mutants.stages("model", self.DEPS), self.OWN + [("curve", False), ("window", False)])
-        self.assertEqual(mutants.stages("theory", self.DEPS), [("theory", False), ("window", False)])
-        self.assertEqual(mutants.stages("window", self.DEPS), [("window", False)])
+        self.assertEqual(mutants.stages("model", self.DEPS), ["model", "theory", "curve", "window"])
+        self.assertEqual(mutants.stages("theory", self.DEPS), ["theory", "window"])
+        self.assertEqual(mutants.stages("window", self.DEPS), ["window"])
 
     def test_those_that_name_the_file_come_first(self):
         texts = {"theory": "use Rattle.model.specs.Windows.{a}", "window": "use Rattle.model.specs.Window.{a}", "arith": ""}
         first = mutants.naming("crates/model/specs/Window.antt", texts)
         self.assertEqual(first, {"window"})
-        self.assertEqual(mutants.stages("model", self.DEPS, first), self.OWN + [("window", False), ("curve", False)])
+        self.assertEqual(mutants.stages("model", self.DEPS, first), ["model", "window", "theory", "curve"])
         self.assertEqual(mutants.naming("crates/arith/src/digits.rt", {"curve": "use arith::digits::sum;", "host": "digits"}), {"curve"})
 
     def test_what_a_crate_reaches(self):
@@ -285,7 +284,7 @@ class Stages(unittest.TestCase):
 
     def test_every_crate_of_the_tables_is_listed(self):
         listed = mutants.crates(mutants.ROOT)
-        self.assertLessEqual(set(mutants.DEFINITIONS) | set(mutants.SLOW), set(listed))
+        self.assertLessEqual(set(mutants.DEFINITIONS) | set(mutants.APART), set(listed))
 
 
 if __name__ == "__main__":

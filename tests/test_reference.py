@@ -526,6 +526,11 @@ class LimitRows(unittest.TestCase):
         seen = {number_of(data) for _, _, rows in limits.groups() for _, data in rows}
         self.assertEqual(seen, set(range(13)))
 
+    def test_quick_rows(self):
+        rows = {name: [row for row, _ in rows] for name, _, rows in limits.groups()}
+        for name, quick in limits.QUICK.items():
+            self.assertEqual([rows[name].count(row) for row in quick], [1] * len(quick), name)
+
     def test_growth_by_one(self):
         # the files of error 6 have the growth that their row says, and no other at or beyond a limit
         for row, data in limits.forward_rows():

@@ -1,5 +1,5 @@
--- Numbers of case files and cases as computed statements about the definitions: what an edit of a definition is held against first.
--- What takes longer to compute is in the crate `pinned`.
+-- Numbers of case files and cases as computed statements about the definitions: what an edit of a definition is held against. What takes
+-- longer to compute is in the crate `pinned`.
 -- tests/pinned.py wrote this file, from an implementation in Python that was written from the paper alone (tests/reference.py): change
 -- that, not this. Assumes nothing.
 use Prim.Native.Nat.{ℕ}
@@ -99,10 +99,6 @@ bentCase = record {
   };
 }
 
-bent-case : caseOf bentFile ≡ bentCase
-unfolding all
-bent-case = refl
-
 bent-layout : fileOf (record { ufr = true; bonds = false; amounts = true }) bentCase ≡ bentFile
 unfolding all
 bent-layout = refl
@@ -157,16 +153,6 @@ bent-factor-21 : (Rounded.factor bentCurve low 21 ≡ 917880681054)
     × (Rounded.factor bentCurve high 21 ≡ 917880681093)
 unfolding all
 bent-factor-21 = (refl, refl)
-
-bent-factor-61 : (Rounded.factor bentCurve low 61 ≡ 225448050780)
-    × (Rounded.factor bentCurve high 61 ≡ 225448050866)
-unfolding all
-bent-factor-61 = (refl, refl)
-
-bent-zero-rate-1 : (Rounded.zeroRate bentCurve low 1 ≡ negℤ (pos 298))
-    × (Rounded.zeroRate bentCurve high 1 ≡ negℤ (pos 297))
-unfolding all
-bent-zero-rate-1 = (refl, refl)
 
 bent-exact-factor-1 : Exact.factor bentCurve 1 ≐ 75000 // 74777
 unfolding all
@@ -249,10 +235,6 @@ upCase = record {
     «mean_age» = 541;
   };
 }
-
-up-case : caseOf upFile ≡ upCase
-unfolding all
-up-case = refl
 
 up-layout : fileOf (record { ufr = true; bonds = true; amounts = true }) upCase ≡ upFile
 unfolding all
@@ -419,10 +401,6 @@ downCase = record {
   };
 }
 
-down-case : caseOf downFile ≡ downCase
-unfolding all
-down-case = refl
-
 down-layout : fileOf (record { ufr = true; bonds = true; amounts = true }) downCase ≡ downFile
 unfolding all
 down-layout = refl
@@ -521,6 +499,10 @@ down-verdicts : (word (Rounded.verdict downCase) ≡ ascii "VRIJ VERMOGEN")
     × (Exact.verdict downCase ≡ VrijVermogen)
 unfolding all
 down-verdicts = (refl, refl)
+
+up-case : caseOf upFile ≡ upCase
+unfolding all
+up-case = refl
 
 -- A fund with 120 pension and 60 bond flows and both shifts. Most of its large flows lie past term 60, so that WL and WB are large.
 abbrev pub long : FileCase
@@ -854,6 +836,51 @@ second-border-within-without-S = record { above = lit≤ tt; positive = lit≤ t
 second-border-beyond-without-S : NearSecond (secondMargin long) (whole 999912735) (whole 1000000000) (whole 0) → ⊥
 unfolding all
 second-border-beyond-without-S near = not-le-of-lt (lit< tt) (near .positive)
+
+-- C1 with cash 1,049,999: one euro below the first border.
+abbrev pub shortage : FileCase
+shortage = record {
+  ufr = 4200;
+  days = replicate 60 (pos 0)
+      ∷ [];
+  pension = 1000000
+      ∷ [];
+  bonds = [];
+  amounts = record {
+    mature = 0;
+    emerging = 0;
+    private = 0;
+    property = 0;
+    commodities = 0;
+    credit = 0;
+    cash = 1049999;
+    currency = 0;
+  };
+  shocks = record {
+    «up_shift» = 0;
+    «down_shift» = 0;
+    «mature_fall» = 0;
+    «emerging_fall» = 0;
+    «private_fall» = 0;
+    «property_fall» = 0;
+    «currency_fall» = 0;
+    «commodities_fall» = 0;
+    «spread_rise» = 0;
+    correlation = 0;
+    spread = 0;
+    duration = 0;
+  };
+  people = record {
+    heads = 100;
+    «pension_age» = 780;
+    «mean_age» = 460;
+  };
+}
+
+shortage-verdicts : (word (Rounded.verdict shortage) ≡ ascii "DEKKINGSTEKORT")
+    × (Exact.verdict shortage ≡ Dekkingstekort)
+unfolding all
+shortage-verdicts = (refl, refl)
 
 -- "Else ONBESLIST, which is undecided.": C1 with flat 100, at the first border, which the exact figures do not reach.
 abbrev pub firstBelow : FileCase

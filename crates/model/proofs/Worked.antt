@@ -1,28 +1,29 @@
--- The twelve hand-worked cases of document 01 as one result about the definitions, `twelve-cases`; then 13 before all other refusals,
--- the first border, the lent buffers and the window on small files. Each statement is computed. Assumes nothing.
-use Prim.Native.Nat.{ℕ, _*_, _<_, _≤_}
+-- The files of document 01's hand-worked cases, and what is quick to compute of them (`twelve-cases` of the crate `pinned` gathers all
+-- twelve cases); then 13 before all other refusals, the lent buffers and the window on small files. Each statement is computed. Assumes
+-- nothing.
+use Prim.Native.Nat.{ℕ, _*_, _<_}
 use Prim.Native.String.{String}
 use mathlib.Core.Path.{_≡_, refl}
 use mathlib.Core.List.{List, [], _∷_, _++_}
 use native.Mathlib.Omega.{arith}
-use lib.Dec.{lit<, lit≤}
-use lib.ListN.{length, getD, replicate}
+use lib.Dec.{lit<}
+use lib.ListN.{replicate}
 use lib.IntN.{pos, negℤ}
 use Rattle.arith.specs.Rounding.{low, high}
 use Rattle.model.specs.Numbers.{number, twosComplement, table}
 use Rattle.model.specs.Fraction.{_//_, _≐_}
 use Rattle.model.specs.Case.{FileCase}
 use Rattle.model.specs.Reading.{caseOf}
-use Rattle.model.specs.Refusals.{refusal, ratesPart}
+use Rattle.model.specs.Refusals.{refusal}
 use Rattle.model.specs.Curve.{base, curve}
 use Rattle.model.specs.Exact as Exact
 use Rattle.model.specs.Rounded as Rounded
-use Rattle.model.specs.Buffers.{valuationRefusal, valuationOf, refusalNumber, factorsAfter, ratesAfter}
+use Rattle.model.specs.Buffers.{valuationRefusal, valuationOf, factorsAfter, ratesAfter}
 use Rattle.model.specs.Window.{double, windowPoint}
-use Rattle.model.specs.Listing.{ascii, word, listing}
+use Rattle.model.specs.Listing.{ascii, listing}
 use Rattle.model.specs.declared.figures.Bracket.{Bracket}
 use Rattle.model.specs.declared.figures.Figures.{Figures}
-use Rattle.model.specs.declared.figures.Verdict.the-variants.{Dekkingstekort, Reservetekort, VrijVermogen, Onbeslist}
+use Rattle.model.specs.declared.figures.Verdict.the-variants.{Reservetekort, VrijVermogen}
 use Rattle.model.specs.declared.window.Point.the-variants.{Factor, Money, Blank}
 use Rattle.model.proofs.Computing.{pairs, text, all}
 
@@ -126,182 +127,76 @@ other-number h = let e = h .2 in omega (arith, e)
 no-fraction : (0 // 0 ≐ 1 // 1 → ⊥) × (1 // 1 ≐ 0 // 0 → ⊥)
 no-fraction = (λ h. let r = h .0 in omega (arith, r), λ h. let r = h .1 in omega (arith, r))
 
--- The paper's statements. A file with refusal 0 is accepted, and `caseOf` is the case that its bytes hold.
-pub record TwelveCases : Type 0 where
-  -- "Its 224 bytes give": the listing; and the exact verdict is the same
-  pub c1 : (length fileC1 ≡ 224)
-      × (refusal fileC1 ≡ 0)
-      × (listing (valuationOf 240 240 fileC1) ≡ text listingC1)
-      × (Exact.verdict (caseOf fileC1) ≡ VrijVermogen)
-  -- "C1 with cash 1,099,999: RESERVETEKORT"
-  pub c2 : (refusal fileC2 ≡ 0)
-      × (Rounded.verdict (caseOf fileC2) ≡ Reservetekort)
-      × (Exact.verdict (caseOf fileC2) ≡ Reservetekort)
-  -- "bytes FE 0C are -500; flat, exact factor 1 is 200/199"
-  pub c3 : (twosComplement 2 (number (0xfe ∷ 0x0c ∷ []) 0 2) ≡ negℤ (pos 500))
-      × (refusal (withDays (flat 0xfe 0x0c)) ≡ 0)
-      × (caseOf (withDays (flat 0xfe 0x0c)) .days ≡ replicate 60 (negℤ (pos 500)) ∷ [])
-      × (Exact.factor (curve (caseOf (withDays (flat 0xfe 0x0c))) base) 1 ≐ 200 // 199)
-  -- "flat FC 18 (-1,000) passes; flat FC 17 gives 5"
-  pub c4 : (refusal (withDays (flat 0xfc 0x18)) ≡ 0) × (refusal (withDays (flat 0xfc 0x17)) ≡ 5)
-  -- "days at 100 and 101 give exact factor 1 of 200,000/200,201"
-  pub c5 : (refusal fileC5 ≡ 0) × (Exact.factor (curve (caseOf fileC5) base) 1 ≐ 200000 // 200201)
-  -- "flat 0, exact factor 21 is 250,000/250,903"
-  pub c6 : Exact.factor (curve (caseOf fileC1) base) 21 ≐ 250000 // 250903
-  -- "flat 5,000, exact growth 21 is 1.049312"
-  pub c7 : (refusal (withDays (flat 0x13 0x88)) ≡ 0)
-      × (Exact.growth (curve (caseOf (withDays (flat 0x13 0x88))) base) 21 ≐ 1049312 // 1000000)
-  -- "one day, rate 0 then 6,000 for all later terms passes; 6,001 gives 6"
-  pub c8 : (refusal (fileC8 0x17 0x70) ≡ 0) × (refusal (fileC8 0x17 0x71) ≡ 6)
-  -- "S1 300, S2 400 euros, correlation 500, others 0: S is 60,827 to 60,828": rounded from these, and the exact S of a file that has them
-  pub c9 : (Rounded.buffer low 500 30000 40000 0 0 0 0 ≡ 60827)
-      × (Rounded.buffer high 500 30000 40000 0 0 0 0 ≡ 60828)
-      × (refusal fileC9 ≡ 0)
-      × (Exact.S1 (caseOf fileC9) ≐ 30000 // 1)
-      × (Exact.S2 (caseOf fileC9) ≐ 40000 // 1)
-      × (Exact.S² (caseOf fileC9) ≐ 3700000000 // 1)
-      × (60827 * 60827 ≤ 3700000000)
-      × (3700000000 ≤ 60828 * 60828)
-  -- "pension age 780, mean 540: TSO 6.5"
-  pub c10 : (refusal fileC10 ≡ 0) × (Exact.TSO (caseOf fileC10) ≐ 65 // 10)
-  -- "mean age above pension age: TSO 2", of every case, and of a file
-  pub c11 : ((k : FileCase) → k .people .«pension_age» < k .people .«mean_age» → Exact.TSO k ≐ 2 // 1)
-      × (refusal fileC11 ≡ 0)
-      × (caseOf fileC11 .people .«pension_age» < caseOf fileC11 .people .«mean_age»)
-      × (Exact.TSO (caseOf fileC11) ≐ 2 // 1)
-  -- "empty file gives 1"
-  pub c12 : refusal [] ≡ 1
-
-c1-bytes : (length fileC1 ≡ 224) × (refusal fileC1 ≡ 0)
-unfolding all
-c1-bytes = (refl, refl)
-
-c1-listing : listing (valuationOf 240 240 fileC1) ≡ text listingC1
+pub c1-listing : listing (valuationOf 240 240 fileC1) ≡ text listingC1
 unfolding all
 c1-listing = refl
 
-c1-exact : Exact.verdict (caseOf fileC1) ≡ VrijVermogen
+pub c1-exact : Exact.verdict (caseOf fileC1) ≡ VrijVermogen
 unfolding all
 c1-exact = refl
 
-c2-verdicts : (refusal fileC2 ≡ 0)
-    × (Rounded.verdict (caseOf fileC2) ≡ Reservetekort)
-    × (Exact.verdict (caseOf fileC2) ≡ Reservetekort)
+pub c2-verdicts : (Rounded.verdict (caseOf fileC2) ≡ Reservetekort) × (Exact.verdict (caseOf fileC2) ≡ Reservetekort)
 unfolding all
-c2-verdicts = (refl, refl, refl)
+c2-verdicts = (refl, refl)
 
-c3-bytes : twosComplement 2 (number (0xfe ∷ 0x0c ∷ []) 0 2) ≡ negℤ (pos 500)
+pub c3-bytes : twosComplement 2 (number (0xfe ∷ 0x0c ∷ []) 0 2) ≡ negℤ (pos 500)
 unfolding all
 c3-bytes = refl
 
-c3-accepted : refusal (withDays (flat 0xfe 0x0c)) ≡ 0
-unfolding all
-c3-accepted = refl
-
-c3-days : caseOf (withDays (flat 0xfe 0x0c)) .days ≡ replicate 60 (negℤ (pos 500)) ∷ []
+pub c3-days : caseOf (withDays (flat 0xfe 0x0c)) .days ≡ replicate 60 (negℤ (pos 500)) ∷ []
 unfolding all
 c3-days = refl
 
-c3-factor : Exact.factor (curve (caseOf (withDays (flat 0xfe 0x0c))) base) 1 ≐ 200 // 199
+pub c3-factor : Exact.factor (curve (caseOf (withDays (flat 0xfe 0x0c))) base) 1 ≐ 200 // 199
 unfolding all
 c3-factor = (lit< tt, lit< tt, refl)
 
-c4-refusals : (refusal (withDays (flat 0xfc 0x18)) ≡ 0) × (refusal (withDays (flat 0xfc 0x17)) ≡ 5)
+pub c5-factor : Exact.factor (curve (caseOf fileC5) base) 1 ≐ 200000 // 200201
 unfolding all
-c4-refusals = (refl, refl)
+c5-factor = (lit< tt, lit< tt, refl)
 
-c5-factor : (refusal fileC5 ≡ 0) × (Exact.factor (curve (caseOf fileC5) base) 1 ≐ 200000 // 200201)
-unfolding all
-c5-factor = (refl, (lit< tt, lit< tt, refl))
-
-c6-factor : Exact.factor (curve (caseOf fileC1) base) 21 ≐ 250000 // 250903
+pub c6-factor : Exact.factor (curve (caseOf fileC1) base) 21 ≐ 250000 // 250903
 unfolding all
 c6-factor = (lit< tt, lit< tt, refl)
 
-c7-growth : (refusal (withDays (flat 0x13 0x88)) ≡ 0)
-    × (Exact.growth (curve (caseOf (withDays (flat 0x13 0x88))) base) 21 ≐ 1049312 // 1000000)
+pub c7-growth : Exact.growth (curve (caseOf (withDays (flat 0x13 0x88))) base) 21 ≐ 1049312 // 1000000
 unfolding all
-c7-growth = (refl, (lit< tt, lit< tt, refl))
+c7-growth = (lit< tt, lit< tt, refl)
 
-c8-refusals : (refusal (fileC8 0x17 0x70) ≡ 0) × (refusal (fileC8 0x17 0x71) ≡ 6)
-unfolding all
-c8-refusals = (refl, refl)
-
-c9-buffer : (Rounded.buffer low 500 30000 40000 0 0 0 0 ≡ 60827) × (Rounded.buffer high 500 30000 40000 0 0 0 0 ≡ 60828)
+pub c9-buffer : (Rounded.buffer low 500 30000 40000 0 0 0 0 ≡ 60827) × (Rounded.buffer high 500 30000 40000 0 0 0 0 ≡ 60828)
 unfolding all
 c9-buffer = (refl, refl)
 
-c9-exact : (refusal fileC9 ≡ 0)
-    × (Exact.S1 (caseOf fileC9) ≐ 30000 // 1)
+pub c9-exact : (Exact.S1 (caseOf fileC9) ≐ 30000 // 1)
     × (Exact.S2 (caseOf fileC9) ≐ 40000 // 1)
     × (Exact.S² (caseOf fileC9) ≐ 3700000000 // 1)
 unfolding all
-c9-exact = (refl, (lit< tt, lit< tt, refl), (lit< tt, lit< tt, refl), (lit< tt, lit< tt, refl))
+c9-exact = ((lit< tt, lit< tt, refl), (lit< tt, lit< tt, refl), (lit< tt, lit< tt, refl))
 
-c10-TSO : (refusal fileC10 ≡ 0) × (Exact.TSO (caseOf fileC10) ≐ 65 // 10)
+pub c10-TSO : Exact.TSO (caseOf fileC10) ≐ 65 // 10
 unfolding all
-c10-TSO = (refl, (lit< tt, lit< tt, refl))
+c10-TSO = (lit< tt, lit< tt, refl)
 
-c11-TSO : (k : FileCase) → k .people .«pension_age» < k .people .«mean_age» → Exact.TSO k ≐ 2 // 1
+pub c11-TSO : (k : FileCase) → k .people .«pension_age» < k .people .«mean_age» → Exact.TSO k ≐ 2 // 1
 c11-TSO k h = (lit< tt, lit< tt, omega (arith, h))
 
-c11-file : (refusal fileC11 ≡ 0)
-    × (caseOf fileC11 .people .«pension_age» < caseOf fileC11 .people .«mean_age»)
-    × (Exact.TSO (caseOf fileC11) ≐ 2 // 1)
+pub c11-file : (caseOf fileC11 .people .«pension_age» < caseOf fileC11 .people .«mean_age») × (Exact.TSO (caseOf fileC11) ≐ 2 // 1)
 unfolding all
-c11-file = (refl, lit< tt, (lit< tt, lit< tt, refl))
+c11-file = (lit< tt, (lit< tt, lit< tt, refl))
 
-c12-refusal : refusal [] ≡ 1
+pub c12-refusal : refusal [] ≡ 1
 unfolding all
 c12-refusal = refl
 
-pub twelve-cases : TwelveCases
-twelve-cases = record {
-  c1 = (c1-bytes .0, c1-bytes .1, c1-listing, c1-exact);
-  c2 = c2-verdicts;
-  c3 = (c3-bytes, c3-accepted, c3-days, c3-factor);
-  c4 = c4-refusals;
-  c5 = c5-factor;
-  c6 = c6-factor;
-  c7 = c7-growth;
-  c8 = c8-refusals;
-  c9 = (c9-buffer .0, c9-buffer .1, c9-exact .0, c9-exact .1, c9-exact .2, c9-exact .3, lit≤ tt, lit≤ tt);
-  c10 = c10-TSO;
-  c11 = (c11-TSO, c11-file .0, c11-file .1, c11-file .2);
-  c12 = c12-refusal;
-}
-
--- "Order: 13; then the map"; the rest of the order is in Refused
+-- "Order: 13; then the map"; the rest of the order is in Refused.antt of the crate `pinned`
 order-13 : (valuationRefusal 239 240 [] ≡ 13) × (valuationRefusal 240 239 [] ≡ 13) × (valuationRefusal 240 240 [] ≡ 1)
 unfolding all
 order-13 = (refl, refl, refl)
-
--- "DEKKINGSTEKORT if 20 × A < 21 × L": C1 with cash 1,049,999, and with 1,050,000, where both are the same
-first-border : (word (Rounded.verdict (caseOf (withCash 0x10 0x05 0x8f))) ≡ ascii "DEKKINGSTEKORT")
-    × (Exact.verdict (caseOf (withCash 0x10 0x05 0x8f)) ≡ Dekkingstekort)
-    × (Rounded.verdict (caseOf (withCash 0x10 0x05 0x90)) ≡ Reservetekort)
-    × (Exact.verdict (caseOf (withCash 0x10 0x05 0x90)) ≡ Reservetekort)
-unfolding all
-first-border = (refl, refl, refl, refl)
-
--- the paper's number of an answer
-answer-numbers : (refusalNumber (valuationOf 240 240 fileC1) ≡ 0)
-    × (refusalNumber (valuationOf 240 240 []) ≡ 1)
-    × (refusalNumber (valuationOf 239 240 fileC1) ≡ 13)
-unfolding all
-answer-numbers = (refl, refl, refl)
 
 -- "A refused file prints R and its number, one space between, as its only line."
 listing-refused : (listing (valuationOf 0 0 fileC1) ≡ ascii "R 13\n") × (listing (valuationOf 240 240 []) ≡ ascii "R 1\n")
 unfolding all
 listing-refused = (refl, refl)
-
--- "all n × 120 bytes; of a file that 1 to 12 refuse, an empty part"
-rates-part : (length (ratesPart fileC1) ≡ 120)
-    × (ratesPart fileC5 ≡ pairs 60 0 100 ++ pairs 60 0 101)
-    × (ratesPart (withDays (flat 0xfc 0x17)) ≡ [])
-unfolding all
-rates-part = (refl, refl, refl)
 
 -- "A refusal .. changes nothing lent.": by 13, where a rate is lent too few, and by 1
 lent-after-refusal : (factorsAfter fileC1 (replicate 241 7) (replicate 239 (pos 8)) ≡ replicate 241 7)
@@ -309,14 +204,6 @@ lent-after-refusal : (factorsAfter fileC1 (replicate 241 7) (replicate 239 (pos 
     × (ratesAfter [] (replicate 241 7) (replicate 241 (pos 8)) ≡ replicate 241 (pos 8))
 unfolding all
 lent-after-refusal = (refl, refl, refl)
-
--- "into entries 0 to 239; later entries keep their content": C1's factors 1 and 20 are 1
-lent-after-valuation : (length (factorsAfter fileC1 (replicate 241 7) (replicate 240 (pos 8))) ≡ 241)
-    × (getD (factorsAfter fileC1 (replicate 241 7) (replicate 240 (pos 8))) 0 0 ≡ 1000000000000)
-    × (getD (factorsAfter fileC1 (replicate 241 7) (replicate 240 (pos 8))) 39 0 ≡ 1000000000000)
-    × (getD (factorsAfter fileC1 (replicate 241 7) (replicate 240 (pos 8))) 240 0 ≡ 7)
-unfolding all
-lent-after-valuation = (refl, refl, refl, refl)
 
 -- The window, on 240 entries that are 0 to 239 and ten brackets 1 2, 3 4, .., 19 20: "a factor (1 to 120), a money figure (121 to 130:
 -- L B A S1 S2 S3 S4 S5 S6 S) or blank (any other number)".

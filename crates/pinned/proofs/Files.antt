@@ -14,7 +14,7 @@ use Rattle.model.specs.Rounded as Rounded
 use Rattle.model.specs.Buffers.{valuationOf}
 use Rattle.model.specs.Listing.{listing}
 use Rattle.model.proofs.Computing.{pairs, text, all}
-use Rattle.model.proofs.Pinned.{bentFile, bentCurve, upFile, downFile, long}
+use Rattle.model.proofs.Pinned.{bentFile, bentCase, bentCurve, upFile, downFile, downCase, long}
 
 bent-accepted : refusal bentFile ≡ 0
 unfolding all
@@ -27,6 +27,14 @@ up-accepted = refl
 down-accepted : refusal downFile ≡ 0
 unfolding all
 down-accepted = refl
+
+bent-case : caseOf bentFile ≡ bentCase
+unfolding all
+bent-case = refl
+
+down-case : caseOf downFile ≡ downCase
+unfolding all
+down-case = refl
 
 abbrev pub upListing : List String
 upListing =
@@ -76,10 +84,20 @@ bent-factor-60 : (Rounded.factor bentCurve low 60 ≡ 235189661055)
 unfolding all
 bent-factor-60 = (refl, refl)
 
+bent-factor-61 : (Rounded.factor bentCurve low 61 ≡ 225448050780)
+    × (Rounded.factor bentCurve high 61 ≡ 225448050866)
+unfolding all
+bent-factor-61 = (refl, refl)
+
 bent-factor-120 : (Rounded.factor bentCurve low 120 ≡ 18582910617)
     × (Rounded.factor bentCurve high 120 ≡ 18582910646)
 unfolding all
 bent-factor-120 = (refl, refl)
+
+bent-zero-rate-1 : (Rounded.zeroRate bentCurve low 1 ≡ negℤ (pos 298))
+    × (Rounded.zeroRate bentCurve high 1 ≡ negℤ (pos 297))
+unfolding all
+bent-zero-rate-1 = (refl, refl)
 
 bent-zero-rate-2 : (Rounded.zeroRate bentCurve low 2 ≡ negℤ (pos 238))
     × (Rounded.zeroRate bentCurve high 2 ≡ negℤ (pos 236))

@@ -1,2 +1,5 @@
--- Computed statements on whole case files; tests/pinned.py writes them.
+-- Computed statements that take longer: the twelve cases, whole case files, all refusals. tests/pinned.py writes Files and Refused.
+pub mod TwelveCases
+pub mod LikeC1
+pub mod Refused
 pub mod Files

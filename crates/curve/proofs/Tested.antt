@@ -11,7 +11,8 @@ use Rattle.arith.specs.Rounding.{End, low, high, divide}
 use Rattle.arith.proofs.Rounding.{divide-floor, divide-le}
 use Rattle.model.specs.Rounded.{scaled, tested}
 use Rattle.theory.proofs.Conditions.{below, at}
-use Rattle.theory.proofs.Search.{scaled-ends, tested-small}
+use Rattle.theory.proofs.Steps.{scaled-ends}
+use Rattle.theory.proofs.Search.{tested-small}
 use Rattle.curve.specs.Ranges.{Small, StepWithin}
 use Rattle.curve.proofs.Years.{scaled-suc}
 

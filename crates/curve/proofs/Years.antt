@@ -8,7 +8,7 @@ use Rattle.arith.specs.Rounding.{End, low, high, divide}
 use Rattle.model.specs.Constants.{unit}
 use Rattle.model.specs.Rounded.{bracket, scaled, endOf}
 use Rattle.model.specs.declared.figures.Bracket.{Bracket}
-use Rattle.theory.proofs.Search.{scaled-ends}
+use Rattle.theory.proofs.Steps.{scaled-ends}
 use Rattle.curve.specs.Ranges.{SmallEnds, YearsWithin, GrowthWithin, FirstWithin}
 use Rattle.curve.proofs.ByEnds.{by-ends, end-is}
 

@@ -1,9 +1,9 @@
 -- Demand 3, whole: of every case within the limits, and of whatever is given that is the rounded working's.
 -- Assumes nothing.
 use Prim.Native.Nat.{ℕ, _*_, _≤_, _<_}
-use mathlib.Core.Path.{_≡_}
+use mathlib.Core.Path.{_≡_, refl}
 use native.Mathlib.Omega.{arith}
-use lib.IntN.{ℤ, pos, _+ℤ_}
+use lib.IntN.{pos, _+ℤ_}
 use Rattle.arith.specs.Rounding.{End, low, high}
 use Rattle.model.specs.Constants.{unit}
 use Rattle.model.specs.Fraction.{Fraction, _*ᶠ_, whole}
@@ -14,6 +14,7 @@ use Rattle.model.specs.Exact as Exact
 use Rattle.model.specs.Rounded as Rounded
 use Rattle.model.specs.Rounded.{bracket, endOf}
 use Rattle.model.specs.Demand3.{Bounds, In, SquareIn, Given, lastTerm, Demand3}
+use Rattle.arith.proofs.Ends.{from}
 use Rattle.theory.proofs.Bracket.{Bounded}
 use Rattle.model.specs.CurveWithin.{CurveWithin}
 use Rattle.theory.proofs.Differences.{not-cut}
@@ -27,26 +28,27 @@ use Rattle.theory.proofs.Verdicts.{verdict-right, verdict-margin}
 
 -- a number that counts a figure in whole cents bounds it
 bounds : {e : End} {n : ℕ} {x : Fraction} → 0 < x .den → Bounded e 1 n x → Bounds e n x
-bounds {e = low} r h = record { real = r; order = omega (arith, h .is) }
-bounds {e = high} r h = record { real = r; order = omega (arith, h .is) }
+bounds {e = low} r h = record { real = r; order = omega (arith, h .is .le) }
+bounds {e = high} r h = record { real = r; order = omega (arith, h .is .le) }
 
 -- and one that counts it in units bounds the figure in units
 in-units : {e : End} {n : ℕ} {x : Fraction} → 0 < x .den → Bounded e unit n x → Bounds e n (whole unit *ᶠ x)
-in-units {e = low} r h = record { real = omega (arith, r); order = omega (arith, h .is) }
-in-units {e = high} r h = record { real = omega (arith, r); order = omega (arith, h .is) }
+in-units r h = bounds (omega (arith, r)) record { is = from (h .is) (omega arith) }
 
 factor-den : (c : Curve) → CurveWithin c → (t : ℕ) → 0 < Exact.factor c t .den
 unfolding Exact.factor
 factor-den c f t = omega (arith, product-pos c f t .0)
 
 -- both ends of a bracket bound its figure, or the figure's square
+end-is : (figure : End → ℕ) (e : End) → endOf (bracket figure) e ≡ figure e
+end-is figure low = refl
+end-is figure high = refl
+
 figure-in : (figure : End → ℕ) (x : Fraction) → 0 < x .den → ((e : End) → Bounded e 1 (figure e) x) → In (endOf (bracket figure)) x
-figure-in figure x r h low = bounds r (h low)
-figure-in figure x r h high = bounds r (h high)
+figure-in figure x r h e = rw (end-is figure e) (bounds r (h e))
 
 square-in : (figure : End → ℕ) (x² : Fraction) → 0 < x² .den → ((e : End) → Bounded e 1 (figure e * figure e) x²) → SquareIn (endOf (bracket figure)) x²
-square-in figure x² r h low = bounds r (h low)
-square-in figure x² r h high = bounds r (h high)
+square-in figure x² r h e = rw (end-is figure e) (bounds r (h e))
 
 P-uncut : (c : Curve) → CurveWithin c → (t : ℕ) → t ≤ 60 → pos (P c t) ≡ pos (c .N) +ℤ c .sum t
 unfolding P

@@ -4,31 +4,21 @@ use Prim.Native.Nat.{ℕ, zero, suc, _+_, _*_, _^_, _≤_, _<_}
 use mathlib.Core.Path.{_≡_}
 use mathlib.Core.Bool.{Bool}
 use native.Mathlib.Omega.{arith}
-use native.Mathlib.Nat.{mul-le-mul-left, mul-le-mul-right, le-trans, le-antisymm}
+use native.Mathlib.Nat.{mul-le-mul-left, le-trans, le-antisymm}
 use native.Mathlib.Decide.{decLe}
 use lib.Dec.{T, leb, leb→le, le→leb}
 use Rattle.arith.specs.Rounding.{End, low, high, divide}
-use Rattle.arith.proofs.Rounding.{divide-floor, divide-ceiling, divide-le, le-divide, divide-mono, divide-ends}
 use Rattle.model.specs.Constants.{stepsPerOne}
 use Rattle.model.specs.Curve.{Curve}
 use Rattle.model.specs.Rounded as Rounded
 use Rattle.model.specs.Rounded.{scaled, tested, lowerTest, upperTest, largest, smallest}
 use Rattle.theory.proofs.Conditions.{below, at}
+use Rattle.theory.proofs.Steps.{scaled-ends, scaled-mono}
 use Rattle.theory.proofs.ZeroRate.{largest-found, smallest-found}
 
--- a larger divisor gives no larger quotient
-divide-anti : (e : End) (a b c : ℕ) → 0 < b → b ≤ c → divide e a c ≤ divide e a b
-divide-anti low a b c h k =
-    le-divide low a b (divide low a c) h (omega (arith, divide-floor a c (omega arith), mul-le-mul-left (divide low a c) k))
-divide-anti high a b c h k =
-    divide-le high a c (divide high a b) (omega arith) (omega (arith, divide-ceiling a b h, mul-le-mul-left (divide high a b) k))
-
-pub scaled-anti : (e : End) (a b c j : ℕ) → 0 < b → b ≤ c → scaled e a c j ≤ scaled e a b j
-unfolding scaled
-scaled-anti e a b c zero h k = omega arith
-scaled-anti e a b c (suc j) h k =
-    le-trans (divide-anti e (scaled e a c j * a) b c h k)
-    (divide-mono e (scaled e a c j * a) (scaled e a b j * a) b h (mul-le-mul-right a (scaled-anti e a b c j h k)))
+-- a larger divisor gives no larger result
+scaled-anti : (e : End) (a b c j : ℕ) → 0 < b → b ≤ c → scaled e a c j ≤ scaled e a b j
+scaled-anti e a b c j h k = scaled-mono e a c a b j (omega arith) h (mul-le-mul-left a k)
 
 -- a larger step gives no larger result
 pub tested-anti : (e : End) (t i j : ℕ) → i ≤ j → tested e t j ≤ tested e t i
@@ -72,14 +62,6 @@ small t = leb (scaled high stepsPerOne 98000 t) (12 * 10 ^ 12)
 all-small : T (below small 121)
 unfolding below scaled divide
 all-small = tt
-
--- the ends of a result are in order
-pub scaled-ends : (a b j : ℕ) → 0 < b → scaled low a b j ≤ scaled high a b j
-unfolding scaled
-scaled-ends a b zero h = omega arith
-scaled-ends a b (suc j) h =
-    le-trans (divide-mono low (scaled low a b j * a) (scaled high a b j * a) b h (mul-le-mul-right a (scaled-ends a b j h)))
-    (divide-ends (scaled high a b j * a) b h)
 
 high-small : (t i : ℕ) → t ≤ 120 → tested high t i ≤ 12 * 10 ^ 12
 high-small t i h =

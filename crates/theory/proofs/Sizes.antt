@@ -16,10 +16,10 @@ use Rattle.model.specs.Rounded as Rounded
 use Rattle.model.specs.Rounded.{scaled, ufrGrowth}
 use Rattle.model.specs.CurveWithin.{CurveWithin}
 use Rattle.theory.proofs.Conditions.{below, at}
-use Rattle.theory.proofs.Steps.{scaled-in, scaled-width}
+use Rattle.theory.proofs.Steps.{scaled-in, scaled-mono, scaled-width}
 use Rattle.theory.proofs.Growth.{growth-suc, P-pos, N-pos, pow-pos}
 use Rattle.theory.proofs.Factor.{rounded-factor-first, rounded-factor-next, weighed-from-61, least}
-use Rattle.theory.proofs.Width.{scaled-most, factorMost, middle}
+use Rattle.theory.proofs.Width.{factorMost, middle}
 use Rattle.theory.proofs.ZeroRate.{backward}
 
 -- r + i p is at most (i + 1) q for each i up to j, if it is so at j
@@ -38,7 +38,7 @@ years-low : (p q r i : ℕ) → 0 < q → r + 100 * (i * p) ≤ 100 * (suc i * q
 years-low p q r i hq h =
     let f : p ^ i * r ≤ 100 * (q ^ i * q) = rw (pow-suc q i) at (backward p q r i h) in
     le-of-mul-le-mul-right {m = scaled low p q i * r} {n = unit * (100 * q)} {k = q ^ i}
-    (omega (arith, mul-le-mul-right r (scaled-in low p q i hq .is), mul-le-mul-left unit f)) (pow-pos q i hq)
+    (omega (arith, mul-le-mul-right r (scaled-in low p q i hq .is .le), mul-le-mul-left unit f)) (pow-pos q i hq)
 
 -- the growth over i years, i up to t - 1
 pub years-most : (c : Curve) → CurveWithin c → (j i : ℕ) → suc j ≤ 60 → i ≤ j → scaled high (P c (suc j)) (P c j) i ≤ 12 * 10 ^ 11
@@ -83,7 +83,7 @@ all-middles = tt
 
 pub first-size : (c : Curve) → CurveWithin c → (t i : ℕ) → t ≤ 60 → i ≤ 20 → scaled high (c .N) (P c t) i ≤ 15 * 10 ^ 11
 first-size c f t i h k =
-    le-trans (scaled-most (c .N) (P c t) 100 98 i (P-pos c f t h) (omega arith) (omega (arith, f .least t h)))
+    le-trans (scaled-mono high (c .N) (P c t) 100 98 i (P-pos c f t h) (omega arith) (omega (arith, f .least t h)))
     (leb→le (scaled high 100 98 i) (15 * 10 ^ 11) (at firsts 21 all-firsts i (omega arith)))
 
 late-size : (c : Curve) → CurveWithin c → (i : ℕ) → Rounded.factor c high (60 + i) ≤ 22 * 10 ^ 11

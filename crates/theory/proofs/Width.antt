@@ -5,7 +5,7 @@ use Prim.Native.Nat.{ℕ, zero, suc, _+_, _*_, _-_, _^_, _≤_, _<_}
 use mathlib.Core.Bool.{Bool}
 use lib.Dec.{T, leb, leb→le}
 use native.Mathlib.Omega.{arith}
-use native.Mathlib.Nat.{add-suc, le-dest, mul-le-mul, mul-le-mul-left, mul-le-mul-right, mul-lt-mul-of-pos-right, le-of-mul-le-mul-right, lt-of-mul-lt-mul-right}
+use native.Mathlib.Nat.{add-suc, le-dest, mul-le-mul, mul-le-mul-left, mul-le-mul-right, mul-lt-mul-of-pos-right, lt-of-mul-lt-mul-right}
 use native.Mathlib.Decide.{decLe}
 use Rattle.model.specs.Curve.{Curve, P}
 use Rattle.model.specs.Exact.{weight, weights}
@@ -14,23 +14,10 @@ use Rattle.model.specs.Constants.{unit}
 use Rattle.model.specs.Rounded as Rounded
 use Rattle.model.specs.Rounded.{scaled, ufrGrowth}
 use Rattle.model.specs.CurveWithin.{CurveWithin}
-use Rattle.theory.proofs.Steps.{wider, scaled-width, ends}
+use Rattle.theory.proofs.Steps.{wider, scaled-width, scaled-mono, ends}
 use Rattle.theory.proofs.Growth.{growth-width, P-pos}
 use Rattle.theory.proofs.Factor.{least, weighed-least, weighed-to-60, weighed-from-61, weighed-in, growth-fraction-pos, rounded-factor-first, rounded-factor-next}
 use Rattle.theory.proofs.Conditions.{below, at}
-
--- to 20
-pub scaled-most : (a b p q j : ℕ) → 0 < b → 0 < q → a * q ≤ p * b → scaled high a b j ≤ scaled high p q j
-unfolding scaled
-scaled-most a b p q zero h k l = omega arith
-scaled-most a b p q (suc j) h k l =
-    let x : ℕ = scaled high a b j in
-    let y : ℕ = scaled high p q j in
-    let r : ℕ = divide high (y * p) q in
-    let ih : x ≤ y = scaled-most a b p q j h k l in
-    divide-le high (x * a) b r h
-    (le-of-mul-le-mul-right {m = x * a} {n = r * b}
-    (omega (arith, mul-le-mul-right (a * q) ih, mul-le-mul-left y l, mul-le-mul-right b (divide-ceiling (y * p) q k .0))) k)
 
 -- one crosswise division
 pub crosswise : (lo hi gl gh W v H A H′ a b : ℕ) → 0 < A → A ≤ gl → gl ≤ gh → gh ≤ gl + v → hi ≤ lo + W → hi ≤ H
@@ -95,7 +82,7 @@ pub middle : (c : Curve) → CurveWithin c → (j : ℕ) → j ≤ 40
 unfolding factorMost widthMost
 middle c f zero h =
     rw (rounded-factor-first c high 19 (omega arith), rounded-factor-first c low 19 (omega arith)) (
-      scaled-most (c .N) (P c 20) 100 98 20 hp (omega arith) (omega (arith, hl)),
+      scaled-mono high (c .N) (P c 20) 100 98 20 hp (omega arith) (omega (arith, hl)),
       scaled-width (c .N) (P c 20) 20 hp (omega (arith, hl)) 20 (omega arith),
     )
   where

@@ -1,36 +1,38 @@
 -- The zero rate of every term from 1 to 120 lies in its bracket, which is at most two steps wide.
 -- Assumes nothing.
-use Rattle.arith.proofs.Rounding.{divide-floor, divide-ceiling, divide-le, le-divide}
+use Rattle.arith.proofs.Rounding.{divide-ceiling}
 use Prim.Native.Nat.{ℕ, zero, suc, _+_, _*_, _-_, _^_, _≤_, _<_}
 use mathlib.Core.Path.{_≡_, refl, sym, _∙_, ap, subst}
 use mathlib.Core.Bool.{Bool, true, false, cond}
 use lib.Dec.{T, leb, leb→le, le→leb, ltb, ltb→lt, lit<, lit≤}
 use native.Mathlib.Omega.{arith}
-use native.Mathlib.Nat.{mul-le-mul, mul-le-mul-left, mul-le-mul-right, le-of-mul-le-mul-right, pow-suc, pow-zero, le-dest, le-trans, le-of-mul-le-mul-left, lt-of-not-le, not-suc-le-self, not-suc-le-zero}
+use native.Mathlib.Nat.{mul-le-mul, mul-le-mul-left, mul-le-mul-right, le-of-mul-le-mul-right, pow-suc, pow-zero, le-dest, le-trans, lt-of-not-le, not-suc-le-self, not-suc-le-zero}
 use native.Mathlib.Numerals.{add-one}
 use native.Mathlib.Decide.{decLe}
 use Rattle.model.specs.Curve.{Curve, P}
 use Rattle.model.specs.Exact as Exact
 use Rattle.model.specs.Exact.{G, weight, weights}
-use Rattle.arith.specs.Rounding.{End, low, high, divide}
+use Rattle.arith.specs.Rounding.{End, low, high, other, divide}
 use Rattle.model.specs.Constants.{unit}
 use Rattle.model.specs.Rounded as Rounded
-use Rattle.model.specs.Rounded.{scaled}
+use Rattle.model.specs.Rounded.{scaled, tested, ufrGrowth}
+use Rattle.arith.proofs.Ends.{_≤⟨_⟩_, _and_, _times_, from, cancel, reverse, equal, divide-order}
+use Rattle.model.specs.Fraction.{Fraction}
 use Rattle.theory.proofs.Bracket.{Bounded}
 use Rattle.model.specs.CurveWithin.{BaseWithin}
 use Rattle.model.specs.Constants.{stepsPerOne}
 use Rattle.model.specs.Limits.{Between}
 use Rattle.model.specs.Curve.{natural}
 use Rattle.model.specs.Rounded.{stepAt, lowerTest, upperTest, largest, smallest}
-use Rattle.model.specs.Demand3.{RateBounds}
+use Rattle.model.specs.Demand3.{RateOrdered, RateBounds}
 use Rattle.theory.proofs.Differences.{Diff, again, diff-pos, diff-sum, diff-neg, diff-minus, le-diff, lt-diff, natural-is}
-use lib.IntN.{pos, negℤ, _+ℤ_}
+use lib.IntN.{ℤ, pos, negℤ, _+ℤ_}
 use lib.Signed.{_≤ℤ_, _<ℤ_}
-use Rattle.theory.proofs.Steps.{wider, above, beneath, scaled-in}
+use Rattle.theory.proofs.Steps.{wider, across, mixed, scaled-in, scaled-order}
 use Rattle.theory.proofs.Growth.{growth-in, growth-width, G-pos, G-suc, P-pos, pow-pos, forward, mean}
 use Rattle.theory.proofs.Conditions.{cond-le, cond-gt}
 use Rattle.theory.proofs.Factor.{factor-in, product-pos, weighed-to-60, weighed-from-61, weighed-pos, rounded-factor-first, rounded-factor-next}
-use Rattle.theory.proofs.Width.{scaled-most, factor-width}
+use Rattle.theory.proofs.Width.{factor-width}
 use Rattle.theory.proofs.Conditions.{below, at}
 
 -- ---- the growths of a base curve: from 0.98 to 1.15
@@ -77,122 +79,90 @@ base-most c b j h =
           (b .baseLeast j (omega arith)) (b .baseMost j (omega arith)) (b .baseForwardMost j h)),
     ))
 
--- ---- the rounded growth that a factor is divided by, between closed numbers
-growth-least : (c : Curve) → BaseWithin c → (j : ℕ) → suc j ≤ 60 → 979 * 10 ^ 9 ≤ Rounded.growth c low (suc j)
-growth-least c b j h =
-    omega (
-      arith,
-      growth-width c (b .within) j h,
-      above (G-pos c (b .within) j h .1) (growth-in c (b .within) high j h) (base-least c b j h),
-    )
+-- ---- the rounded growth that a factor is divided by, between closed numbers: in thousandths of a unit, below and above
+abbrev growthBound : End → ℕ
+growthBound low = 979 * 10 ^ 6
+growthBound high = 1151 * 10 ^ 6
 
-growth-most : (c : Curve) → BaseWithin c → (j : ℕ) → suc j ≤ 60 → Rounded.growth c high (suc j) ≤ 1151 * 10 ^ 9
-growth-most c b j h =
-    omega (
-      arith,
-      growth-width c (b .within) j h,
-      beneath (G-pos c (b .within) j h .1) (growth-in c (b .within) low j h) (base-most c b j h),
-    )
+abbrev ufrBound : End → ℕ
+ufrBound low = 10 ^ 9
+ufrBound high = 105 * 10 ^ 7
 
-unfoldable slowest : ℕ → ℕ
-slowest t = cond (leb t 60) ((1000 - weight t) * (979 * 10 ^ 6) + weight t * 10 ^ 9) unit
+growth-bound : (c : Curve) → BaseWithin c → (e : End) (j : ℕ) → suc j ≤ 60 → 1000 * growthBound e ≤⟨ e ⟩ Rounded.growth c e (suc j)
+growth-bound c b low j h =
+    omega (arith, growth-width c (b .within) j h, across (G-pos c (b .within) j h .1) (growth-in c (b .within) high j h) (base-least c b j h) .le)
+growth-bound c b high j h =
+    omega (arith, growth-width c (b .within) j h, across (G-pos c (b .within) j h .1) (growth-in c (b .within) low j h) (base-most c b j h) .le)
 
-unfoldable fastest : ℕ → ℕ
-fastest t = cond (leb t 60) ((1000 - weight t) * (1151 * 10 ^ 6) + weight t * (105 * 10 ^ 7)) (105 * 10 ^ 10)
+ufr-bound : (c : Curve) → BaseWithin c → (e : End) → 1000 * ufrBound e ≤⟨ e ⟩ ufrGrowth c
+ufr-bound c b low = omega arith
+ufr-bound c b high = omega (arith, b .within .ufrMost)
 
-mix-slow : (k v g u : ℕ) → 979 * 10 ^ 9 ≤ g → k * (979 * 10 ^ 6) + v * 10 ^ 9 ≤ divide low (k * g + v * (unit + u * 10 ^ 7)) 1000
-mix-slow k v g u h = omega (arith, mul-le-mul-left k h, divide-floor (k * g + v * (unit + u * 10 ^ 7)) 1000 (omega arith))
+unfoldable weighedBound : End → ℕ → ℕ
+weighedBound e t = cond (leb t 60) ((1000 - weight t) * growthBound e + weight t * ufrBound e) (1000 * ufrBound e)
 
-mix-fast : (k v g u : ℕ) → g ≤ 1151 * 10 ^ 9 → u ≤ 5000 → divide high (k * g + v * (unit + u * 10 ^ 7)) 1000 ≤ k * (1151 * 10 ^ 6) + v * (105 * 10 ^ 7)
-mix-fast k v g u h l = omega (arith, mul-le-mul-left k h, mul-le-mul-left v l, divide-ceiling (k * g + v * (unit + u * 10 ^ 7)) 1000 (omega arith))
-
-slow : (c : Curve) → BaseWithin c → (j : ℕ) → slowest (suc j) ≤ Rounded.weighed c low (suc j)
-unfolding slowest
-slow c b j = go (decLe (suc j) 60)
+weighed-bound : (c : Curve) → BaseWithin c → (e : End) (j : ℕ) → weighedBound e (suc j) ≤⟨ e ⟩ Rounded.weighed c e (suc j)
+unfolding weighedBound
+weighed-bound c b e j = go (decLe (suc j) 60)
   where
-    go : Dec (suc j ≤ 60) → slowest (suc j) ≤ Rounded.weighed c low (suc j)
+    go : Dec (suc j ≤ 60) → weighedBound e (suc j) ≤⟨ e ⟩ Rounded.weighed c e (suc j)
     go (yes h) =
-        rw (weighed-to-60 c low (suc j) h, cond-le (suc j) 60 ((1000 - weight (suc j)) * (979 * 10 ^ 6) + weight (suc j) * 10 ^ 9) unit h)
-        (mix-slow (1000 - weight (suc j)) (weight (suc j)) (Rounded.growth c low (suc j)) (c .ufr) (growth-least c b j h))
+        rw (weighed-to-60 c e (suc j) h, cond-le (suc j) 60 ((1000 - weight (suc j)) * growthBound e + weight (suc j) * ufrBound e) (1000 * ufrBound e) h)
+        (mixed (growthBound e) (ufrBound e) (1000 - weight (suc j)) (weight (suc j)) (growth-bound c b e j h) (ufr-bound c b e))
     go (no h) =
-        rw (weighed-from-61 c low (suc j) (omega arith), cond-gt (suc j) 60 ((1000 - weight (suc j)) * (979 * 10 ^ 6) + weight (suc j) * 10 ^ 9) unit (omega arith))
-        (omega arith)
+        rw (weighed-from-61 c e (suc j) (omega arith), cond-gt (suc j) 60 ((1000 - weight (suc j)) * growthBound e + weight (suc j) * ufrBound e) (1000 * ufrBound e) (omega arith))
+        (ufr-bound c b e)
 
-fast : (c : Curve) → BaseWithin c → (j : ℕ) → Rounded.weighed c high (suc j) ≤ fastest (suc j)
-unfolding fastest
-fast c b j = go (decLe (suc j) 60)
+weighedBound-pos : (e : End) (t : ℕ) → 0 < weighedBound e t
+unfolding weighedBound
+weighedBound-pos e t = go (decLe t 60)
   where
-    go : Dec (suc j ≤ 60) → Rounded.weighed c high (suc j) ≤ fastest (suc j)
-    go (yes h) =
-        rw (weighed-to-60 c high (suc j) h, cond-le (suc j) 60 ((1000 - weight (suc j)) * (1151 * 10 ^ 6) + weight (suc j) * (105 * 10 ^ 7)) (105 * 10 ^ 10) h)
-        (mix-fast (1000 - weight (suc j)) (weight (suc j)) (Rounded.growth c high (suc j)) (c .ufr) (growth-most c b j h) (b .within .ufrMost))
-    go (no h) =
-        rw (weighed-from-61 c high (suc j) (omega arith), cond-gt (suc j) 60 ((1000 - weight (suc j)) * (1151 * 10 ^ 6) + weight (suc j) * (105 * 10 ^ 7)) (105 * 10 ^ 10) (omega arith))
-        (omega (arith, b .within .ufrMost))
+    some : (e : End) (k v : ℕ) → 1000 ≤ k + v → 0 < k * growthBound e + v * ufrBound e
+    some low k v h = omega arith
+    some high k v h = omega arith
+
+    go : Dec (t ≤ 60) → 0 < cond (leb t 60) ((1000 - weight t) * growthBound e + weight t * ufrBound e) (1000 * ufrBound e)
+    go (yes h) = rw (cond-le t 60 ((1000 - weight t) * growthBound e + weight t * ufrBound e) (1000 * ufrBound e) h) (some e (1000 - weight t) (weight t) (omega arith))
+    go (no h) = rw (cond-gt t 60 ((1000 - weight t) * growthBound e + weight t * ufrBound e) (1000 * ufrBound e) (omega arith)) (omega (arith, some e 0 1000 (omega arith)))
 
 -- ---- the factor between closed numbers
-unfoldable ceiling : ℕ → ℕ
-ceiling zero = unit
-ceiling (suc t) = cond (leb (suc t) 20) (scaled high 100 99 (suc t)) (divide high (ceiling t * unit) (slowest (suc t)))
+abbrev meanBound : End → ℕ
+meanBound low = 110
+meanBound high = 99
 
-unfoldable floor : ℕ → ℕ
-floor zero = unit
-floor (suc t) = cond (leb (suc t) 20) (scaled low 100 110 (suc t)) (divide low (floor t * unit) (fastest (suc t)))
+mean-bound : (c : Curve) → BaseWithin c → (e : End) (t : ℕ) → t ≤ 60 → 100 * P c t ≤⟨ e ⟩ c .N * meanBound e
+mean-bound c b low t h = omega (arith, b .baseMost t h)
+mean-bound c b high t h = omega (arith, b .baseLeast t h)
 
-slowest-pos : (t : ℕ) → 0 < slowest t
-unfolding slowest
-slowest-pos t = go (decLe t 60)
+meanBound-pos : (e : End) → 0 < meanBound e
+meanBound-pos low = omega arith
+meanBound-pos high = omega arith
+
+unfoldable factorBound : End → ℕ → ℕ
+factorBound e zero = unit
+factorBound e (suc t) =
+    cond (leb (suc t) 20) (scaled e 100 (meanBound e) (suc t)) (divide e (factorBound e t * unit) (weighedBound (other e) (suc t)))
+
+factor-bound : (c : Curve) → BaseWithin c → (e : End) (t : ℕ) → factorBound e t ≤⟨ e ⟩ Rounded.factor c e t
+unfolding factorBound
+factor-bound c b e zero = unfold Rounded.factor in (equal e refl)
+factor-bound c b e (suc j) = go (decLe (suc j) 20) (factor-bound c b e j)
   where
-    go : Dec (t ≤ 60) → 0 < cond (leb t 60) ((1000 - weight t) * (979 * 10 ^ 6) + weight t * 10 ^ 9) unit
-    go (yes h) = rw (cond-le t 60 ((1000 - weight t) * (979 * 10 ^ 6) + weight t * 10 ^ 9) unit h) (omega arith)
-    go (no h) = rw (cond-gt t 60 ((1000 - weight t) * (979 * 10 ^ 6) + weight t * 10 ^ 9) unit (omega arith)) (omega arith)
+    first : ℕ
+    first = scaled e 100 (meanBound e) (suc j)
 
-scaled-least : (a b p q j : ℕ) → 0 < b → 0 < q → p * b ≤ a * q → scaled low p q j ≤ scaled low a b j
-unfolding scaled
-scaled-least a b p q zero h k l = omega arith
-scaled-least a b p q (suc j) h k l =
-    let x : ℕ = scaled low a b j in
-    let y : ℕ = scaled low p q j in
-    let r : ℕ = divide low (y * p) q in
-    let ih : y ≤ x = scaled-least a b p q j h k l in
-    le-divide low (x * a) b r h
-    (le-of-mul-le-mul-right {m = r * b} {n = x * a}
-    (omega (arith, mul-le-mul-right (a * q) ih, mul-le-mul-left y l, mul-le-mul-right b (divide-floor (y * p) q k .0))) k)
+    next : ℕ
+    next = divide e (factorBound e j * unit) (weighedBound (other e) (suc j))
 
-under : (c : Curve) → BaseWithin c → (t : ℕ) → Rounded.factor c high t ≤ ceiling t
-unfolding ceiling
-under c b zero = unfold Rounded.factor in (omega arith)
-under c b (suc j) = go (decLe (suc j) 20) (under c b j)
-  where
-    go : Dec (suc j ≤ 20) → Rounded.factor c high j ≤ ceiling j → Rounded.factor c high (suc j) ≤ ceiling (suc j)
+    go : Dec (suc j ≤ 20) → factorBound e j ≤⟨ e ⟩ Rounded.factor c e j → cond (leb (suc j) 20) first next ≤⟨ e ⟩ Rounded.factor c e (suc j)
     go (yes h) ih =
-        rw (rounded-factor-first c high j h, cond-le (suc j) 20 (scaled high 100 99 (suc j)) (divide high (ceiling j * unit) (slowest (suc j))) h)
-        (scaled-most (c .N) (P c (suc j)) 100 99 (suc j) (P-pos c (b .within) (suc j) (omega arith)) (omega arith)
-        (omega (arith, b .baseLeast (suc j) (omega arith))))
+        rw (rounded-factor-first c e j h, cond-le (suc j) 20 first next h)
+        (scaled-order 100 (c .N) (suc j) (meanBound-pos e) (P-pos c (b .within) (suc j) (omega arith)) (mean-bound c b e (suc j) (omega arith)))
     go (no h) ih =
-        let g : ℕ = Rounded.weighed c low (suc j) in
-        let r : ℕ = divide high (ceiling j * unit) (slowest (suc j)) in
-        rw (rounded-factor-next c high j (omega arith), cond-gt (suc j) 20 (scaled high 100 99 (suc j)) (divide high (ceiling j * unit) (slowest (suc j))) (omega arith))
-        (divide-le high (Rounded.factor c high j * unit) g r (weighed-pos c (b .within) low j (omega arith))
-        (omega (arith, divide-ceiling (ceiling j * unit) (slowest (suc j)) (slowest-pos (suc j)) .0, mul-le-mul-left r (slow c b j))))
-
-over : (c : Curve) → BaseWithin c → (t : ℕ) → floor t ≤ Rounded.factor c low t
-unfolding floor
-over c b zero = unfold Rounded.factor in (omega arith)
-over c b (suc j) = go (decLe (suc j) 20) (over c b j)
-  where
-    go : Dec (suc j ≤ 20) → floor j ≤ Rounded.factor c low j → floor (suc j) ≤ Rounded.factor c low (suc j)
-    go (yes h) ih =
-        rw (rounded-factor-first c low j h, cond-le (suc j) 20 (scaled low 100 110 (suc j)) (divide low (floor j * unit) (fastest (suc j))) h)
-        (scaled-least (c .N) (P c (suc j)) 100 110 (suc j) (P-pos c (b .within) (suc j) (omega arith)) (omega arith)
-        (omega (arith, b .baseMost (suc j) (omega arith))))
-    go (no h) ih =
-        let g : ℕ = Rounded.weighed c high (suc j) in
-        let hg : 0 < g = weighed-pos c (b .within) high j (omega arith) in
-        let r : ℕ = divide low (floor j * unit) (fastest (suc j)) in
-        rw (rounded-factor-next c low j (omega arith), cond-gt (suc j) 20 (scaled low 100 110 (suc j)) (divide low (floor j * unit) (fastest (suc j))) (omega arith))
-        (le-divide low (Rounded.factor c low j * unit) g r hg
-        (omega (arith, divide-floor (floor j * unit) (fastest (suc j)) (omega (arith, fast c b j)) .0, mul-le-mul-left r (fast c b j))))
+        let g : ℕ = Rounded.weighed c (other e) (suc j) in
+        rw (rounded-factor-next c e j (omega arith), cond-gt (suc j) 20 first next (omega arith))
+        (divide-order (factorBound e j * unit) (Rounded.factor c e j * unit) (weighedBound-pos (other e) (suc j)) (weighed-pos c (b .within) (other e) j (omega arith))
+        (from (ih times (unit * g) and reverse (weighed-bound c b (other e) j) times (Rounded.factor c e j * unit)) (omega arith)))
 
 -- ---- the tests of z: the width of t times × 100,000 ÷ v, v from 98,000
 unfoldable wide : ℕ → ℕ
@@ -217,38 +187,38 @@ steps-apart v t h =
     let x : ℕ = scaled high 100000 v t in
     let y : ℕ = scaled low 100000 (v + 1) t in
     let hv : 0 < v = omega arith in
-    let f1 : y * (v + 1) ^ t ≤ unit * 100000 ^ t = scaled-in low 100000 (v + 1) t (omega arith) .is in
-    let f2 : unit * 100000 ^ t ≤ x * v ^ t = scaled-in high 100000 v t hv .is in
+    let f1 : y * (v + 1) ^ t ≤ unit * 100000 ^ t = scaled-in low 100000 (v + 1) t (omega arith) .is .le in
+    let f2 : unit * 100000 ^ t ≤ x * v ^ t = scaled-in high 100000 v t hv .is .le in
     let f3 : y * (v + 1) ^ t ≤ x * v ^ t = le-trans f1 f2 in
     le-of-mul-le-mul-right {m = y * (v + t)} {n = v * x} {k = v ^ t}
     (omega (arith, mul-le-mul-left y (bernoulli v t), mul-le-mul-left v f3)) (pow-pos v t hv)
 
 -- ---- the closed tests
 abbrev starts : ℕ → Bool
-starts t = leb (ceiling t) (scaled low 100000 98000 t)
+starts t = leb (factorBound high t) (scaled low 100000 98000 t)
 
 abbrev stops : ℕ → Bool
-stops t = leb (scaled high 100000 120000 t) (floor t)
+stops t = leb (scaled high 100000 120000 t) (factorBound low t)
 
 abbrev sharp : ℕ → Bool
-sharp t = ltb (120000 * (2 * wide (suc t) + 4 * suc t * suc t) + wide (suc t) * suc t) (floor (suc t) * suc t)
+sharp t = ltb (120000 * (2 * wide (suc t) + 4 * suc t * suc t) + wide (suc t) * suc t) (factorBound low (suc t) * suc t)
 
 all-start : T (below starts 121)
-unfolding below ceiling slowest divide scaled weight weights
+unfolding below factorBound weighedBound divide scaled weight weights
 all-start = tt
 
 all-stop : T (below stops 121)
-unfolding below floor fastest divide scaled weight weights
+unfolding below factorBound weighedBound divide scaled weight weights
 all-stop = tt
 
 all-sharp : T (below sharp 120)
-unfolding below floor fastest divide scaled weight weights wide
+unfolding below factorBound weighedBound divide scaled weight weights wide
 all-sharp = tt
 
-sharp-at : (t : ℕ) → 1 ≤ t → t ≤ 120 → 120000 * (2 * wide t + 4 * t * t) + wide t * t < floor t * t
+sharp-at : (t : ℕ) → 1 ≤ t → t ≤ 120 → 120000 * (2 * wide t + 4 * t * t) + wide t * t < factorBound low t * t
 sharp-at zero h k = omega arith
 sharp-at (suc s) h k =
-    ltb→lt (120000 * (2 * wide (suc s) + 4 * suc s * suc s) + wide (suc s) * suc s) (floor (suc s) * suc s) (at sharp 120 all-sharp s (omega arith))
+    ltb→lt (120000 * (2 * wide (suc s) + 4 * suc s * suc s) + wide (suc s) * suc s) (factorBound low (suc s) * suc s) (at sharp 120 all-sharp s (omega arith))
 
 -- ---- the searches: where step i passes, so does the one found, on the right side of i
 pub largest-found : (f : ℕ → Bool) (n none i : ℕ) → i < n → T (f i) → T (f (largest f n none)) × (largest f n none < n) × (i ≤ largest f n none)
@@ -283,13 +253,9 @@ smallest-found f i (suc n) none m h l t = go (f i) refl (smallest-found f (suc i
         later (yes k) = ih k (omega arith) t
         later (no k) = let q : m ≡ i = omega arith in absurd (subst T (ap f q ∙ e) t)
 
-low-side : (pn pd f x p q : ℕ) → unit * (1 * pd) ≤ f * (1 * pn) → f ≤ x → x * p ≤ unit * q → p * pd ≤ pn * q
-low-side pn pd f x p q h k l =
-    le-of-mul-le-mul-left {k = unit} (omega (arith, mul-le-mul-right p h, mul-le-mul-right (pn * p) k, mul-le-mul-right pn l)) (omega arith)
-
-high-side : (pn pd f x p q : ℕ) → f * (1 * pn) ≤ unit * (1 * pd) → x ≤ f → unit * q ≤ x * p → pn * q ≤ p * pd
-high-side pn pd f x p q h k l =
-    le-of-mul-le-mul-left {k = unit} (omega (arith, mul-le-mul-right p h, mul-le-mul-right (pn * p) k, mul-le-mul-right pn l)) (omega arith)
+-- a test that passes, as the order of the exact product and the power of the step tested
+passed : {e : End} {f x : ℕ} (p q pn pd : ℕ) → f * (1 * pn) ≤⟨ other e ⟩ unit * (1 * pd) → f ≤⟨ e ⟩ x → x * p ≤⟨ e ⟩ unit * q → p * pd ≤⟨ e ⟩ pn * q
+passed p q pn pd h k l = cancel {c = unit} (omega arith) (from (reverse h times p and k times (pn * p) and l times pn) (omega arith))
 
 clash : (v t x xh yl y fl fh F d : ℕ) → v ≤ 120000 → yl * (v + t) ≤ v * xh → xh ≤ x + d → y ≤ yl + d → x < fh → fh ≤ fl + 4 * t * t → fl < y → F ≤ fl
     → 120000 * (2 * d + 4 * t * t) + d * t < F * t → ⊥
@@ -310,103 +276,99 @@ step-natural i =
     (diff-sum (pos stepsPerOne) (stepAt i) 100000 0 i 2000 (diff-pos 100000) (step-diff i)) (omega arith)
 
 -- ---- the rates of a base curve: the steps found, in their bounds and at most two apart
+rate-order : (e : End) (z : ℤ) (t : ℕ) (x : Fraction) → natural (pos stepsPerOne +ℤ z) ^ t * x .den ≤⟨ e ⟩ x .num * stepsPerOne ^ t → RateOrdered e z t x
+rate-order low z t x h = h .le
+rate-order high z t x h = h .le
+
+above-minus-one : (n : ℕ) → negℤ (pos stepsPerOne) <ℤ stepAt n
+above-minus-one n =
+    lt-diff (negℤ (pos stepsPerOne)) (stepAt n) 0 100000 n 2000 (diff-neg (pos 100000) 100000 0 (diff-pos 100000)) (step-diff n) (omega arith)
+
+step-within : (n : ℕ) → n ≤ 22000 → Between (negℤ (pos 2000)) (pos 20000) (stepAt n)
+step-within n h = record {
+  least = le-diff (negℤ (pos 2000)) (stepAt n) 0 2000 n 2000 (diff-neg (pos 2000) 2000 0 (diff-pos 2000)) (step-diff n) (omega arith);
+  most = le-diff (stepAt n) (pos 20000) n 2000 20000 0 (step-diff n) (diff-pos 20000) (omega arith);
+}
+
 module _ (c : Curve) (b : BaseWithin c) (t : ℕ) (within : t ≤ 120) where
   pub first-passes : T (lowerTest (Rounded.factor c) t 0)
   first-passes =
       le→leb (Rounded.factor c high t) (scaled low 100000 98000 t)
-      (le-trans (under c b t) (leb→le (ceiling t) (scaled low 100000 98000 t) (at starts 121 all-start t (omega arith))))
+      (le-trans (factor-bound c b high t .le) (leb→le (factorBound high t) (scaled low 100000 98000 t) (at starts 121 all-start t (omega arith))))
 
   pub last-passes : T (upperTest (Rounded.factor c) t 22000)
   last-passes =
       le→leb (scaled high 100000 120000 t) (Rounded.factor c low t)
-      (le-trans (leb→le (scaled high 100000 120000 t) (floor t) (at stops 121 all-stop t (omega arith))) (over c b t))
+      (le-trans (leb→le (scaled high 100000 120000 t) (factorBound low t) (at stops 121 all-stop t (omega arith))) (factor-bound c b low t .le))
 
-  i : ℕ
-  i = largest (lowerTest (Rounded.factor c) t) 22001 22001
+  -- the index of the step found
+  found : End → ℕ
+  found low = largest (lowerTest (Rounded.factor c) t) 22001 22001
+  found high = smallest (upperTest (Rounded.factor c) t) 0 22001 22001
 
-  j : ℕ
-  j = smallest (upperTest (Rounded.factor c) t) 0 22001 22001
+  rate-is : (e : End) → Rounded.zeroRate c e t ≡ stepAt (found e)
+  unfolding Rounded.rateOf found
+  rate-is low = refl
+  rate-is high = refl
 
-  i-found : T (lowerTest (Rounded.factor c) t i) × (i < 22001) × (0 ≤ i)
-  unfolding i
-  i-found = largest-found (lowerTest (Rounded.factor c) t) 22001 22001 0 (lit< tt) first-passes
+  found-most : (e : End) → found e ≤ 22000
+  unfolding found
+  found-most low = let r = largest-found (lowerTest (Rounded.factor c) t) 22001 22001 0 (lit< tt) first-passes in omega (arith, r .1)
+  found-most high = smallest-found (upperTest (Rounded.factor c) t) 0 22001 22001 22000 (lit≤ tt) (lit< tt) last-passes .1
 
-  j-found : T (upperTest (Rounded.factor c) t j) × (j ≤ 22000)
-  unfolding j
-  j-found = smallest-found (upperTest (Rounded.factor c) t) 0 22001 22001 22000 (lit≤ tt) (lit< tt) last-passes
-
-  lower : Rounded.factor c high t ≤ scaled low 100000 (98000 + i) t
-  lower = leb→le (Rounded.factor c high t) (scaled low 100000 (98000 + i) t) (i-found .0)
-
-  upper : scaled high 100000 (98000 + j) t ≤ Rounded.factor c low t
-  upper = leb→le (scaled high 100000 (98000 + j) t) (Rounded.factor c low t) (j-found .0)
-
-  step-within : (n : ℕ) → n ≤ 22000 → Between (negℤ (pos 2000)) (pos 20000) (stepAt n)
-  step-within n h = record {
-    least = le-diff (negℤ (pos 2000)) (stepAt n) 0 2000 n 2000 (diff-neg (pos 2000) 2000 0 (diff-pos 2000)) (step-diff n) (omega arith);
-    most = le-diff (stepAt n) (pos 20000) n 2000 20000 0 (step-diff n) (diff-pos 20000) (omega arith);
-  }
+  found-passes : (e : End) → Rounded.factor c (other e) t ≤⟨ e ⟩ tested e t (found e)
+  unfolding found
+  found-passes low =
+      let i : ℕ = largest (lowerTest (Rounded.factor c) t) 22001 22001 in
+      record { le = leb→le (Rounded.factor c high t) (tested low t i) (largest-found (lowerTest (Rounded.factor c) t) 22001 22001 0 (lit< tt) first-passes .0) }
+  found-passes high =
+      let i : ℕ = smallest (upperTest (Rounded.factor c) t) 0 22001 22001 in
+      record { le = leb→le (tested high t i) (Rounded.factor c low t) (smallest-found (upperTest (Rounded.factor c) t) 0 22001 22001 22000 (lit≤ tt) (lit< tt) last-passes .0) }
 
   pub rate-found : (e : End) → Between (negℤ (pos 2000)) (pos 20000) (Rounded.zeroRate c e t)
-  unfolding Rounded.rateOf i j
-  rate-found low = step-within i (omega (arith, i-found .1))
-  rate-found high = step-within j (j-found .1)
-
-  above-minus-one : (n : ℕ) → negℤ (pos stepsPerOne) <ℤ stepAt n
-  above-minus-one n =
-      lt-diff (negℤ (pos stepsPerOne)) (stepAt n) 0 100000 n 2000 (diff-neg (pos 100000) 100000 0 (diff-pos 100000)) (step-diff n) (omega arith)
+  rate-found e = rw (rate-is e) (step-within (found e) (found-most e))
 
   pub rate-in : (e : End) → RateBounds e (Rounded.zeroRate c e t) t (Exact.product c t)
-  unfolding Rounded.rateOf Exact.factor i j
-  rate-in low =
-      let v : ℕ = 98000 + i in
-      record {
+  unfolding Exact.factor
+  rate-in e =
+      rw (rate-is e) record {
         real = product-pos c (b .within) t .1;
-        aboveMinusOne = above-minus-one i;
-        order = rw (step-natural i)
-            (low-side (Exact.product c t .num) (Exact.product c t .den) (Rounded.factor c high t) (scaled low 100000 v t) (v ^ t) (100000 ^ t)
-            (factor-in c (b .within) high t .is) lower (scaled-in low 100000 v t (omega arith) .is));
-      }
-  rate-in high =
-      let v : ℕ = 98000 + j in
-      record {
-        real = product-pos c (b .within) t .1;
-        aboveMinusOne = above-minus-one j;
-        order = rw (step-natural j)
-            (high-side (Exact.product c t .num) (Exact.product c t .den) (Rounded.factor c low t) (scaled high 100000 v t) (v ^ t) (100000 ^ t)
-            (factor-in c (b .within) low t .is) upper (scaled-in high 100000 v t (omega arith) .is));
+        aboveMinusOne = above-minus-one (found e);
+        order = rate-order e (stepAt (found e)) t (Exact.product c t)
+            (rw (step-natural (found e))
+            (passed ((98000 + found e) ^ t) (100000 ^ t) (Exact.product c t .num) (Exact.product c t .den) (factor-in c (b .within) (other e) t .is) (found-passes e) (scaled-in e 100000 (98000 + found e) t (omega arith) .is)));
       }
 
-  narrow : 1 ≤ t → j ≤ i + 2
-  unfolding i j
-  narrow h = go (decLe j (i + 2))
+  narrow : 1 ≤ t → found high ≤ found low + 2
+  unfolding found
+  narrow h = go (decLe (found high) (found low + 2))
     where
-      go : Dec (j ≤ i + 2) → j ≤ i + 2
+      i : ℕ
+      i = found low
+
+      v : ℕ
+      v = 98000 + (i + 1)
+
+      go : Dec (found high ≤ i + 2) → found high ≤ i + 2
       go (yes k) = k
       go (no k) = absurd (clash v t (scaled low 100000 v t) (scaled high 100000 v t) (scaled low 100000 (v + 1) t) (scaled high 100000 (v + 1) t)
-          (Rounded.factor c low t) (Rounded.factor c high t) (floor t) (wide t) hv (steps-apart v t (omega arith)) (scaled-wide v t (omega arith)) (scaled-wide (v + 1) t (omega arith))
-          above-lower (factor-width c (b .within) t) below-upper (over c b t) sharp-here)
+          (Rounded.factor c low t) (Rounded.factor c high t) (factorBound low t) (wide t) hv (steps-apart v t (omega arith)) (scaled-wide v t (omega arith)) (scaled-wide (v + 1) t (omega arith))
+          above-lower (factor-width c (b .within) t) below-upper (factor-bound c b low t .le) (sharp-at t h within))
         where
-          v : ℕ
-          v = 98000 + (i + 1)
-
           hv : v ≤ 120000
-          hv = omega (arith, j-found .1)
+          hv = omega (arith, found-most high)
 
           above-lower : scaled low 100000 v t < Rounded.factor c high t
-          above-lower = lt-of-not-le (λ q. not-suc-le-self i (rw (add-one i) at (largest-found (lowerTest (Rounded.factor c) t) 22001 22001 (i + 1) (omega (arith, j-found .1)) (le→leb (Rounded.factor c high t) (scaled low 100000 v t) q) .2)))
+          above-lower = lt-of-not-le (λ q. not-suc-le-self i (rw (add-one i) at (largest-found (lowerTest (Rounded.factor c) t) 22001 22001 (i + 1) (omega (arith, found-most high)) (le→leb (Rounded.factor c high t) (scaled low 100000 v t) q) .2)))
 
           v-next : 98000 + (i + 2) ≡ v + 1
           v-next = omega arith
 
           below-upper : Rounded.factor c low t < scaled high 100000 (v + 1) t
-          below-upper = lt-of-not-le (λ q. k (smallest-found (upperTest (Rounded.factor c) t) 0 22001 22001 (i + 2) (omega arith) (omega (arith, j-found .1)) (le→leb (scaled high 100000 (98000 + (i + 2)) t) (Rounded.factor c low t) (rw v-next q)) .1))
-
-          sharp-here : 120000 * (2 * wide t + 4 * t * t) + wide t * t < floor t * t
-          sharp-here = sharp-at t h within
+          below-upper = lt-of-not-le (λ q. k (smallest-found (upperTest (Rounded.factor c) t) 0 22001 22001 (i + 2) (omega arith) (omega (arith, found-most high)) (le→leb (scaled high 100000 (98000 + (i + 2)) t) (Rounded.factor c low t) (rw v-next q)) .1))
 
   pub rate-width : 1 ≤ t → Rounded.zeroRate c high t ≤ℤ (Rounded.zeroRate c low t +ℤ pos 2)
-  unfolding Rounded.rateOf i j
   rate-width h =
-      le-diff (stepAt j) (stepAt i +ℤ pos 2) j 2000 (i + 2) (2000 + 0) (step-diff j)
-      (diff-sum (stepAt i) (pos 2) i 2000 2 0 (step-diff i) (diff-pos 2)) (omega (arith, narrow h))
+      rw (rate-is low, rate-is high)
+      (le-diff (stepAt (found high)) (stepAt (found low) +ℤ pos 2) (found high) 2000 (found low + 2) (2000 + 0) (step-diff (found high))
+      (diff-sum (stepAt (found low)) (pos 2) (found low) 2000 2 0 (step-diff (found low)) (diff-pos 2)) (omega (arith, narrow h)))

@@ -8,7 +8,8 @@ use native.Mathlib.Decide.{decLe}
 use lib.Dec.{leb, leb→le, le→leb, T}
 use Rattle.arith.specs.Rounding.{low, high}
 use Rattle.model.specs.Rounded.{tested, largest, smallest}
-use Rattle.theory.proofs.Search.{tested-anti, largest-is, smallest-is}
+use Rattle.theory.proofs.Search.{largest-is, smallest-is}
+use Rattle.theory.proofs.RateTests.{tested-anti}
 
 -- how far apart the two places are at most after d tests
 unfoldable pub apart : ℕ → ℕ

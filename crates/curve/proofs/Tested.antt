@@ -12,7 +12,7 @@ use Rattle.arith.proofs.Rounding.{divide-floor, divide-le}
 use Rattle.model.specs.Rounded.{scaled, tested}
 use Rattle.theory.proofs.Conditions.{below, at}
 use Rattle.theory.proofs.Steps.{scaled-ends}
-use Rattle.theory.proofs.Search.{tested-small}
+use Rattle.theory.proofs.RateTests.{tested-small}
 use Rattle.curve.specs.Ranges.{Small, StepWithin}
 use Rattle.curve.proofs.Years.{scaled-suc}
 

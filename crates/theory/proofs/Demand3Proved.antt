@@ -5,6 +5,7 @@ use mathlib.Core.Path.{_≡_, refl}
 use native.Mathlib.Omega.{arith}
 use lib.IntN.{pos, _+ℤ_}
 use Rattle.arith.specs.Rounding.{End, low, high}
+use Rattle.arith.proofs.Ends.{from}
 use Rattle.model.specs.Constants.{unit}
 use Rattle.model.specs.Fraction.{Fraction, _*ᶠ_, whole}
 use Rattle.model.specs.Case.{FileCase}
@@ -14,9 +15,8 @@ use Rattle.model.specs.Exact as Exact
 use Rattle.model.specs.Rounded as Rounded
 use Rattle.model.specs.Rounded.{bracket, endOf}
 use Rattle.model.specs.Demand3.{Bounds, In, SquareIn, Given, lastTerm, Demand3}
-use Rattle.arith.proofs.Ends.{from}
-use Rattle.theory.proofs.Bracket.{Bounded}
 use Rattle.model.specs.CurveWithin.{CurveWithin}
+use Rattle.theory.proofs.Bracket.{Bounded}
 use Rattle.theory.proofs.Differences.{not-cut}
 use Rattle.theory.proofs.CaseCurves.{curve-within, base-within}
 use Rattle.theory.proofs.Factor.{factor-in, product-pos}

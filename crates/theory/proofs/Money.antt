@@ -21,8 +21,8 @@ use Rattle.model.specs.Exact.{loss, S², S6²}
 use Rattle.model.specs.Rounded as Rounded
 use Rattle.model.specs.Rounded.{mortality}
 use Rattle.model.specs.Margins.{weightedSum, W}
-use Rattle.theory.proofs.Bracket.{Bounded}
 use Rattle.model.specs.CurveWithin.{CurveWithin}
+use Rattle.theory.proofs.Bracket.{Bounded}
 use Rattle.theory.proofs.CaseCurves.{curve-within}
 use Rattle.theory.proofs.Conditions.{cond-le, cond-gt}
 use Rattle.theory.proofs.Steps.{exactly, same, sum, minus, prod}

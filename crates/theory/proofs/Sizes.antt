@@ -16,11 +16,11 @@ use Rattle.model.specs.Rounded as Rounded
 use Rattle.model.specs.Rounded.{scaled, ufrGrowth}
 use Rattle.model.specs.CurveWithin.{CurveWithin}
 use Rattle.theory.proofs.Conditions.{below, at}
+use Rattle.theory.proofs.Powers.{pow-pos, backward}
 use Rattle.theory.proofs.Steps.{scaled-in, scaled-mono, scaled-width}
-use Rattle.theory.proofs.Growth.{growth-suc, P-pos, N-pos, pow-pos}
+use Rattle.theory.proofs.Growth.{growth-suc, P-pos, N-pos}
 use Rattle.theory.proofs.Factor.{rounded-factor-first, rounded-factor-next, weighed-from-61, least}
 use Rattle.theory.proofs.Width.{factorMost, middle}
-use Rattle.theory.proofs.ZeroRate.{backward}
 
 -- r + i p is at most (i + 1) q for each i up to j, if it is so at j
 earlier : (p q r j i : ℕ) → i ≤ j → r ≤ q → r + j * p ≤ suc j * q → r + i * p ≤ suc i * q

@@ -1,16 +1,16 @@
 -- One step of the rounded working, at either end: what all steps cite.
 -- Assumes nothing.
-use Rattle.arith.proofs.Rounding.{divide-floor, divide-ceiling}
 use Prim.Native.Nat.{ℕ, zero, suc, _+_, _*_, _-_, _≤_, _<_}
 use mathlib.Core.Path.{_≡_, refl, ap}
 use native.Mathlib.Omega.{arith}
 use native.Mathlib.Nat.{mul-le-mul-left, mul-le-mul-right, le-of-mul-le-mul-right, lt-of-mul-lt-mul-right, pow-zero, pow-suc, one-le-pow, le-dest, mul-sub, mul-comm}
 use native.Mathlib.Decide.{decLe}
-use Rattle.model.specs.Fraction.{Fraction, _//_, _+ᶠ_, _∸ᶠ_, _*ᶠ_, _÷ᶠ_, _^ᶠ_, _≈_}
 use Rattle.arith.specs.Rounding.{End, low, high, other, divide}
+use Rattle.arith.proofs.Rounding.{divide-floor, divide-ceiling}
+use Rattle.arith.proofs.Ends.{_≤⟨_⟩_, _and_, _less_, _times_, from, cancel, reverse, equal, divide-end, divide-best, divide-order}
+use Rattle.model.specs.Fraction.{Fraction, _//_, _+ᶠ_, _∸ᶠ_, _*ᶠ_, _÷ᶠ_, _^ᶠ_, _≈_}
 use Rattle.model.specs.Constants.{unit}
 use Rattle.model.specs.Rounded.{scaled}
-use Rattle.arith.proofs.Ends.{_≤⟨_⟩_, _and_, _less_, _times_, from, cancel, reverse, equal, divide-end, divide-best, divide-order}
 use Rattle.theory.proofs.Bracket.{Bounded}
 
 -- × a ÷ b keeps the bracket

@@ -7,6 +7,7 @@ use native.Mathlib.Omega.{arith}
 use native.Mathlib.Nat.{mul-le-mul, mul-le-mul-right, mul-lt-mul-of-pos-right, mul-pos, le-of-mul-le-mul-left, lt-of-mul-lt-mul-left}
 use native.Mathlib.Decide.{decLe}
 use Rattle.arith.specs.Rounding.{End, low, high}
+use Rattle.arith.proofs.Ends.{_≤⟨_⟩_, _and_, _times_, from}
 use Rattle.model.specs.Fraction.{Fraction, _∸ᶠ_, _*ᶠ_, square, whole, _≤ᶠ_}
 use Rattle.model.specs.Case.{FileCase}
 use Rattle.model.specs.Limits.{WithinLimits}
@@ -15,7 +16,6 @@ use Rattle.model.specs.Exact as Exact
 use Rattle.model.specs.Rounded as Rounded
 use Rattle.model.specs.Margins.{WL, WB, NearFirst, NearSecond, firstMargin, secondMargin}
 use Rattle.model.specs.declared.figures.Verdict.the-variants.{Dekkingstekort, Reservetekort, VrijVermogen, Onbeslist}
-use Rattle.arith.proofs.Ends.{_≤⟨_⟩_, _and_, _times_, from}
 use Rattle.theory.proofs.Bracket.{Bounded}
 use Rattle.theory.proofs.Conditions.{cond-le, cond-gt}
 use Rattle.theory.proofs.Steps.{exactly, sum, minus, prod, multiple, ends}

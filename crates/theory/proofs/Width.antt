@@ -1,15 +1,15 @@
 -- The bracket of factor t is at most 4 × t × t units wide.
 -- Assumes nothing.
-use Rattle.arith.proofs.Rounding.{divide-floor, divide-ceiling, divide-le}
 use Prim.Native.Nat.{ℕ, zero, suc, _+_, _*_, _-_, _^_, _≤_, _<_}
 use mathlib.Core.Bool.{Bool}
 use lib.Dec.{T, leb, leb→le}
 use native.Mathlib.Omega.{arith}
 use native.Mathlib.Nat.{add-suc, le-dest, mul-le-mul, mul-le-mul-left, mul-le-mul-right, mul-lt-mul-of-pos-right, lt-of-mul-lt-mul-right}
 use native.Mathlib.Decide.{decLe}
+use Rattle.arith.specs.Rounding.{low, high, divide}
+use Rattle.arith.proofs.Rounding.{divide-floor, divide-ceiling, divide-le}
 use Rattle.model.specs.Curve.{Curve, P}
 use Rattle.model.specs.Exact.{weight, weights}
-use Rattle.arith.specs.Rounding.{low, high, divide}
 use Rattle.model.specs.Constants.{unit}
 use Rattle.model.specs.Rounded as Rounded
 use Rattle.model.specs.Rounded.{scaled, ufrGrowth}

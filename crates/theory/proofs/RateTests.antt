@@ -1,0 +1,108 @@
+-- The two tests of a zero rate.
+-- Assumes nothing.
+use Prim.Native.Nat.{ℕ, zero, suc, _+_, _*_, _^_, _≤_, _<_}
+use mathlib.Core.Path.{_≡_}
+use mathlib.Core.Bool.{Bool}
+use lib.Dec.{T, leb, leb→le, le→leb, ltb, ltb→lt}
+use native.Mathlib.Omega.{arith}
+use native.Mathlib.Nat.{mul-le-mul-left, mul-le-mul-right, le-of-mul-le-mul-right, le-trans}
+use Rattle.arith.specs.Rounding.{End, low, high, divide}
+use Rattle.arith.proofs.Rounding.{divide-ceiling}
+use Rattle.model.specs.Curve.{Curve}
+use Rattle.model.specs.Exact.{weight, weights}
+use Rattle.model.specs.Constants.{unit, stepsPerOne}
+use Rattle.model.specs.Rounded as Rounded
+use Rattle.model.specs.Rounded.{scaled, tested, lowerTest, upperTest}
+use Rattle.theory.proofs.Steps.{wider, scaled-in, scaled-mono, scaled-ends}
+use Rattle.theory.proofs.Conditions.{below, at}
+use Rattle.theory.proofs.Powers.{pow-pos, bernoulli}
+use Rattle.theory.proofs.BaseCurve.{weighedBound, factorBound}
+
+-- a larger step gives no larger result
+pub tested-anti : (e : End) (t i j : ℕ) → i ≤ j → tested e t j ≤ tested e t i
+tested-anti e t i j h = scaled-mono e stepsPerOne (98000 + j) stepsPerOne (98000 + i) t (omega arith) (omega arith) (omega arith)
+
+-- where a step passes the lower test, so does each below it; where one passes the upper test, so does each above it
+pub lower-falls : (c : Curve) (t i j : ℕ) → i ≤ j → T (lowerTest (Rounded.factor c) t j) → T (lowerTest (Rounded.factor c) t i)
+lower-falls c t i j h p =
+    le→leb (Rounded.factor c high t) (tested low t i)
+    (le-trans (leb→le (Rounded.factor c high t) (tested low t j) p) (tested-anti low t i j h))
+
+pub upper-rises : (c : Curve) (t i j : ℕ) → i ≤ j → T (upperTest (Rounded.factor c) t i) → T (upperTest (Rounded.factor c) t j)
+upper-rises c t i j h p =
+    le→leb (tested high t j) (Rounded.factor c low t)
+    (le-trans (tested-anti high t i j h) (leb→le (tested high t i) (Rounded.factor c low t) p))
+
+-- no result passes 1.2 × 10^13, so that × 100,000 fits 64 bits
+abbrev small : ℕ → Bool
+small t = leb (scaled high stepsPerOne 98000 t) (12 * 10 ^ 12)
+
+all-small : T (below small 121)
+unfolding below scaled divide
+all-small = tt
+
+high-small : (t i : ℕ) → t ≤ 120 → tested high t i ≤ 12 * 10 ^ 12
+high-small t i h =
+    le-trans (tested-anti high t 0 i (omega arith))
+    (leb→le (scaled high stepsPerOne 98000 t) (12 * 10 ^ 12) (at small 121 all-small t (omega arith)))
+
+pub tested-small : (e : End) (t i : ℕ) → t ≤ 120 → tested e t i ≤ 12 * 10 ^ 12
+tested-small high t i h = high-small t i h
+tested-small low t i h = le-trans (scaled-ends stepsPerOne (98000 + i) t (omega arith)) (high-small t i h)
+
+-- ---- the ends of a result: a year takes a width w to at most w × 100 ÷ 98, and its two roundings add at most one
+unfoldable pub testWidth : ℕ → ℕ
+testWidth zero = 0
+testWidth (suc t) = divide high (testWidth t * 100) 98 + 1
+
+pub tested-width : (t i : ℕ) → tested high t i ≤ tested low t i + testWidth t
+unfolding scaled testWidth
+tested-width zero i = omega arith
+tested-width (suc t) i =
+    let w : ℕ = divide high (testWidth t * 100) 98 in
+    wider (tested low t i) (tested high t i) stepsPerOne (98000 + i) (testWidth t) w (omega arith) (tested-width t i)
+    (omega (arith, divide-ceiling (testWidth t * 100) 98 (omega arith) .0))
+
+-- ---- one step further on, the power is smaller by t ÷ (v + t) of itself or more, where v is 100,000 + z
+steps-apart : (t i : ℕ) → tested low t (i + 1) * (98000 + i + t) ≤ (98000 + i) * tested high t i
+steps-apart t i =
+    let v : ℕ = 98000 + i in
+    let x : ℕ = tested high t i in
+    let y : ℕ = scaled low stepsPerOne (v + 1) t in
+    let q : 98000 + (i + 1) ≡ v + 1 = omega arith in
+    let f1 : y * (v + 1) ^ t ≤ unit * stepsPerOne ^ t = scaled-in low stepsPerOne (v + 1) t (omega arith) .is .le in
+    let f2 : unit * stepsPerOne ^ t ≤ x * v ^ t = scaled-in high stepsPerOne v t (omega arith) .is .le in
+    let f3 : y * (v + 1) ^ t ≤ x * v ^ t = le-trans f1 f2 in
+    rw q
+    (le-of-mul-le-mul-right {m = y * (v + t)} {n = v * x} {k = v ^ t}
+    (omega (arith, mul-le-mul-left y (bernoulli v t), mul-le-mul-left v f3)) (pow-pos v t (omega arith)))
+
+-- ---- that is more than all the widths together, of every term from 1 to 120: even the smallest factor is large beside them
+abbrev sharp : ℕ → Bool
+sharp s =
+    let t = suc s in
+    ltb (120000 * (2 * testWidth t + 4 * t * t) + testWidth t * t) (factorBound low t * t)
+
+all-sharp : T (below sharp 120)
+unfolding below factorBound weighedBound divide scaled weight weights testWidth
+all-sharp = tt
+
+sharp-at : (t : ℕ) → 1 ≤ t → t ≤ 120 → 120000 * (2 * testWidth t + 4 * t * t) + testWidth t * t < factorBound low t * t
+sharp-at zero h k = omega arith
+sharp-at (suc s) h k =
+    ltb→lt (120000 * (2 * testWidth (suc s) + 4 * suc s * suc s) + testWidth (suc s) * suc s) (factorBound low (suc s) * suc s)
+    (at sharp 120 all-sharp s (omega arith))
+
+-- So no step fails the lower test whose next one fails the upper test, where l and u are the ends of a factor.
+pub one-passes : (t i l u : ℕ) → 1 ≤ t → t ≤ 120 → i ≤ 22000 → factorBound low t ≤ l → u ≤ l + 4 * t * t
+    → tested low t i < u → l < tested high t (i + 1) → ⊥
+one-passes t i l u t1 t2 hi least wide lower-fails upper-fails =
+    let v : ℕ = 98000 + i in
+    let w : ℕ = 2 * testWidth t + 4 * t * t in
+    let x : ℕ = tested high t i in
+    let y : ℕ = tested low t (i + 1) in
+    let near : x ≤ y + w = omega (arith, tested-width t i, tested-width t (i + 1)) in
+    let large : factorBound low t * t ≤ (y + testWidth t) * t = mul-le-mul-right t (omega (arith, tested-width t (i + 1))) in
+    let most : v * w ≤ 120000 * w = mul-le-mul-right w (omega arith) in
+    let apart : y * (v + t) ≤ v * x = steps-apart t i in
+    omega (arith, mul-le-mul-left v near, most, large, apart, sharp-at t t1 t2)

@@ -19,7 +19,7 @@ use Rattle.model.specs.CurveWithin.{CurveWithin}
 use Rattle.theory.proofs.Bracket.{Bounded}
 use Rattle.theory.proofs.Differences.{not-cut}
 use Rattle.theory.proofs.CaseCurves.{curve-within, base-within}
-use Rattle.theory.proofs.Factor.{factor-in, product-pos}
+use Rattle.theory.proofs.Factor.{factor-in, factor-den, product-pos}
 use Rattle.theory.proofs.Width.{factor-width}
 use Rattle.theory.proofs.ZeroRate.{rate-found, rate-in, rate-width}
 use Rattle.theory.proofs.Money.{L-in, B-in, A-in, S1-in, S2-in, S3-in, S4-in, S5-in, S6-in, S-in, L-den, B-den, A-den, S1-den, S6-den, S-den}
@@ -34,10 +34,6 @@ bounds {e = high} r h = record { real = r; order = omega (arith, h .is .le) }
 -- and one that counts it in units bounds the figure in units
 in-units : {e : End} {n : ℕ} {x : Fraction} → 0 < x .den → Bounded e unit n x → Bounds e n (whole unit *ᶠ x)
 in-units r h = bounds (omega (arith, r)) record { is = from (h .is) (omega arith) }
-
-factor-den : (c : Curve) → CurveWithin c → (t : ℕ) → 0 < Exact.factor c t .den
-unfolding Exact.factor
-factor-den c f t = omega (arith, product-pos c f t .0)
 
 -- both ends of a bracket bound its figure, or the figure's square
 end-is : (figure : End → ℕ) (e : End) → endOf (bracket figure) e ≡ figure e

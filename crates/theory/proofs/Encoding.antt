@@ -73,7 +73,8 @@ unsigned-small (negsuc n) h = omega arith
 abbrev pub dayFrom : List ℕ → ℕ → ℕ → List ℤ
 dayFrom file at d = table (λ t. twosComplement 2 (entry file at 2 (60 * d + t))) 60
 
-number-one : (file : List ℕ) (at : ℕ) → number file at 1 ≡ getD file at 0
+-- a number of one byte is that byte
+pub number-one : (file : List ℕ) (at : ℕ) → number file at 1 ≡ getD file at 0
 unfolding number
 number-one file at = rw (add-zero at) (omega arith)
 

@@ -89,6 +89,10 @@ product-pos c f zero = (omega arith, omega arith)
 product-pos c f (suc t) =
     (mul-pos (product-pos c f t .0) (growth-fraction-pos c f t .0), mul-pos (product-pos c f t .1) (growth-fraction-pos c f t .1))
 
+pub factor-den : (c : Curve) → CurveWithin c → (t : ℕ) → 0 < Exact.factor c t .den
+unfolding Exact.factor
+factor-den c f t = omega (arith, product-pos c f t .0)
+
 factor-first : (c : Curve) → CurveWithin c → (e : End) (t : ℕ) → t ≤ 20 → Bounded e unit (scaled e (c .N) (P c t) t) (Exact.factor c t)
 unfolding Exact.factor
 factor-first c f e t h =

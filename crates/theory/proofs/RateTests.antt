@@ -1,9 +1,8 @@
 -- The two tests of a zero rate.
 -- Assumes nothing.
 use Prim.Native.Nat.{ℕ, zero, suc, _+_, _*_, _^_, _≤_, _<_}
-use mathlib.Core.Path.{_≡_}
-use mathlib.Core.Bool.{Bool}
-use lib.Dec.{T, leb, leb→le, le→leb, ltb, ltb→lt}
+use mathlib.Core.Path.{_≡_, refl}
+use lib.Dec.{T, leb→le, le→leb}
 use native.Mathlib.Omega.{arith}
 use native.Mathlib.Nat.{mul-le-mul-left, mul-le-mul-right, le-of-mul-le-mul-right, le-trans}
 use Rattle.arith.specs.Rounding.{End, low, high, divide}
@@ -13,8 +12,9 @@ use Rattle.model.specs.Exact.{weight, weights}
 use Rattle.model.specs.Constants.{unit, stepsPerOne}
 use Rattle.model.specs.Rounded as Rounded
 use Rattle.model.specs.Rounded.{scaled, tested, lowerTest, upperTest}
+use Rattle.model.specs.Numbers.{every}
 use Rattle.theory.proofs.Steps.{wider, scaled-in, scaled-mono, scaled-ends}
-use Rattle.theory.proofs.Conditions.{below, at}
+use Rattle.theory.proofs.Lists.{every-le}
 use Rattle.theory.proofs.Powers.{pow-pos, bernoulli}
 use Rattle.theory.proofs.BaseCurve.{weighedBound, factorBound}
 
@@ -34,17 +34,12 @@ upper-rises c t i j h p =
     (le-trans (tested-anti high t i j h) (leb→le (tested high t i) (Rounded.factor c low t) p))
 
 -- no result passes 1.2 × 10^13, so that × 100,000 fits 64 bits
-abbrev small : ℕ → Bool
-small t = leb (scaled high stepsPerOne 98000 t) (12 * 10 ^ 12)
-
-all-small : T (below small 121)
-unfolding below scaled divide
-all-small = tt
+first-small : (t : ℕ) → t < 121 → tested high t 0 ≤ 12 * 10 ^ 12
+unfolding every scaled divide
+first-small t = every-le (λ t. tested high t 0) (λ _. 12 * 10 ^ 12) 121 t refl
 
 high-small : (t i : ℕ) → t ≤ 120 → tested high t i ≤ 12 * 10 ^ 12
-high-small t i h =
-    le-trans (tested-anti high t 0 i (omega arith))
-    (leb→le (scaled high stepsPerOne 98000 t) (12 * 10 ^ 12) (at small 121 all-small t (omega arith)))
+high-small t i h = le-trans (tested-anti high t 0 i (omega arith)) (first-small t (omega arith))
 
 pub tested-small : (e : End) (t i : ℕ) → t ≤ 120 → tested e t i ≤ 12 * 10 ^ 12
 tested-small high t i h = high-small t i h
@@ -78,20 +73,15 @@ steps-apart t i =
     (omega (arith, mul-le-mul-left y (bernoulli v t), mul-le-mul-left v f3)) (pow-pos v t (omega arith)))
 
 -- ---- that is more than all the widths together, of every term from 1 to 120: even the smallest factor is large beside them
-abbrev sharp : ℕ → Bool
+sharp : (s : ℕ) → s < 120
+    → suc (120000 * (2 * testWidth (suc s) + 4 * suc s * suc s) + testWidth (suc s) * suc s) ≤ factorBound low (suc s) * suc s
+unfolding every factorBound weighedBound divide scaled weight weights testWidth
 sharp s =
-    let t = suc s in
-    ltb (120000 * (2 * testWidth t + 4 * t * t) + testWidth t * t) (factorBound low t * t)
-
-all-sharp : T (below sharp 120)
-unfolding below factorBound weighedBound divide scaled weight weights testWidth
-all-sharp = tt
+    every-le (λ s. suc (120000 * (2 * testWidth (suc s) + 4 * suc s * suc s) + testWidth (suc s) * suc s)) (λ s. factorBound low (suc s) * suc s) 120 s refl
 
 sharp-at : (t : ℕ) → 1 ≤ t → t ≤ 120 → 120000 * (2 * testWidth t + 4 * t * t) + testWidth t * t < factorBound low t * t
 sharp-at zero h k = omega arith
-sharp-at (suc s) h k =
-    ltb→lt (120000 * (2 * testWidth (suc s) + 4 * suc s * suc s) + testWidth (suc s) * suc s) (factorBound low (suc s) * suc s)
-    (at sharp 120 all-sharp s (omega arith))
+sharp-at (suc s) h k = sharp s (omega arith)
 
 -- So no step fails the lower test whose next one fails the upper test, where l and u are the ends of a factor.
 pub one-passes : (t i l u : ℕ) → 1 ≤ t → t ≤ 120 → i ≤ 22000 → factorBound low t ≤ l → u ≤ l + 4 * t * t

@@ -3,7 +3,7 @@
 use Prim.Native.Nat.{ℕ, zero, suc, _+_, _*_, _-_, _≤_, _<_}
 use mathlib.Core.Path.{_≡_, refl, ap}
 use native.Mathlib.Omega.{arith}
-use native.Mathlib.Nat.{mul-le-mul-left, mul-le-mul-right, le-of-mul-le-mul-right, lt-of-mul-lt-mul-right, pow-zero, pow-suc, one-le-pow, le-dest, mul-sub, mul-comm}
+use native.Mathlib.Nat.{mul-le-mul-left, mul-le-mul-right, le-of-mul-le-mul-right, lt-of-mul-lt-mul-right, pow-zero, pow-suc, le-dest, mul-sub, mul-comm}
 use native.Mathlib.Decide.{decLe}
 use Rattle.arith.specs.Rounding.{End, low, high, other, divide}
 use Rattle.arith.proofs.Rounding.{divide-floor, divide-ceiling}
@@ -11,6 +11,7 @@ use Rattle.arith.proofs.Ends.{_≤⟨_⟩_, _and_, _less_, _times_, from, cance
 use Rattle.model.specs.Fraction.{Fraction, _//_, _+ᶠ_, _∸ᶠ_, _*ᶠ_, _÷ᶠ_, _^ᶠ_, _≈_}
 use Rattle.model.specs.Constants.{unit}
 use Rattle.model.specs.Rounded.{scaled}
+use Rattle.theory.proofs.Powers.{pow-pos}
 use Rattle.theory.proofs.Bracket.{Bounded}
 
 -- × a ÷ b keeps the bracket
@@ -85,7 +86,7 @@ scaled-in e a b zero h = rw (pow-zero a, pow-zero b) (exactly (omega arith))
 scaled-in e a b (suc j) h = rw (pow-suc a j, pow-suc b j) (step a b h (scaled-in e a b j h))
 
 pub scaled-ends : (a b j : ℕ) → 0 < b → scaled low a b j ≤ scaled high a b j
-scaled-ends a b j h = ends (one-le-pow j b h) (scaled-in low a b j h) (scaled-in high a b j h)
+scaled-ends a b j h = ends (pow-pos b j h) (scaled-in low a b j h) (scaled-in high a b j h)
 
 -- times a smaller quotient
 pub scaled-order : {e : End} {b q : ℕ} (a p j : ℕ) → 0 < b → 0 < q → a * q ≤⟨ e ⟩ p * b → scaled e a b j ≤⟨ e ⟩ scaled e p q j

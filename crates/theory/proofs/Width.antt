@@ -1,8 +1,7 @@
 -- The bracket of factor t is at most 4 × t × t units wide.
 -- Assumes nothing.
 use Prim.Native.Nat.{ℕ, zero, suc, _+_, _*_, _-_, _^_, _≤_, _<_}
-use mathlib.Core.Bool.{Bool}
-use lib.Dec.{T, leb, leb→le}
+use mathlib.Core.Path.{refl}
 use native.Mathlib.Omega.{arith}
 use native.Mathlib.Nat.{add-suc, le-dest, mul-le-mul, mul-le-mul-left, mul-le-mul-right, mul-lt-mul-of-pos-right, lt-of-mul-lt-mul-right}
 use native.Mathlib.Decide.{decLe}
@@ -13,11 +12,12 @@ use Rattle.model.specs.Exact.{weight, weights}
 use Rattle.model.specs.Constants.{unit}
 use Rattle.model.specs.Rounded as Rounded
 use Rattle.model.specs.Rounded.{scaled, ufrGrowth}
+use Rattle.model.specs.Numbers.{every}
 use Rattle.model.specs.CurveWithin.{CurveWithin}
 use Rattle.theory.proofs.Steps.{wider, scaled-width, scaled-mono, ends}
 use Rattle.theory.proofs.Growth.{growth-width, P-pos}
 use Rattle.theory.proofs.Factor.{least, weighed-least, weighed-to-60, weighed-from-61, weighed-in, growth-fraction-pos, rounded-factor-first, rounded-factor-next}
-use Rattle.theory.proofs.Conditions.{below, at}
+use Rattle.theory.proofs.Lists.{every-le}
 
 -- one crosswise division
 pub crosswise : (lo hi gl gh W v H A H′ a b : ℕ) → 0 < A → A ≤ gl → gl ≤ gh → gh ≤ gl + v → hi ≤ lo + W → hi ≤ H
@@ -54,12 +54,10 @@ widthMost (suc j) =
     divide high (widthMost j * unit) (least (suc (20 + j)))
     + divide high (factorMost (suc j) * growthMost (suc (20 + j))) (least (suc (20 + j))) + 1
 
-abbrev square : ℕ → Bool
-square j = leb (widthMost j) (4 * (20 + j) * (20 + j))
-
-narrow : T (below square 41)
-unfolding below widthMost factorMost growthMost divide scaled weight weights
-narrow = tt
+-- computed of each
+narrow : (j : ℕ) → j < 41 → widthMost j ≤ 4 * (20 + j) * (20 + j)
+unfolding every widthMost factorMost growthMost divide scaled weight weights
+narrow j = every-le widthMost (λ j. 4 * (20 + j) * (20 + j)) 41 j refl
 
 pub weighed-width : (c : Curve) → CurveWithin c → (j : ℕ) → suc j ≤ 60 → Rounded.weighed c high (suc j) ≤ Rounded.weighed c low (suc j) + growthMost (suc j)
 unfolding growthMost
@@ -112,7 +110,7 @@ middle c f (suc j) h =
 
 -- from 61 the width grows by at most one a year
 late : (c : Curve) → CurveWithin c → (i : ℕ) → Rounded.factor c high (60 + i) ≤ Rounded.factor c low (60 + i) + (14400 + i)
-late c f zero = omega (arith, middle c f 40 (omega arith) .1, leb→le (widthMost 40) 14400 (at square 41 narrow 40 (omega arith)))
+late c f zero = omega (arith, middle c f 40 (omega arith) .1, narrow 40 (omega arith))
 late c f (suc i) =
     let m : 20 < suc (60 + i) = omega arith in
     let k : 60 < suc (60 + i) = omega arith in
@@ -139,7 +137,7 @@ factor-width c f t = go (decLe t 20) (decLe t 60)
     go (no h) (yes k) =
         let l : 20 ≤ t = omega arith in
         let (j, e) = le-dest l in
-        rw (← e) (omega (arith, middle c f j (omega arith) .1, leb→le (widthMost j) (4 * (20 + j) * (20 + j)) (at square 41 narrow j (omega arith))))
+        rw (← e) (omega (arith, middle c f j (omega arith) .1, narrow j (omega arith)))
     go (no h) (no k) =
         let l : 60 ≤ t = omega arith in
         let (i, e) = le-dest l in

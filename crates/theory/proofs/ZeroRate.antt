@@ -2,8 +2,7 @@
 -- Assumes nothing.
 use Prim.Native.Nat.{ℕ, _+_, _*_, _^_, _≤_, _<_}
 use mathlib.Core.Path.{_≡_, refl}
-use mathlib.Core.Bool.{Bool}
-use lib.Dec.{T, leb, leb→le, le→leb, lit<, lit≤}
+use lib.Dec.{T, leb→le, le→leb, lit<, lit≤}
 use native.Mathlib.Omega.{arith}
 use native.Mathlib.Nat.{le-trans, lt-of-not-le}
 use native.Mathlib.Decide.{decLe}
@@ -22,10 +21,11 @@ use Rattle.model.specs.CurveWithin.{BaseWithin}
 use Rattle.model.specs.Limits.{Between}
 use Rattle.model.specs.Demand3.{RateOrdered, RateBounds}
 use Rattle.theory.proofs.Differences.{Diff, again, diff-pos, diff-sum, diff-neg, diff-minus, le-diff, lt-diff, natural-is}
+use Rattle.model.specs.Numbers.{every}
 use Rattle.theory.proofs.Steps.{scaled-in}
 use Rattle.theory.proofs.Factor.{factor-in, product-pos}
 use Rattle.theory.proofs.Width.{factor-width}
-use Rattle.theory.proofs.Conditions.{below, at}
+use Rattle.theory.proofs.Lists.{every-le}
 use Rattle.theory.proofs.Search.{largest-found, smallest-found, past-largest, before-smallest}
 use Rattle.theory.proofs.BaseCurve.{weighedBound, factorBound, factor-bound}
 use Rattle.theory.proofs.RateTests.{one-passes}
@@ -58,31 +58,25 @@ rate-order low z t x h = h .le
 rate-order high z t x h = h .le
 
 -- ---- the first step passes the lower test and the last one the upper test, whatever the file: computed of the factors' bounds
-abbrev starts : ℕ → Bool
-starts t = leb (factorBound high t) (tested low t 0)
+starts : (t : ℕ) → t < 121 → factorBound high t ≤ tested low t 0
+unfolding every factorBound weighedBound divide scaled weight weights
+starts t = every-le (factorBound high) (λ t. tested low t 0) 121 t refl
 
-abbrev stops : ℕ → Bool
-stops t = leb (tested high t 22000) (factorBound low t)
-
-all-start : T (below starts 121)
-unfolding below factorBound weighedBound divide scaled weight weights
-all-start = tt
-
-all-stop : T (below stops 121)
-unfolding below factorBound weighedBound divide scaled weight weights
-all-stop = tt
+stops : (t : ℕ) → t < 121 → tested high t 22000 ≤ factorBound low t
+unfolding every factorBound weighedBound divide scaled weight weights
+stops t = every-le (λ t. tested high t 22000) (factorBound low) 121 t refl
 
 -- ---- the rates of a base curve: the steps found, in their bounds and at most two apart
 module _ (c : Curve) (b : BaseWithin c) (t : ℕ) (within : t ≤ 120) where
   pub first-passes : T (lowerTest (Rounded.factor c) t 0)
   first-passes =
       le→leb (Rounded.factor c high t) (tested low t 0)
-      (le-trans (factor-bound c b high t .le) (leb→le (factorBound high t) (tested low t 0) (at starts 121 all-start t (omega arith))))
+      (le-trans (factor-bound c b high t .le) (starts t (omega arith)))
 
   pub last-passes : T (upperTest (Rounded.factor c) t 22000)
   last-passes =
       le→leb (tested high t 22000) (Rounded.factor c low t)
-      (le-trans (leb→le (tested high t 22000) (factorBound low t) (at stops 121 all-stop t (omega arith))) (factor-bound c b low t .le))
+      (le-trans (stops t (omega arith)) (factor-bound c b low t .le))
 
   -- the index of the step found
   found : End → ℕ

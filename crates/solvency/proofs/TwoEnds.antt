@@ -1,11 +1,10 @@
 -- A bracket from its two ends, and its ends from a bracket.
 -- Assumes nothing.
-use Prim.Native.Nat.{ℕ, _≤_}
+use Prim.Native.Nat.{ℕ}
 use mathlib.Core.Path.{_≡_, ap}
 use Rattle.arith.specs.Rounding.{End, low, high}
 use Rattle.model.specs.Rounded.{bracket}
 use Rattle.model.specs.declared.figures.Bracket.{Bracket}
-use Rattle.solvency.specs.Ranges.{UpTo}
 
 pub bracket-is : (a b : ℕ) (f : End → ℕ) → a ≡ f low → b ≡ f high → _≡_ {A = Bracket} (record { lower = a; upper = b }) (bracket f)
 bracket-is a b f p q = rw (p, q)
@@ -15,7 +14,3 @@ lower-is f e = ap (λ (b : Bracket). b .lower) e
 
 pub upper-is : {r : Bracket} (f : End → ℕ) → r ≡ bracket f → r .upper ≡ f high
 upper-is f e = ap (λ (b : Bracket). b .upper) e
-
--- both ends of a bracket whose figure is at most m
-pub up-to : (m a b : ℕ) (f : End → ℕ) → a ≡ f low → b ≡ f high → ((e : End) → f e ≤ m) → UpTo m (record { lower = a; upper = b })
-up-to m a b f p q h = record { lower = rw p (h low); upper = rw q (h high) }

@@ -33,6 +33,6 @@ keeps-accepted file x = (
   case-read file (x .present) (x .held) (x .within) (x .agrees) (x .bytes),
 )
 
--- so a file holds one case
-pub present-once : (file : List ℕ) (x y : Keeps file) → x .held ≡ y .held
-present-once file x y = sym (keeps-accepted file x .1) ∙ keeps-accepted file y .1
+-- so no file holds two cases
+pub one-case : (file : List ℕ) (x y : Keeps file) → x .held ≡ y .held
+one-case file x y = sym (keeps-accepted file x .1) ∙ keeps-accepted file y .1

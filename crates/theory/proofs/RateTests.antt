@@ -2,16 +2,13 @@
 -- Assumes nothing.
 use Prim.Native.Nat.{ℕ, zero, suc, _+_, _*_, _^_, _≤_, _<_}
 use mathlib.Core.Path.{_≡_, refl}
-use lib.Dec.{T, leb→le, le→leb}
 use native.Mathlib.Omega.{arith}
 use native.Mathlib.Nat.{mul-le-mul-left, mul-le-mul-right, le-of-mul-le-mul-right, le-trans}
 use Rattle.arith.specs.Rounding.{End, low, high, divide}
 use Rattle.arith.proofs.Rounding.{divide-ceiling}
-use Rattle.model.specs.Curve.{Curve}
 use Rattle.model.specs.Exact.{weight, weights}
 use Rattle.model.specs.Constants.{unit, stepsPerOne}
-use Rattle.model.specs.Rounded as Rounded
-use Rattle.model.specs.Rounded.{scaled, tested, lowerTest, upperTest}
+use Rattle.model.specs.Rounded.{scaled, tested}
 use Rattle.model.specs.Numbers.{every}
 use Rattle.theory.proofs.Steps.{wider, scaled-in, scaled-mono, scaled-ends}
 use Rattle.theory.proofs.Lists.{every-le}
@@ -21,17 +18,6 @@ use Rattle.theory.proofs.BaseCurve.{weighedBound, factorBound}
 -- a larger step gives no larger result
 pub tested-anti : (e : End) (t i j : ℕ) → i ≤ j → tested e t j ≤ tested e t i
 tested-anti e t i j h = scaled-mono e stepsPerOne (98000 + j) stepsPerOne (98000 + i) t (omega arith) (omega arith) (omega arith)
-
--- where a step passes the lower test, so does each below it; where one passes the upper test, so does each above it
-pub lower-falls : (c : Curve) (t i j : ℕ) → i ≤ j → T (lowerTest (Rounded.factor c) t j) → T (lowerTest (Rounded.factor c) t i)
-lower-falls c t i j h p =
-    le→leb (Rounded.factor c high t) (tested low t i)
-    (le-trans (leb→le (Rounded.factor c high t) (tested low t j) p) (tested-anti low t i j h))
-
-pub upper-rises : (c : Curve) (t i j : ℕ) → i ≤ j → T (upperTest (Rounded.factor c) t i) → T (upperTest (Rounded.factor c) t j)
-upper-rises c t i j h p =
-    le→leb (tested high t j) (Rounded.factor c low t)
-    (le-trans (tested-anti high t i j h) (leb→le (tested high t i) (Rounded.factor c low t) p))
 
 -- no result passes 1.2 × 10^13, so that × 100,000 fits 64 bits
 first-small : (t : ℕ) → t < 121 → tested high t 0 ≤ 12 * 10 ^ 12

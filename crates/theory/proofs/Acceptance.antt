@@ -1,4 +1,6 @@
--- A file is accepted exactly when it keeps the layout and limits, and the case that is read is the case that it holds.
+-- A file is accepted exactly when it keeps the layout and limits, and the case that is read is the case that it holds. Where it is
+-- accepted, its checks hold; so the case read is within the limits (Accepted), and its bytes are the file (Written). Where it is the
+-- bytes of a case within the limits, that case is what is read (Read), and each check tests a limit that the case keeps.
 use mathlib.Core.Path.{_≡_, refl, sym, _∙_}
 use mathlib.Core.List.{List}
 use Prim.Native.Nat.{ℕ}

@@ -1,4 +1,4 @@
--- The case of an accepted file is within the limits.
+-- The case of an accepted file is within the limits: each limit is tested by one of the checks, of the same number that the case holds.
 use mathlib.Core.Path.{_≡_, refl}
 use mathlib.Core.Bool.{Bool, true, false, cond}
 use mathlib.Core.List.{List, []}

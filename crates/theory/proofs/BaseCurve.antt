@@ -1,4 +1,7 @@
--- How large the growths and the factors of a base curve are: each lies between two numbers that depend on the term alone.
+-- How large the growths and the factors of a base curve are: each lies between two numbers that depend on the term alone. A growth is a
+-- quotient of powers, which the mean rates and the forward rate bound (Powers), and refusals 5 and 6 limit these. The bounds of the
+-- factors are the rounded working's own recursion with the bounds of the growths in it, because each step keeps the order
+-- (`divide-order`).
 -- Assumes nothing.
 use Prim.Native.Nat.{ℕ, zero, suc, _+_, _*_, _-_, _^_, _≤_, _<_}
 use mathlib.Core.Path.{_≡_, refl, ap}

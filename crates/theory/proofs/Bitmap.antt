@@ -1,4 +1,5 @@
--- The map of a file whose bits are right is that of the optional fields that it shows, and the map of such fields shows them.
+-- The map of a file whose bits are right is that of the optional fields that it shows, and the map of such fields shows them. Where bits
+-- 7 to 15 do not stand, a map is one of 128, and there are eight choices of optional fields: both are computed, one by one.
 use mathlib.Core.Path.{_≡_, refl, ap, sym, _∙_}
 use mathlib.Core.Bool.{Bool, true, false, _&&_, not, cond}
 use Prim.Native.Nat.{ℕ, zero, suc, _+_, _*_, _/_, _%_, _^_, _<_}

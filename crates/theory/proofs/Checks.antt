@@ -1,4 +1,5 @@
--- No check of a file fails exactly when each of its checks holds, field by field.
+-- No check of a file fails exactly when each of its checks holds, field by field: the refusal is the number of the first check that
+-- fails, and no check has the number 0.
 use mathlib.Core.Path.{_≡_, refl, sym, _∙_, subst}
 use mathlib.Core.Bool.{Bool, true, false, _&&_, cond}
 use mathlib.Core.List.{List, [], _∷_, _++_, append-assoc}

@@ -1,4 +1,6 @@
--- Demand 3, whole: of every case within the limits, and of whatever is given that is the rounded working's.
+-- Demand 3, whole: of every case within the limits, and of whatever is given that is the rounded working's. Each field is a theorem of
+-- another file: what lies in a bracket is from Factor, ZeroRate and Money, the widths from Width, ZeroRate and MoneyWidth, the verdict
+-- from Verdicts.
 -- Assumes nothing.
 use Prim.Native.Nat.{ℕ, _*_, _≤_, _<_}
 use mathlib.Core.Path.{_≡_, refl}

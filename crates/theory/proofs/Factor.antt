@@ -1,4 +1,6 @@
--- The factor of every term lies in its bracket.
+-- The factor of every term lies in its bracket. To 20 the growths 1 to t multiply out to (1 + R(t))^t, so the factor is 1 taken t times
+-- × N ÷ P(t), and each time keeps the bracket. From 21 it is the factor before it, divided by the other end of the growth: a larger
+-- divisor gives a smaller quotient, so that keeps the bracket too.
 -- Assumes nothing.
 use Prim.Native.Nat.{ℕ, zero, suc, _+_, _*_, _-_, _^_, _≤_, _<_}
 use mathlib.Core.Path.{_≡_, _∙_, ap}
@@ -111,7 +113,7 @@ factor-next : (c : Curve) (t : ℕ) → Exact.factor c t ÷ᶠ Exact.growth c (s
 unfolding Exact.factor Exact.product
 factor-next c t = omega arith
 
--- the lower end of a growth, and from 21 on
+-- the lower end of a growth, and of a weighed growth from 21 on
 growth-low : (c : Curve) → CurveWithin c → (j : ℕ) → suc j ≤ 60 → 1000 * (96 * 10 ^ 7) ≤⟨ low ⟩ Rounded.growth c low (suc j)
 growth-low c f j h =
     omega (

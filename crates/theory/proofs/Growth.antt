@@ -1,4 +1,6 @@
--- The growth of a term: in its bracket, its width, and its least value.
+-- The growth of term j + 1: in its bracket, which is at most 4 × j + 1 units wide, and at least 0.97. The width of j times × P(j+1) ÷
+-- P(j) is at most 3 × j (`scaled-width`), because the limit of the forward rates keeps the quotient at most 1 + 2 ÷ 3j; the last factor
+-- P(j+1) ÷ N, at most 1.11, makes that at most 4 × j, and its two roundings add at most 1.
 -- Assumes nothing.
 use Prim.Native.Nat.{ℕ, suc, _+_, _*_, _-_, _^_, _≤_, _<_}
 use mathlib.Core.Path.{_≡_}

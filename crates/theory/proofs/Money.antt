@@ -1,4 +1,5 @@
--- Every money figure lies in its bracket.
+-- Every money figure lies in its bracket, since each is made by steps that keep one (Steps): a difference takes the other end of what it
+-- subtracts, and a maximum is taken of each end. S6 and S are roots of fractions, so their squares are compared.
 -- Assumes nothing.
 use Prim.Native.Nat.{ℕ, suc, _+_, _*_, _^_, _≤_, _<_, max}
 use mathlib.Core.Path.{_≡_}
@@ -58,7 +59,7 @@ worth-wide c f t (x ∷ xs) =
 pub worth-width : (c : Curve) → CurveWithin c → (xs : List ℕ) → Rounded.worth high (Rounded.factor c high) 1 xs ≤ Rounded.worth low (Rounded.factor c low) 1 xs + W xs
 worth-width c f xs = omega (arith, worth-wide c f 1 xs, divide-ceiling (weightedSum 1 xs) (10 ^ 10) (omega arith))
 
--- maxima: a lower end of x is one of whatever x is at most
+-- maxima: a lower end of x is also a lower end of every y that x is at most
 carry : (u n a b c d : ℕ) → 0 < b → a * d ≤ c * b → n * b ≤ u * a → n * d ≤ u * c
 carry u n a b c d hb k h =
     le-of-mul-le-mul-right {m = n * d} {n = u * c} (omega (arith, mul-le-mul-right d h, mul-le-mul-left u k)) hb

@@ -1,4 +1,5 @@
--- How large the money figures become: every end lies below 2^53, so that a double holds it.
+-- How large the money figures become: every end lies below 2^53, so that a double holds it. Each limit of a file bounds one number of a
+-- product, no factor passes 2.2, and a root of squares with a correlation of at most 1 is at most the sum of its parts.
 -- Assumes nothing.
 use Prim.Native.Nat.{ℕ, suc, _+_, _*_, _^_, _≤_, _<_, max}
 use mathlib.Core.List.{List, [], _∷_}

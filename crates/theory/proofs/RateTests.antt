@@ -1,4 +1,7 @@
--- The two tests of a zero rate.
+-- The two tests of a zero rate: monotone in the step, small enough for 64 bits, and never both failed by neighbouring steps
+-- (`one-passes`). One step lowers the power (100,000 ÷ v)^t, with v for 100,000 + z, by a share t ÷ (v + t) of itself or more
+-- (`steps-apart`). If a step failed the lower test and the next one the upper, the power would fall by no more than the factor and two
+-- results are wide, which is less (`sharp`): even the smallest factor of a base curve is large beside these widths.
 -- Assumes nothing.
 use Prim.Native.Nat.{ℕ, zero, suc, _+_, _*_, _^_, _≤_, _<_}
 use mathlib.Core.Path.{_≡_, refl}

@@ -1,4 +1,6 @@
--- From a file that is the bytes of a case within the limits, that case is read, and each check holds.
+-- From a file that is the bytes of a case within the limits, that case is read, and each check holds. From the first field to the last:
+-- a number within its limit fits its bytes, so it is read as it was written, and a field takes as many bytes as the reading assumes, so
+-- the next field is read where it was written.
 use mathlib.Core.Path.{_≡_, refl, ap, sym, _∙_, subst}
 use mathlib.Core.Bool.{Bool, true, false, cond}
 use mathlib.Core.List.{List, [], _++_, append-assoc, append-nil}

@@ -1,4 +1,6 @@
--- How large the rounded numbers become on each of the three curves: what the code needs so that its products fit.
+-- How large the rounded numbers become on each of the three curves: what the code needs so that its products fit. The lower end of a
+-- growth over i years is at most the exact power, which the forward rate bounds (Powers), and the upper end is that and the width more.
+-- A factor is at most `factorMost`, a recursion that reads no file and is computed for each term.
 -- Assumes nothing.
 use Prim.Native.Nat.{ℕ, zero, suc, _+_, _*_, _^_, _≤_, _<_}
 use mathlib.Core.Path.{refl, ap}

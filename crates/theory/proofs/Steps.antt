@@ -1,4 +1,7 @@
--- One step of the rounded working, at either end: what all steps cite.
+-- One step of the rounded working, at either end: it keeps the bracket, and it widens it by little. The bracket is kept because a step
+-- rounds to its own end: the result is `≤⟨ e ⟩` the step done exactly on a number that is itself `≤⟨ e ⟩` the exact one. j times × a ÷ b
+-- gives a width of at most 3 × j (`scaled-width`), where a ÷ b is at most 1 + 2 ÷ 3k and j at most k: one time more adds at most 2 to
+-- the width 3 × j, and its two roundings, of less than 1 each, add at most 1.
 -- Assumes nothing.
 use Prim.Native.Nat.{ℕ, zero, suc, _+_, _*_, _-_, _≤_, _<_}
 use mathlib.Core.Path.{_≡_, refl, ap}
@@ -88,7 +91,7 @@ scaled-in e a b (suc j) h = rw (pow-suc a j, pow-suc b j) (step a b h (scaled-in
 pub scaled-ends : (a b j : ℕ) → 0 < b → scaled low a b j ≤ scaled high a b j
 scaled-ends a b j h = ends (pow-pos b j h) (scaled-in low a b j h) (scaled-in high a b j h)
 
--- times a smaller quotient
+-- j times × a smaller quotient is no larger
 pub scaled-order : {e : End} {b q : ℕ} (a p j : ℕ) → 0 < b → 0 < q → a * q ≤⟨ e ⟩ p * b → scaled e a b j ≤⟨ e ⟩ scaled e p q j
 unfolding scaled
 scaled-order {e} a p zero hb hq h = equal e refl
@@ -99,7 +102,7 @@ pub scaled-mono : (e : End) (a b p q j : ℕ) → 0 < b → 0 < q → a * q ≤ 
 scaled-mono low a b p q j hb hq h = scaled-order {e = low} a p j hb hq record { le = h } .le
 scaled-mono high a b p q j hb hq h = scaled-order {e = high} p a j hq hb record { le = h } .le
 
--- the widths: × a ÷ b takes a width w to at most v + 1, if w × a is at most v × b
+-- the widths: × a ÷ b takes a width w to at most v + 1, where w × a is at most v × b
 pub wider : (lo hi a b w v : ℕ) → 0 < b → hi ≤ lo + w → w * a ≤ v * b → divide high (hi * a) b ≤ divide low (lo * a) b + (v + 1)
 wider lo hi a b w v h k l =
     let p : ℕ = divide low (lo * a) b in
@@ -117,7 +120,7 @@ ratio a b k j h l = go (decLe a b)
         let (d, e) = le-dest p in
         omega (arith, mul-le-mul-right d h, ap (λ z. k * z) e, ap (λ z. j * z) e)
 
--- j times × a ÷ b: at most three units for each time, if the powers of a ÷ b stay small
+-- j times × a ÷ b: at most 3 units for each time, where a ÷ b is at most 1 + 2 ÷ 3k and j at most k
 pub scaled-width : (a b k : ℕ) → 0 < b → 3 * k * a ≤ (3 * k + 2) * b → (j : ℕ) → j ≤ k → scaled high a b j ≤ scaled low a b j + 3 * j
 unfolding scaled
 scaled-width a b k h l zero m = omega arith

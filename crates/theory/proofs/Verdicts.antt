@@ -1,4 +1,7 @@
--- Each verdict given, other than undecided, is the exact one; undecided is said only within the margins.
+-- Each verdict given, other than undecided, is the exact one; undecided is said only within the margins. A comparison that decides sets
+-- the upper end of the smaller side against the lower end of the larger, so the exact figures, which lie in their brackets, are in that
+-- order too. Undecided means that the brackets of the two sides of a border overlap, so the exact sides differ by no more than both
+-- brackets are wide: 20 × WB + 21 × WL at the first border; WB for A, WL for L and 3 × WL + 2 × WB + 8 for S at the second.
 -- Assumes nothing.
 use Prim.Native.Nat.{ℕ, suc, _+_, _*_, _-_, _≤_, _<_}
 use mathlib.Core.Path.{_≡_, sym, _∙_}

@@ -1,4 +1,7 @@
--- The bracket of factor t is at most 4 × t × t units wide.
+-- The bracket of factor t is at most 4 × t × t units wide. To 20 each of the t multiplications adds at most 3. From 21 to 60 a year
+-- divides the width by the growth, and adds the growth's own width, which is at most linear in t (Growth), times the factor; such yearly
+-- additions sum to a square. The recursion of these bounds (`widthMost`) reads no file, so that it stays below 4 × t × t is computed for
+-- each term. From 61 the growth is at least 1 and the same at both ends, so a year adds at most 1.
 -- Assumes nothing.
 use Prim.Native.Nat.{ℕ, zero, suc, _+_, _*_, _-_, _^_, _≤_, _<_}
 use mathlib.Core.Path.{refl}
@@ -19,7 +22,9 @@ use Rattle.theory.proofs.Growth.{growth-width, P-pos}
 use Rattle.theory.proofs.Factor.{least, weighed-least, weighed-to-60, weighed-from-61, weighed-in, growth-fraction-pos, rounded-factor-first, rounded-factor-next}
 use Rattle.theory.proofs.Lists.{every-le}
 
--- one crosswise division
+-- One crosswise division, of a factor from lo to hi by a growth from gl to gh. A is at most the growth, H at least the factor, H′ at
+-- least the new factor; W and v are the widths of factor and growth. The new width is at most W ÷ A + H′ × v ÷ A + 1; a and b are at
+-- least the two quotients.
 pub crosswise : (lo hi gl gh W v H A H′ a b : ℕ) → 0 < A → A ≤ gl → gl ≤ gh → gh ≤ gl + v → hi ≤ lo + W → hi ≤ H
     → W * unit ≤ a * A → H * unit ≤ H′ * A → H′ * v ≤ b * A
     → (divide high (hi * unit) gl ≤ H′) × (divide high (hi * unit) gl ≤ divide low (lo * unit) gh + (a + b + 1))
@@ -40,7 +45,7 @@ crosswise lo hi gl gh W v H A H′ a b hA k1 k2 k3 k4 k5 l1 l2 l3 =
     let m : q < p + (a + b + 2) = lt-of-mul-lt-mul-right (gl * gh) (omega (arith, u, f1, f2, f3, f4, g1, g2, g3)) in
     (divide-le high (hi * unit) gl H′ hl f0, omega arith)
 
--- Numbers that no file passes, at term 20 + j: the width of the growth of term t, the upper factor, the factor's width.
+-- Numbers that no file passes: the width of the weighed growth of term t; the upper factor of term 20 + j, and the width of its bracket.
 unfoldable pub growthMost : ℕ → ℕ
 growthMost t = divide high ((1000 - weight t) * (4 * t)) 1000 + 1
 

@@ -1,4 +1,7 @@
--- The zero rate of every term from 1 to 120 lies in its bracket, which is at most two steps wide.
+-- The zero rate of every term from 1 to 120 lies in its bracket, which is at most two steps wide. It lies there because a test compares
+-- the power of a step, rounded to one end, with the factor at the other end: where the rounded numbers pass, the exact ones are in that
+-- order. Two steps suffice because, were the upper rate further above the lower, the step after the lower rate would fail the lower test
+-- and the one after that the upper test, which no two neighbouring steps do (`one-passes`).
 -- Assumes nothing.
 use Prim.Native.Nat.{ℕ, _+_, _*_, _^_, _≤_, _<_}
 use mathlib.Core.Path.{_≡_, refl}

@@ -1,6 +1,7 @@
--- The laws of `arith`. Other crates cite Rounding, Root and Bisection; the rest serves the proofs of this crate's functions.
+-- The laws of `arith`. Other crates cite Rounding, Root, Ends and Bisection; the rest serves the proofs of this crate's functions.
 pub mod Rounding
 pub mod Root
+pub mod Ends
 pub mod Worked
 pub mod LongDivision
 pub mod Carry

@@ -1,4 +1,4 @@
--- What the root of a fraction is: the number that its property names, and the only one; its bounds, its order, and its ends.
+-- What the root of a fraction is, rounded down and rounded up: the number that its property names, and its upper bounds.
 -- Assumes nothing.
 use Prim.Native.Nat.{ℕ, zero, suc, _+_, _*_, _^_, _≤_, _<_}
 use mathlib.Core.Path.{_≡_, refl, sym, ap, _∙_, subst}
@@ -8,7 +8,7 @@ use lib.Ieee.{size}
 use lib.Ieee.Digits.{size-lt}
 use borrow.Author.Tests.{le-leb, lt-leb}
 use native.Mathlib.Nat.{mul-le-mul, mul-le-mul-left, le-of-mul-le-mul-right, lt-of-mul-lt-mul-right, pow-zero, pow-suc}
-use native.Mathlib.Nat.{le-refl, le-antisymm, le-of-lt, le-trans, lt-of-lt-of-le, lt-of-le-of-lt}
+use native.Mathlib.Nat.{le-trans, lt-of-lt-of-le, lt-of-le-of-lt}
 use native.Mathlib.Decide.{decLe}
 use native.Mathlib.Omega.{arith}
 use Rattle.arith.specs.Rounding.{End, low, high}
@@ -106,36 +106,7 @@ root-ceiling n d pos = go (root low n d) refl (root-floor n d pos) (decLe n _)
         let l : r * r * d < n = omega arith in
         subst (λ (s : ℕ). CeilingRoot n d s) (root-high-more n d r e l) (ceiling-more n d r f l)
 
--- and it is the only one
-pub root-high-is : (n d r : ℕ) → 0 < d → CeilingRoot n d r → r ≡ root high n d
-root-high-is n d r pos h =
-    let s : CeilingRoot n d (root high n d) = root-ceiling n d pos in
-    le-antisymm (h .first (root high n d) (s .covers)) (s .first r (h .covers))
-
 -- at most any whole number that is at least the root
 pub root-le : (e : End) (n d k : ℕ) → 0 < d → n ≤ k * k * d → root e n d ≤ k
 root-le low n d k pos h = unsquare-by (root low n d) k d pos (le-trans (root-floor n d pos .reaches) h)
 root-le high n d k pos h = root-ceiling n d pos .first k h
-
--- at least any whole number that is at most the root
-pub le-root : (e : End) (n d k : ℕ) → 0 < d → k * k * d ≤ n → k ≤ root e n d
-le-root low n d k pos h =
-    let l : k < root low n d + 1 = unsquare-lt-by k (root low n d + 1) d (lt-of-le-of-lt h (root-floor n d pos .last)) in
-    omega arith
-le-root high n d k pos h = unsquare-by k (root high n d) d pos (le-trans h (root-ceiling n d pos .covers))
-
--- a whole root is not rounded
-pub root-exact : (e : End) (d k : ℕ) → 0 < d → root e (k * k * d) d ≡ k
-root-exact e d k pos = le-antisymm (root-le e (k * k * d) d k pos (le-refl _)) (le-root e (k * k * d) d k pos (le-refl _))
-
--- a larger number has no smaller root
-pub root-mono : (e : End) (n m d : ℕ) → 0 < d → n ≤ m → root e n d ≤ root e m d
-root-mono low n m d pos h = le-root low m d (root low n d) pos (le-trans (root-floor n d pos .reaches) h)
-root-mono high n m d pos h = root-le high n d (root high m d) pos (le-trans h (root-ceiling m d pos .covers))
-
--- the two ends are in order, and at most one apart
-pub root-ends : (n d : ℕ) → 0 < d → root low n d ≤ root high n d
-root-ends n d pos = le-root high n d (root low n d) pos (root-floor n d pos .reaches)
-
-pub root-width : (n d : ℕ) → 0 < d → root high n d ≤ root low n d + 1
-root-width n d pos = root-le high n d (root low n d + 1) pos (le-of-lt (root-floor n d pos .last))

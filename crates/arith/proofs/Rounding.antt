@@ -1,15 +1,10 @@
--- What rounding a quotient does, at each end: how near it is, what it is at most and at least, and that it keeps the order.
+-- What rounding a quotient does, at each end: how near it is, and what it is at most and at least.
 -- Assumes nothing.
 use Prim.Native.Nat.{ℕ, _+_, _-_, _*_, _/_, _≤_, _<_}
-use mathlib.Core.Path.{_≡_, refl, sym, subst}
+use mathlib.Core.Path.{_≡_, sym, subst}
 use native.Mathlib.Nat.{div-mul-le-self, lt-div-mul-add, div-lt-iff-lt-mul, le-div-iff-mul-le, div-eq-of-lt-le, le-antisymm, le-refl, mul-le-mul-left}
 use native.Mathlib.Omega.{arith}
-use Rattle.arith.specs.Rounding.{End, low, high, other, divide}
-
--- the other end's other end is the end itself
-pub other-other : (e : End) → other (other e) ≡ e
-other-other low = refl
-other-other high = refl
+use Rattle.arith.specs.Rounding.{End, low, high, divide}
 
 -- down loses less than one
 pub divide-floor : (a b : ℕ) → 0 < b → (divide low a b * b ≤ a) × (a < divide low a b * b + b)
@@ -37,19 +32,7 @@ unfolding divide
 le-divide low a b k pos h = le-div-iff-mul-le pos .1 h
 le-divide high a b k pos h = le-div-iff-mul-le pos .1 (omega arith)
 
--- a whole quotient is not rounded
-pub divide-exact : (e : End) (b k : ℕ) → 0 < b → divide e (k * b) b ≡ k
-divide-exact e b k pos = le-antisymm (divide-le e (k * b) b k pos (le-refl _)) (le-divide e (k * b) b k pos (le-refl _))
-
--- a larger dividend has no smaller quotient
-pub divide-mono : (e : End) (a b c : ℕ) → 0 < c → a ≤ b → divide e a c ≤ divide e b c
-divide-mono low a b c pos h = le-divide low b c (divide low a c) pos (omega (arith, divide-floor a c pos))
-divide-mono high a b c pos h = divide-le high a c (divide high b c) pos (omega (arith, divide-ceiling b c pos))
-
--- the two ends are in order, and at most one apart
-pub divide-ends : (a b : ℕ) → 0 < b → divide low a b ≤ divide high a b
-divide-ends a b pos = le-divide high a b (divide low a b) pos (divide-floor a b pos .0)
-
+-- the two ends are at most one apart
 pub divide-width : (a b : ℕ) → 0 < b → divide high a b ≤ divide low a b + 1
 divide-width a b pos = divide-le high a b (divide low a b + 1) pos (omega (arith, divide-floor a b pos))
 

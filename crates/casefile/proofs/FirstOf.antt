@@ -1,13 +1,15 @@
 -- The first check that fails, check by check and part by part, as the code goes through a file.
 use mathlib.Core.Path.{_≡_, refl, sym, _∙_}
-use mathlib.Core.Bool.{Bool, true, false, _&&_, cond}
+use mathlib.Core.Bool.{Bool, true, false, cond}
 use mathlib.Core.List.{List, [], _∷_, _++_, append-assoc}
 use Prim.Native.Nat.{ℕ, _≤_, _<_}
 use native.Mathlib.Omega.{arith}
-use borrow.Author.Tests.{le-leb, lt-leb}
-use lib.Dec.{T, leb, ltb, lit<}
+use borrow.Author.Tests.{le-leb, lt-leb, ltb-true}
+use lib.Dec.{leb, ltb}
 use Rattle.model.specs.Reading.{hasUfr, pensionAt, bondsAt, hasBonds, amountsAt, hasAmounts, shocksAt, peopleAt}
 use Rattle.model.specs.Refusals.{Check, firstOf, within, mapChecks, ufrChecks, daysChecks, flowsChecks, amountsChecks, shocksChecks, peopleChecks, checks, refusal}
+use Rattle.theory.proofs.Lists.{and-first, and-second, and-both}
+use Rattle.theory.proofs.Checks.{numbered}
 use Rattle.casefile.specs.Order.{mapToDays, pensionToAmounts, shocksToEnd}
 
 -- ---- one check
@@ -57,28 +59,15 @@ absent cs e = rw e (none .is)
 
 -- ---- three parts, one behind the other
 
--- no check has the number 0
-abbrev pub numbered : List Check → Bool
-numbered [] = true
-numbered (c ∷ cs) = ltb 0 (c .1) && numbered cs
-
-split : (a b : Bool) → T (a && b) → T a × T b
-split true b t = (tt, t)
-split false b t = absurd t
-
-both : (a b : Bool) → T a → T b → T (a && b)
-both true b t u = u
-both false b t u = t
-
-pub numbered-if : (b : Bool) (cs : List Check) → T (numbered cs) → T (numbered (cond b cs []))
+pub numbered-if : (b : Bool) (cs : List Check) → numbered cs ≡ true → numbered (cond b cs []) ≡ true
 numbered-if true cs t = t
-numbered-if false cs t = tt
+numbered-if false cs t = refl
 
-pub numbered-append : (cs ds : List Check) → T (numbered cs) → T (numbered ds) → T (numbered (cs ++ ds))
+pub numbered-append : (cs ds : List Check) → numbered cs ≡ true → numbered ds ≡ true → numbered (cs ++ ds) ≡ true
 numbered-append [] ds t u = u
 numbered-append (c ∷ cs) ds t u =
-    let p = split (ltb 0 (c .1)) (numbered cs) t in
-    both (ltb 0 (c .1)) (numbered (cs ++ ds)) (p .0) (numbered-append cs ds (p .1) u)
+    and-both (ltb 0 (c .1)) (numbered (cs ++ ds)) (and-first (ltb 0 (c .1)) (numbered cs) t)
+    (numbered-append cs ds (and-second (ltb 0 (c .1)) (numbered cs) t) u)
 
 stops : (cs ds : List Check) (r : ℕ) → r ≡ firstOf cs → (r ≡ 0 → ⊥) → r ≡ firstOf (cs ++ ds)
 unfolding firstOf
@@ -86,11 +75,11 @@ stops [] ds r h n = absurd (n h)
 stops ((true, k) ∷ cs) ds r h n = stops cs ds r h n
 stops ((false, k) ∷ cs) ds r h n = h
 
-goes-on : (cs ds : List Check) → T (numbered cs) → firstOf cs ≡ 0 → firstOf (cs ++ ds) ≡ firstOf ds
+goes-on : (cs ds : List Check) → numbered cs ≡ true → firstOf cs ≡ 0 → firstOf (cs ++ ds) ≡ firstOf ds
 unfolding firstOf
 goes-on [] ds t h = refl
-goes-on ((true, k) ∷ cs) ds t h = goes-on cs ds (split (ltb 0 k) (numbered cs) t .1) h
-goes-on ((false, k) ∷ cs) ds t h = absurd (bad (lit< (split (ltb 0 k) (numbered cs) t .0)) h)
+goes-on ((true, k) ∷ cs) ds t h = goes-on cs ds (and-second (ltb 0 k) (numbered cs) t) h
+goes-on ((false, k) ∷ cs) ds t h = absurd (bad (ltb-true 0 k (and-first (ltb 0 k) (numbered cs) t)) h)
   where
     bad : 0 < k → k ≡ 0 → ⊥
     bad l e = omega arith
@@ -98,11 +87,11 @@ goes-on ((false, k) ∷ cs) ds t h = absurd (bad (lit< (split (ltb 0 k) (numbere
 pub first-stops : (front middle back : List Check) {r : ℕ} → r ≡ firstOf front → (r ≡ 0 → ⊥) → r ≡ firstOf (front ++ middle ++ back)
 first-stops front middle back {r} h n = stops (front ++ middle) back r (stops front middle r h n) n
 
-pub second-stops : (front middle back : List Check) {r : ℕ} → T (numbered front) → 0 ≡ firstOf front → r ≡ firstOf middle → (r ≡ 0 → ⊥)
+pub second-stops : (front middle back : List Check) {r : ℕ} → numbered front ≡ true → 0 ≡ firstOf front → r ≡ firstOf middle → (r ≡ 0 → ⊥)
     → r ≡ firstOf (front ++ middle ++ back)
 second-stops front middle back {r} t z h n = stops (front ++ middle) back r (h ∙ sym (goes-on front middle t (sym z))) n
 
-pub third-decides : (front middle back : List Check) {r : ℕ} → T (numbered front) → T (numbered middle) → 0 ≡ firstOf front → 0 ≡ firstOf middle
+pub third-decides : (front middle back : List Check) {r : ℕ} → numbered front ≡ true → numbered middle ≡ true → 0 ≡ firstOf front → 0 ≡ firstOf middle
     → r ≡ firstOf back → r ≡ firstOf (front ++ middle ++ back)
 third-decides front middle back t u z y h =
     h ∙ sym (goes-on (front ++ middle) back (numbered-append front middle t u) (goes-on front middle t (sym z) ∙ sym y))
@@ -110,47 +99,47 @@ third-decides front middle back t u z y h =
 -- ---- no check of a file has the number 0
 
 module _ (file : List ℕ) where
-  pub map-numbered : T (numbered (mapChecks file))
+  pub map-numbered : numbered (mapChecks file) ≡ true
   unfolding mapChecks
-  map-numbered = tt
+  map-numbered = refl
 
-  pub ufr-numbered : T (numbered (cond (hasUfr file) (ufrChecks file) []))
+  pub ufr-numbered : numbered (cond (hasUfr file) (ufrChecks file) []) ≡ true
   unfolding ufrChecks
-  ufr-numbered = numbered-if (hasUfr file) (ufrChecks file) tt
+  ufr-numbered = numbered-if (hasUfr file) (ufrChecks file) refl
 
-  days-numbered : T (numbered (daysChecks file))
+  days-numbered : numbered (daysChecks file) ≡ true
   unfolding daysChecks
-  days-numbered = tt
+  days-numbered = refl
 
-  flows-numbered : (at most : ℕ) → T (numbered (flowsChecks file at most))
+  flows-numbered : (at most : ℕ) → numbered (flowsChecks file at most) ≡ true
   unfolding flowsChecks
-  flows-numbered at most = tt
+  flows-numbered at most = refl
 
-  pub pension-numbered : T (numbered (flowsChecks file (pensionAt file) 120))
+  pub pension-numbered : numbered (flowsChecks file (pensionAt file) 120) ≡ true
   pension-numbered = flows-numbered (pensionAt file) 120
 
-  pub bonds-numbered : T (numbered (cond (hasBonds file) (flowsChecks file (bondsAt file) 60) []))
+  pub bonds-numbered : numbered (cond (hasBonds file) (flowsChecks file (bondsAt file) 60) []) ≡ true
   bonds-numbered = numbered-if (hasBonds file) (flowsChecks file (bondsAt file) 60) (flows-numbered (bondsAt file) 60)
 
-  amounts-numbered : T (numbered (cond (hasAmounts file) (amountsChecks file (amountsAt file)) []))
+  amounts-numbered : numbered (cond (hasAmounts file) (amountsChecks file (amountsAt file)) []) ≡ true
   unfolding amountsChecks
-  amounts-numbered = numbered-if (hasAmounts file) (amountsChecks file (amountsAt file)) tt
+  amounts-numbered = numbered-if (hasAmounts file) (amountsChecks file (amountsAt file)) refl
 
-  pub shocks-numbered : T (numbered (shocksChecks file (shocksAt file)))
+  pub shocks-numbered : numbered (shocksChecks file (shocksAt file)) ≡ true
   unfolding shocksChecks
-  shocks-numbered = tt
+  shocks-numbered = refl
 
-  pub people-numbered : T (numbered (peopleChecks file (peopleAt file)))
+  pub people-numbered : numbered (peopleChecks file (peopleAt file)) ≡ true
   unfolding peopleChecks
-  people-numbered = tt
+  people-numbered = refl
 
-  pub to-days-numbered : T (numbered (mapToDays file))
+  pub to-days-numbered : numbered (mapToDays file) ≡ true
   unfolding mapToDays
   to-days-numbered =
       numbered-append (mapChecks file ++ cond (hasUfr file) (ufrChecks file) []) (daysChecks file)
       (numbered-append (mapChecks file) (cond (hasUfr file) (ufrChecks file) []) map-numbered ufr-numbered) days-numbered
 
-  pub to-amounts-numbered : T (numbered (pensionToAmounts file))
+  pub to-amounts-numbered : numbered (pensionToAmounts file) ≡ true
   unfolding pensionToAmounts
   to-amounts-numbered =
       let pension = flowsChecks file (pensionAt file) 120 in

@@ -10,8 +10,9 @@ use Rattle.model.specs.Numbers.{entry, table}
 use Rattle.model.specs.Case.{noAmounts, s}
 use Rattle.model.specs.Curve.{base, movedSum, curve, natural, P}
 use Rattle.model.specs.Held.{padded, held}
-use Rattle.model.specs.Reading.{daysAt, dayCount, pensionAt, pensionCount, bondsAt, bondCount, rateEntry, daysOf, amountsOf, shocksOf, caseOf}
+use Rattle.model.specs.Reading.{daysAt, dayCount, pensionAt, pensionCount, bondsAt, bondCount, daysOf, amountsOf, shocksOf, caseOf}
 use Rattle.theory.proofs.Lists.{length-table}
+use Rattle.theory.proofs.Accepted.{days-length}
 use Rattle.numbers.specs.Rates.{daysFrom, sumWith}
 use Rattle.casefile.specs.Fields.{amountsFrom, shocksFrom}
 
@@ -31,8 +32,8 @@ shocks-are file at = refl
 
 module _ (file : List ℕ) where
   pub days-counted : dayCount file ≡ length (caseOf file .days)
-  unfolding caseOf daysOf
-  days-counted = sym (length-table (λ d. table (λ t. rateEntry file (60 * d + t)) 60) (dayCount file))
+  unfolding caseOf
+  days-counted = sym (days-length file)
 
   pub pension-counted : pensionCount file ≡ length (caseOf file .pension)
   unfolding caseOf

@@ -1,18 +1,18 @@
 -- The results of the tests of a zero rate: that they fit 64 bits, one year more, and how far apart the two ends are. Assumes nothing.
-use Prim.Native.Nat.{ℕ, zero, suc, _+_, _*_, _/_, _≤_, _<_}
-use mathlib.Core.Path.{_≡_, sym}
-use mathlib.Core.Bool.{Bool, true, false}
+use Prim.Native.Nat.{ℕ, _+_, _*_, _≤_, _<_}
+use mathlib.Core.Path.{_≡_, refl, sym}
+use mathlib.Core.Bool.{true, false}
 use native.Mathlib.Omega.{arith}
 use native.Mathlib.Numerals.{add-one}
-use native.Mathlib.Nat.{mul-le-mul-left}
 use borrow.Author.Tests.{le-leb, lt-leb}
-use lib.Dec.{T, leb, leb→le}
+use lib.Dec.{leb}
 use Rattle.arith.specs.Range.{Small}
 use Rattle.arith.specs.Rounding.{End, low, high, divide}
-use Rattle.arith.proofs.Rounding.{divide-floor, divide-le}
-use Rattle.model.specs.Rounded.{scaled, tested}
-use Rattle.theory.proofs.Conditions.{below, at}
-use Rattle.theory.proofs.Search.{scaled-ends, tested-small}
+use Rattle.model.specs.Numbers.{every}
+use Rattle.model.specs.Rounded.{tested}
+use Rattle.theory.proofs.Lists.{every-le}
+use Rattle.theory.proofs.Steps.{scaled-ends}
+use Rattle.theory.proofs.RateTests.{tested-small, testWidth, tested-width}
 use Rattle.curve.specs.Ranges.{StepWithin}
 use Rattle.curve.proofs.Years.{scaled-suc}
 
@@ -25,27 +25,10 @@ test-more e x r k i q l = rw (add-one k, scaled-suc e 100000 (98000 + i) k, ← 
 pub test-all : (e : End) (x k t i : ℕ) → x ≡ tested e k i → k ≤ t → t ≤ k → x ≡ tested e t i
 test-all e x k t i q h l = let p : k ≡ t = omega arith in rw p at q
 
--- ---- the two ends: what lies between them grows by at most 100,000 / 98,000 a year, and each rounding adds less than one
-unfoldable gap : ℕ → ℕ
-gap zero = 0
-gap (suc t) = gap t * 100000 / 98000 + 2
-
-abbrev narrow : ℕ → Bool
-narrow t = leb (gap t) 1000
-
-all-narrow : T (below narrow 121)
-unfolding below gap
-all-narrow = tt
-
-gap-more : (x y w b : ℕ) → 98000 ≤ b → y ≤ x + w → divide high (y * 100000) b ≤ divide low (x * 100000) b + (w * 100000 / 98000 + 2)
-gap-more x y w b h k =
-    divide-le high (y * 100000) b (divide low (x * 100000) b + (w * 100000 / 98000 + 2)) (omega arith)
-    (omega (arith, divide-floor (x * 100000) b (omega arith), mul-le-mul-left (w * 100000 / 98000 + 1) h))
-
-within-gap : (t i : ℕ) → tested high t i ≤ tested low t i + gap t
-unfolding scaled gap
-within-gap zero i = omega arith
-within-gap (suc t) i = gap-more (tested low t i) (tested high t i) (gap t) (98000 + i) (omega arith) (within-gap t i)
+-- the two ends are at most 1,000 apart: computed of each term
+near : (t : ℕ) → t < 121 → testWidth t ≤ 1000
+unfolding every testWidth divide
+near t = every-le testWidth (λ _. 1000) 121 t refl
 
 -- what the lower result x says of the upper one
 module _ (t i x factor : ℕ) where
@@ -53,6 +36,4 @@ module _ (t i x factor : ℕ) where
   above-fails e h = sym (lt-leb (tested high t i) factor (omega (arith, scaled-ends 100000 (98000 + i) t (omega arith))))
 
   pub near-passes : t ≤ 120 → x ≡ tested low t i → x + 1000 ≤ factor → true ≡ leb (tested high t i) factor
-  near-passes l e h =
-      let gap-small = leb→le (gap t) 1000 (at narrow 121 all-narrow t (omega arith)) in
-      sym (le-leb (tested high t i) factor (omega (arith, within-gap t i, gap-small)))
+  near-passes l e h = sym (le-leb (tested high t i) factor (omega (arith, tested-width t i, near t (omega arith))))

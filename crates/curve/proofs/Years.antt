@@ -10,7 +10,7 @@ use Rattle.model.specs.Constants.{unit}
 use Rattle.model.specs.Rounded.{scaled}
 use Rattle.model.specs.Brackets.{bracket, endOf}
 use Rattle.model.specs.declared.figures.Bracket.{Bracket}
-use Rattle.theory.proofs.Search.{scaled-ends}
+use Rattle.theory.proofs.Steps.{scaled-ends}
 use Rattle.curve.specs.Ranges.{TimesWithin, ScaledWithin, GrowthWithin}
 use Rattle.theory.proofs.ByEnds.{by-ends, end-is}
 

@@ -1,21 +1,16 @@
 -- What one more turn of a loop adds: a test, an entry of a table.
-use mathlib.Core.Path.{_≡_, refl, subst, ap, _∙_}
+use mathlib.Core.Path.{_≡_, refl, subst}
 use mathlib.Core.List.{List}
 use mathlib.Core.Bool.{Bool, true, false, _&&_}
 use mathlib.Core.Logic.{⊎-elim}
 use Prim.Native.Nat.{ℕ, zero, suc, _+_, _*_, _<_, _≤_}
-use native.Mathlib.Nat.{add-zero, zero-add, mul-le-mul, not-suc-le-zero, le-of-suc-le-suc, eq-or-lt-of-le}
+use native.Mathlib.Nat.{mul-le-mul, not-suc-le-zero, le-of-suc-le-suc, eq-or-lt-of-le}
 use native.Mathlib.Numerals.{add-one}
 use native.Mathlib.Omega.{arith}
 use lib.ListN.{getD, length, set, take, List·getD-eq-default}
 use lib.Seq.{take-suc-set}
-use Rattle.model.specs.Numbers.{number, every, table}
+use Rattle.model.specs.Numbers.{every, table}
 use Rattle.theory.proofs.Lists.{length-table}
-
--- a number of one byte is that byte
-pub one-byte : (file : List ℕ) (at : ℕ) → number file at 1 ≡ getD file at 0
-unfolding number
-one-byte file at = ap (λ (k : ℕ). 0 * 256 + getD file k 0) (add-zero at) ∙ zero-add (getD file at 0)
 
 -- a position in a run of numbers: up to eight bytes each, up to 5,000 of them
 pub run-most : (w i : ℕ) → w ≤ 8 → i ≤ 5000 → w * i ≤ 40000

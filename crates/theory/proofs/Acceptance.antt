@@ -1,4 +1,6 @@
--- A file is accepted exactly when it keeps the layout and limits, and the case that is read is the case that it holds.
+-- A file is accepted exactly when it keeps the layout and limits, and the case that is read is the case that it holds. Where it is
+-- accepted, its checks hold; so the case read is within the limits (Accepted), and its bytes are the file (Written). Where it is the
+-- bytes of a case within the limits, that case is what is read (Read), and each check tests a limit that the case keeps.
 use mathlib.Core.Path.{_≡_, refl, sym, _∙_}
 use mathlib.Core.List.{List}
 use Prim.Native.Nat.{ℕ}
@@ -33,6 +35,6 @@ keeps-accepted file x = (
   case-read file (x .present) (x .held) (x .within) (x .agrees) (x .bytes),
 )
 
--- so a file holds one case
-pub present-once : (file : List ℕ) (x y : Keeps file) → x .held ≡ y .held
-present-once file x y = sym (keeps-accepted file x .1) ∙ keeps-accepted file y .1
+-- so no file holds two cases
+pub one-case : (file : List ℕ) (x y : Keeps file) → x .held ≡ y .held
+one-case file x y = sym (keeps-accepted file x .1) ∙ keeps-accepted file y .1

@@ -1,4 +1,4 @@
--- The case of an accepted file is within the limits.
+-- The case of an accepted file is within the limits: each limit is tested by one of the checks, of the same number that the case holds.
 use mathlib.Core.Path.{_≡_, refl}
 use mathlib.Core.Bool.{Bool, true, false, cond}
 use mathlib.Core.List.{List, []}
@@ -35,6 +35,11 @@ use Rattle.theory.proofs.Lists.{and-first, and-second, every-at, length
 use Rattle.theory.proofs.Tests.{flows-true, day-true, forward-true}
 use Rattle.theory.proofs.Checks.{Passed, accepted-passed}
 
+-- a file has as many days as its count says, accepted or not
+pub days-length : (file : List ℕ) → length (daysOf file) ≡ dayCount file
+unfolding daysOf
+days-length file = length-table (λ d. table (λ t. rateEntry file (60 * d + t)) 60) (dayCount file)
+
 module _ (file : List ℕ) (p : Passed file) where
   ufr-within : cond (hasUfr file) (number file 2 2) defaultUfr ≤ 5000
   unfolding ufrChecks
@@ -43,10 +48,6 @@ module _ (file : List ℕ) (p : Passed file) where
       go : (b : Bool) → hasUfr file ≡ b → cond b (number file 2 2) defaultUfr ≤ 5000
       go true e = leb-true (number file 2 2) 5000 (p .ufr e .1 .0)
       go false e = lit≤ tt
-
-  days-length : length (daysOf file) ≡ dayCount file
-  unfolding daysOf
-  days-length = length-table (λ d. table (λ t. rateEntry file (60 * d + t)) 60) (dayCount file)
 
   day-within : (d : ℕ) → d < dayCount file → DayWithin (getD (daysOf file) d [])
   unfolding daysOf daysChecks
@@ -59,10 +60,10 @@ module _ (file : List ℕ) (p : Passed file) where
   days-within =
       let n = dayCount file in
       record {
-        some = rw days-length (leb-true 1 n (and-first (leb 1 n) (leb n 70) (p .days .1 .0)));
-        most = rw days-length (leb-true n 70 (and-second (leb 1 n) (leb n 70) (p .days .1 .0)));
-        each = λ d l. day-within d (rw days-length at l);
-        forwards = rw days-length (forward-true (daysOf file) n (p .end .1 .0));
+        some = rw (days-length file) (leb-true 1 n (and-first (leb 1 n) (leb n 70) (p .days .1 .0)));
+        most = rw (days-length file) (leb-true n 70 (and-second (leb 1 n) (leb n 70) (p .days .1 .0)));
+        each = λ d l. day-within d (rw (days-length file) at l);
+        forwards = rw (days-length file) (forward-true (daysOf file) n (p .end .1 .0));
       }
 
   amounts-within : AmountsWithin (cond (hasAmounts file) (amountsOf file (amountsAt file)) noAmounts)

@@ -1,4 +1,5 @@
--- The map of a file whose bits are right is that of the optional fields that it shows, and the map of such fields shows them.
+-- The map of a file whose bits are right is that of the optional fields that it shows, and the map of such fields shows them. Where bits
+-- 7 to 15 do not stand, a map is one of 128, and there are eight choices of optional fields: both are computed, one by one.
 use mathlib.Core.Path.{_≡_, refl, ap, sym, _∙_}
 use mathlib.Core.Bool.{Bool, true, false, _&&_, not, cond}
 use Prim.Native.Nat.{ℕ, zero, suc, _+_, _*_, _/_, _%_, _^_, _<_}
@@ -17,7 +18,7 @@ abbrev pub shown : ℕ → Present
 shown map = record { ufr = stands 0 map; bonds = stands 3 map; amounts = stands 4 map }
 
 -- where the n bits from bit i on do not stand and no bit behind them does, no bit from i on does
-none-from : (m i n : ℕ) → every (λ j. not (stands (i + j) m)) n ≡ true → m / 2 ^ (i + n) ≡ 0 → m / 2 ^ i ≡ 0
+pub none-from : (m i n : ℕ) → every (λ j. not (stands (i + j) m)) n ≡ true → m / 2 ^ (i + n) ≡ 0 → m / 2 ^ i ≡ 0
 unfolding every
 none-from m i zero h z = ap (λ k. m / 2 ^ k) (sym (add-zero i)) ∙ z
 none-from m i (suc n) h z =

@@ -1,5 +1,6 @@
 -- The three curves of a case within the limits: rates as integers come down to P(t) as a natural number here, once, and refusals 5 and 6
--- to bounds on P(t) relative to N.
+-- to bounds on P(t) relative to N. Each rate is at least -1,000 steps, so with 100,000 added to each the sums are natural; a shift is at
+-- most 1,000 steps, so it moves every bound by 0.01 × N at most.
 -- Assumes nothing.
 use Prim.Native.Nat.{ℕ, zero, suc, _+_, _*_, _-_, _≤_, _<_}
 use mathlib.Core.Path.{_≡_, refl, ap, sym, subst}

@@ -1,10 +1,12 @@
--- No check of a file fails exactly when each of its checks holds, field by field.
+-- No check of a file fails exactly when each of its checks holds, field by field: the refusal is the number of the first check that
+-- fails, and no check has the number 0.
 use mathlib.Core.Path.{_≡_, refl, sym, _∙_, subst}
 use mathlib.Core.Bool.{Bool, true, false, _&&_, cond}
 use mathlib.Core.List.{List, [], _∷_, _++_, append-assoc}
 use Prim.Native.Nat.{ℕ, _<_}
 use native.Mathlib.Omega.{arith}
-use lib.Dec.{T, ltb, lit<}
+use borrow.Author.Tests.{ltb-true}
+use lib.Dec.{T, ltb}
 use Rattle.model.specs.Reading.{
   hasUfr,
   pensionAt,
@@ -29,6 +31,7 @@ use Rattle.model.specs.Refusals.{
   checks,
   refusal,
 }
+use Rattle.theory.proofs.Lists.{and-first, and-second}
 
 -- each check of a list holds
 abbrev pub Hold : List Check → Type 0
@@ -36,29 +39,24 @@ Hold [] = Unit {0}
 Hold (c ∷ cs) = (c .0 ≡ true) × Hold cs
 
 -- no check of a list has the number 0
-abbrev numbered : List Check → Bool
+abbrev pub numbered : List Check → Bool
 numbered [] = true
 numbered (c ∷ cs) = ltb 0 (c .1) && numbered cs
 
-split : (a b : Bool) → T (a && b) → T a × T b
-split true b t = (tt, t)
-split false b t = absurd t
-
-one : (b : Bool) (r rest : ℕ) → T (ltb 0 r) → cond b rest r ≡ 0 → (b ≡ true) × (rest ≡ 0)
+one : (b : Bool) (r rest : ℕ) → ltb 0 r ≡ true → cond b rest r ≡ 0 → (b ≡ true) × (rest ≡ 0)
 one true r rest t h = (refl, h)
-one false r rest t h = absurd (bad (lit< t) h)
+one false r rest t h = absurd (bad (ltb-true 0 r t) h)
   where
     bad : 0 < r → r ≡ 0 → ⊥
     bad l e = omega arith
 
 -- where none of the checks fails, those in front hold and none of those behind fails; and conversely
-none-hold : (cs ds : List Check) → T (numbered cs) → firstOf (cs ++ ds) ≡ 0 → Hold cs × (firstOf ds ≡ 0)
+none-hold : (cs ds : List Check) → numbered cs ≡ true → firstOf (cs ++ ds) ≡ 0 → Hold cs × (firstOf ds ≡ 0)
 unfolding firstOf
 none-hold [] ds t h = (tt, h)
 none-hold (c ∷ cs) ds t h =
-    let p = split (ltb 0 (c .1)) (numbered cs) t in
-    let q = one (c .0) (c .1) (firstOf (cs ++ ds)) (p .0) h in
-    let r = none-hold cs ds (p .1) (q .1) in
+    let q = one (c .0) (c .1) (firstOf (cs ++ ds)) (and-first (ltb 0 (c .1)) (numbered cs) t) h in
+    let r = none-hold cs ds (and-second (ltb 0 (c .1)) (numbered cs) t) (q .1) in
     ((q .0, r .0), r .1)
 
 hold-none : (cs ds : List Check) → Hold cs → firstOf ds ≡ 0 → firstOf (cs ++ ds) ≡ 0
@@ -67,7 +65,7 @@ hold-none [] ds h k = k
 hold-none (c ∷ cs) ds h k = rw (h .0) (hold-none cs ds (h .1) k)
 
 -- the same of checks that are made only where a field is there
-none-hold-if : (b : Bool) (cs ds : List Check) → T (numbered cs) → firstOf (cond b cs [] ++ ds) ≡ 0
+none-hold-if : (b : Bool) (cs ds : List Check) → numbered cs ≡ true → firstOf (cond b cs [] ++ ds) ≡ 0
     → (b ≡ true → Hold cs) × (firstOf ds ≡ 0)
 none-hold-if true cs ds t h = let r = none-hold cs ds t h in (λ e. r .0, r .1)
 none-hold-if false cs ds t h = (λ e. absurd (subst T (sym e) tt), h)
@@ -117,15 +115,15 @@ in-order file = simp append-assoc
 pub accepted-passed : (file : List ℕ) → refusal file ≡ 0 → Passed file
 unfolding mapChecks ufrChecks daysChecks flowsChecks amountsChecks shocksChecks peopleChecks endChecks
 accepted-passed file h =
-    let m = none-hold (mapChecks file) (fromUfr file) tt (sym (in-order file) ∙ h) in
-    let u = none-hold-if (hasUfr file) (ufrChecks file) (fromDays file) tt (m .1) in
-    let d = none-hold (daysChecks file) (fromPension file) tt (u .1) in
-    let p = none-hold (flowsChecks file (pensionAt file) 120) (fromBonds file) tt (d .1) in
-    let b = none-hold-if (hasBonds file) (flowsChecks file (bondsAt file) 60) (fromAmounts file) tt (p .1) in
-    let a = none-hold-if (hasAmounts file) (amountsChecks file (amountsAt file)) (fromShocks file) tt (b .1) in
-    let x = none-hold (shocksChecks file (shocksAt file)) (fromPeople file) tt (a .1) in
-    let q = none-hold (peopleChecks file (peopleAt file)) (endChecks file) tt (x .1) in
-    let z = none-hold (endChecks file) [] tt (q .1) in
+    let m = none-hold (mapChecks file) (fromUfr file) refl (sym (in-order file) ∙ h) in
+    let u = none-hold-if (hasUfr file) (ufrChecks file) (fromDays file) refl (m .1) in
+    let d = none-hold (daysChecks file) (fromPension file) refl (u .1) in
+    let p = none-hold (flowsChecks file (pensionAt file) 120) (fromBonds file) refl (d .1) in
+    let b = none-hold-if (hasBonds file) (flowsChecks file (bondsAt file) 60) (fromAmounts file) refl (p .1) in
+    let a = none-hold-if (hasAmounts file) (amountsChecks file (amountsAt file)) (fromShocks file) refl (b .1) in
+    let x = none-hold (shocksChecks file (shocksAt file)) (fromPeople file) refl (a .1) in
+    let q = none-hold (peopleChecks file (peopleAt file)) (endChecks file) refl (x .1) in
+    let z = none-hold (endChecks file) [] refl (q .1) in
     record {
       map = m .0;
       ufr = u .0;

@@ -1,10 +1,13 @@
--- Demand 3, whole: of every case within the limits, and of whatever is given that is the rounded working's.
+-- Demand 3, whole: of every case within the limits, and of whatever is given that is the rounded working's. Each field is a theorem of
+-- another file: what lies in a bracket is from Factor, ZeroRate and Money, the widths from Width, ZeroRate and MoneyWidth, the verdict
+-- from Verdicts.
 -- Assumes nothing.
 use Prim.Native.Nat.{ℕ, _*_, _≤_, _<_}
-use mathlib.Core.Path.{_≡_}
+use mathlib.Core.Path.{_≡_, refl}
 use native.Mathlib.Omega.{arith}
-use lib.IntN.{ℤ, pos, _+ℤ_}
+use lib.IntN.{pos, _+ℤ_}
 use Rattle.arith.specs.Rounding.{End, low, high}
+use Rattle.arith.proofs.Ends.{from}
 use Rattle.model.specs.Constants.{unit, lastTerm}
 use Rattle.model.specs.Fraction.{Fraction, _*ᶠ_, whole}
 use Rattle.model.specs.Case.{FileCase}
@@ -14,11 +17,11 @@ use Rattle.model.specs.Exact as Exact
 use Rattle.model.specs.Rounded as Rounded
 use Rattle.model.specs.Brackets.{bracket, endOf}
 use Rattle.model.specs.Demand3.{Bounds, In, SquareIn, Given, Demand3}
-use Rattle.theory.proofs.Bracket.{Bounded}
 use Rattle.model.specs.CurveWithin.{CurveWithin}
+use Rattle.theory.proofs.Bracket.{Bounded}
 use Rattle.theory.proofs.Differences.{not-cut}
 use Rattle.theory.proofs.CaseCurves.{curve-within, base-within}
-use Rattle.theory.proofs.Factor.{factor-in, product-pos}
+use Rattle.theory.proofs.Factor.{factor-in, factor-den, product-pos}
 use Rattle.theory.proofs.Width.{factor-width}
 use Rattle.theory.proofs.ZeroRate.{rate-found, rate-in, rate-width}
 use Rattle.theory.proofs.Money.{L-in, B-in, A-in, S1-in, S2-in, S3-in, S4-in, S5-in, S6-in, S-in, L-den, B-den, A-den, S1-den, S6-den, S-den}
@@ -27,26 +30,23 @@ use Rattle.theory.proofs.Verdicts.{verdict-right, verdict-margin}
 
 -- a number that counts a figure in whole cents bounds it
 bounds : {e : End} {n : ℕ} {x : Fraction} → 0 < x .den → Bounded e 1 n x → Bounds e n x
-bounds {e = low} r h = record { real = r; order = omega (arith, h .is) }
-bounds {e = high} r h = record { real = r; order = omega (arith, h .is) }
+bounds {e = low} r h = record { real = r; order = omega (arith, h .is .le) }
+bounds {e = high} r h = record { real = r; order = omega (arith, h .is .le) }
 
 -- and one that counts it in units bounds the figure in units
 in-units : {e : End} {n : ℕ} {x : Fraction} → 0 < x .den → Bounded e unit n x → Bounds e n (whole unit *ᶠ x)
-in-units {e = low} r h = record { real = omega (arith, r); order = omega (arith, h .is) }
-in-units {e = high} r h = record { real = omega (arith, r); order = omega (arith, h .is) }
-
-factor-den : (c : Curve) → CurveWithin c → (t : ℕ) → 0 < Exact.factor c t .den
-unfolding Exact.factor
-factor-den c f t = omega (arith, product-pos c f t .0)
+in-units r h = bounds (omega (arith, r)) record { is = from (h .is) (omega arith) }
 
 -- both ends of a bracket bound its figure, or the figure's square
+end-is : (figure : End → ℕ) (e : End) → endOf (bracket figure) e ≡ figure e
+end-is figure low = refl
+end-is figure high = refl
+
 figure-in : (figure : End → ℕ) (x : Fraction) → 0 < x .den → ((e : End) → Bounded e 1 (figure e) x) → In (endOf (bracket figure)) x
-figure-in figure x r h low = bounds r (h low)
-figure-in figure x r h high = bounds r (h high)
+figure-in figure x r h e = rw (end-is figure e) (bounds r (h e))
 
 square-in : (figure : End → ℕ) (x² : Fraction) → 0 < x² .den → ((e : End) → Bounded e 1 (figure e * figure e) x²) → SquareIn (endOf (bracket figure)) x²
-square-in figure x² r h low = bounds r (h low)
-square-in figure x² r h high = bounds r (h high)
+square-in figure x² r h e = rw (end-is figure e) (bounds r (h e))
 
 P-uncut : (c : Curve) → CurveWithin c → (t : ℕ) → t ≤ 60 → pos (P c t) ≡ pos (c .N) +ℤ c .sum t
 unfolding P

@@ -20,10 +20,6 @@ pub again : (z : ℤ) (a b c d : ℕ) → Diff z a b → a + d ≡ c + b → Dif
 again (pos n) a b c d h e = omega arith
 again (negsuc n) a b c d h e = omega arith
 
-pub diff-unique : (z : ℤ) (a b c d : ℕ) → Diff z a b → Diff z c d → a + d ≡ c + b
-diff-unique (pos n) a b c d h k = omega arith
-diff-unique (negsuc n) a b c d h k = omega arith
-
 diff-sub : (a b : ℕ) → Diff (subℕ a b) a b
 diff-sub a b = go (ltb a b) (λ t. ltb→lt a b t) (λ t. nltb→le a b t)
   where

@@ -1,5 +1,5 @@
--- Numbers as bytes, and bytes as numbers: what is read from a file is written back as the same bytes, and what was written is read.
--- A place in a file is known by what stands from there on, `drop at file`.
+-- Numbers as bytes, and bytes as numbers: what is read from a file is written back as the same bytes, and what was written is read. A
+-- place in a file is known by what stands from there on, `drop at file`.
 use mathlib.Core.Path.{_≡_, refl, ap, ap₂, sym, _∙_}
 use mathlib.Core.Bool.{Bool, true, false, cond}
 use mathlib.Core.List.{List, [], _∷_, _++_, map, append-assoc, append-nil}
@@ -73,7 +73,8 @@ unsigned-small (negsuc n) h = omega arith
 abbrev pub dayFrom : List ℕ → ℕ → ℕ → List ℤ
 dayFrom file at d = table (λ t. twosComplement 2 (entry file at 2 (60 * d + t))) 60
 
-number-one : (file : List ℕ) (at : ℕ) → number file at 1 ≡ getD file at 0
+-- a number of one byte is that byte
+pub number-one : (file : List ℕ) (at : ℕ) → number file at 1 ≡ getD file at 0
 unfolding number
 number-one file at = rw (add-zero at) (omega arith)
 

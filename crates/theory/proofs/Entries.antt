@@ -25,28 +25,35 @@ module _ {A : Type 0} (f : End → ℕ → A) where
       ap (λ (k : ℕ). getD (byTerm f n ++ (f low (suc n) ∷ f high (suc n) ∷ [])) (k + i) d) (sym e)
       ∙ getD-append-add (byTerm f n) (f low (suc n) ∷ f high (suc n) ∷ []) i d
 
-  -- the entries of term t + 1
-  pub lower-entry : (n t : ℕ) (d : A) → t < n → getD (byTerm f n) (2 * t) d ≡ f low (suc t)
+  -- the entries of term t + 1, lower and then upper
+  offset : End → ℕ
+  offset low = 0
+  offset high = 1
+
+  at-end : (e : End) (n : ℕ) (d : A) → (offset e < 2) × (getD (f low n ∷ f high n ∷ []) (offset e) d ≡ f e n)
+  unfolding offset
+  at-end low n d = (omega arith, refl)
+  at-end high n d = (omega arith, refl)
+
+  entry-at : (e : End) (n t : ℕ) (d : A) → t < n → getD (byTerm f n) (2 * t + offset e) d ≡ f e (suc t)
   unfolding byTerm
-  lower-entry zero t d h = absurd (not-suc-le-zero h)
-  lower-entry (suc n) t d h = go (eq-or-lt-of-le (le-of-suc-le-suc h)) (lower-entry n t d)
+  entry-at e zero t d h = absurd (not-suc-le-zero h)
+  entry-at e (suc n) t d h = go (eq-or-lt-of-le (le-of-suc-le-suc h)) (entry-at e n t d)
     where
-      go : (t ≡ n) ⊎ (t < n) → (t < n → getD (byTerm f n) (2 * t) d ≡ f low (suc t))
-          → getD (byTerm f n ++ (f low (suc n) ∷ f high (suc n) ∷ [])) (2 * t) d ≡ f low (suc t)
-      go (inl e) ih = let z : 2 * n ≡ 2 * n + 0 = omega arith in rw (e, z) (at-last n 0 d)
+      go : (t ≡ n) ⊎ (t < n) → (t < n → getD (byTerm f n) (2 * t + offset e) d ≡ f e (suc t))
+          → getD (byTerm f n ++ (f low (suc n) ∷ f high (suc n) ∷ [])) (2 * t + offset e) d ≡ f e (suc t)
+      go (inl q) ih = rw q (at-last n (offset e) d ∙ at-end e (suc n) d .1)
       go (inr l) ih =
-          List·getD-append (byTerm f n) (f low (suc n) ∷ f high (suc n) ∷ []) d (2 * t) (let e = length-byTerm n in omega arith) ∙ ih l
+          List·getD-append (byTerm f n) (f low (suc n) ∷ f high (suc n) ∷ []) d (2 * t + offset e)
+          (let q = length-byTerm n in omega (arith, at-end e (suc n) d .0)) ∙ ih l
+
+  pub lower-entry : (n t : ℕ) (d : A) → t < n → getD (byTerm f n) (2 * t) d ≡ f low (suc t)
+  unfolding offset
+  lower-entry n t d h = let q : 2 * t ≡ 2 * t + 0 = omega arith in rw q (entry-at low n t d h)
 
   pub upper-entry : (n t : ℕ) (d : A) → t < n → getD (byTerm f n) (2 * t + 1) d ≡ f high (suc t)
-  unfolding byTerm
-  upper-entry zero t d h = absurd (not-suc-le-zero h)
-  upper-entry (suc n) t d h = go (eq-or-lt-of-le (le-of-suc-le-suc h)) (upper-entry n t d)
-    where
-      go : (t ≡ n) ⊎ (t < n) → (t < n → getD (byTerm f n) (2 * t + 1) d ≡ f high (suc t))
-          → getD (byTerm f n ++ (f low (suc n) ∷ f high (suc n) ∷ [])) (2 * t + 1) d ≡ f high (suc t)
-      go (inl e) ih = rw e (at-last n 1 d)
-      go (inr l) ih =
-          List·getD-append (byTerm f n) (f low (suc n) ∷ f high (suc n) ∷ []) d (2 * t + 1) (let e = length-byTerm n in omega arith) ∙ ih l
+  unfolding offset
+  upper-entry = entry-at high
 
 -- entries that are known by their index, as `entryOr` reads them by their term
 pub by-term : {A : Type 0} (d : A) (entries : List A) (f : End → ℕ → A) (n : ℕ)

@@ -1,6 +1,7 @@
--- The factor of every term lies in its bracket.
+-- The factor of every term lies in its bracket. To 20 the growths 1 to t multiply out to (1 + R(t))^t, so the factor is 1 taken t times
+-- × N ÷ P(t), and each time keeps the bracket. From 21 it is the factor before it, divided by the other end of the growth: a larger
+-- divisor gives a smaller quotient, so that keeps the bracket too.
 -- Assumes nothing.
-use Rattle.arith.proofs.Rounding.{divide-floor}
 use Prim.Native.Nat.{ℕ, zero, suc, _+_, _*_, _-_, _^_, _≤_, _<_}
 use mathlib.Core.Path.{_≡_, _∙_, ap}
 use lib.Dec.{leb, le→leb}
@@ -8,19 +9,21 @@ use lib.Arith.{lt→nleb}
 use native.Mathlib.Omega.{arith}
 use native.Mathlib.Nat.{mul-le-mul-left, pow-zero, mul-pos}
 use native.Mathlib.Decide.{decLe}
+use Rattle.arith.specs.Rounding.{End, low, high, other, divide}
+use Rattle.arith.proofs.Ends.{_≤⟨_⟩_}
 use Rattle.model.specs.Fraction.{_÷ᶠ_, _^ᶠ_, _≈_}
 use Rattle.model.specs.Curve.{Curve, P, weight}
 use Rattle.model.specs.Exact as Exact
 use Rattle.model.specs.Exact.{G, onePlusR, onePlusUfr}
-use Rattle.arith.specs.Rounding.{End, low, high, other, divide}
 use Rattle.model.specs.Constants.{unit}
 use Rattle.model.specs.Rounded as Rounded
 use Rattle.model.specs.Rounded.{scaled, ufrGrowth}
-use Rattle.theory.proofs.Bracket.{Bounded}
 use Rattle.model.specs.CurveWithin.{CurveWithin}
+use Rattle.theory.proofs.Bracket.{Bounded}
 use Rattle.theory.proofs.Conditions.{cond-yes, cond-no}
-use Rattle.theory.proofs.Steps.{same, cross, weigh, ends, above, start, scaled-in}
-use Rattle.theory.proofs.Growth.{growth-in, growth-width, growth-least, G-pos, G-suc, P-pos, pow-pos}
+use Rattle.theory.proofs.Powers.{pow-pos}
+use Rattle.theory.proofs.Steps.{same, cross, weigh, mixed, ends, across, exactly, scaled-in}
+use Rattle.theory.proofs.Growth.{growth-in, growth-width, growth-least, G-pos, G-suc, P-pos}
 
 -- which growth, by the term
 pub growth-to-20 : (c : Curve) (t : ℕ) → t ≤ 20 → Exact.growth c t ≡ G c t
@@ -52,8 +55,7 @@ unfolding Rounded.weighed
 weighed-from-61 c e t h = cond-no (leb t 60) _ _ (lt→nleb t 60 h)
 
 ufr-in : (c : Curve) (e : End) → Bounded e unit (ufrGrowth c) (onePlusUfr c)
-ufr-in c low = omega arith
-ufr-in c high = omega arith
+ufr-in c e = exactly (omega arith)
 
 pub weighed-in : (c : Curve) → CurveWithin c → (e : End) (j : ℕ) → 20 < suc j → Bounded e unit (Rounded.weighed c e (suc j)) (Exact.growth c (suc j))
 unfolding Exact.weighed
@@ -89,6 +91,10 @@ product-pos c f zero = (omega arith, omega arith)
 product-pos c f (suc t) =
     (mul-pos (product-pos c f t .0) (growth-fraction-pos c f t .0), mul-pos (product-pos c f t .1) (growth-fraction-pos c f t .1))
 
+pub factor-den : (c : Curve) → CurveWithin c → (t : ℕ) → 0 < Exact.factor c t .den
+unfolding Exact.factor
+factor-den c f t = omega (arith, product-pos c f t .0)
+
 factor-first : (c : Curve) → CurveWithin c → (e : End) (t : ℕ) → t ≤ 20 → Bounded e unit (scaled e (c .N) (P c t) t) (Exact.factor c t)
 unfolding Exact.factor
 factor-first c f e t h =
@@ -107,25 +113,22 @@ factor-next : (c : Curve) (t : ℕ) → Exact.factor c t ÷ᶠ Exact.growth c (s
 unfolding Exact.factor Exact.product
 factor-next c t = omega arith
 
--- the lower end of a growth, and from 21 on
-growth-low : (c : Curve) → CurveWithin c → (j : ℕ) → suc j ≤ 60 → 96 * 10 ^ 10 ≤ Rounded.growth c low (suc j)
+-- the lower end of a growth, and of a weighed growth from 21 on
+growth-low : (c : Curve) → CurveWithin c → (j : ℕ) → suc j ≤ 60 → 1000 * (96 * 10 ^ 7) ≤⟨ low ⟩ Rounded.growth c low (suc j)
 growth-low c f j h =
     omega (
       arith,
       growth-width c f j h,
-      above (G-pos c f j h .1) (growth-in c f high j h) (growth-least c f j h),
+      across (G-pos c f j h .1) (growth-in c f high j h) (growth-least c f j h) .le,
     )
 
 abbrev pub least : ℕ → ℕ
 least t = (1000 - weight t) * (96 * 10 ^ 7) + weight t * 10 ^ 9
 
-mix-least : (k v g u : ℕ) → 96 * 10 ^ 10 ≤ g → k * (96 * 10 ^ 7) + v * 10 ^ 9 ≤ divide low (k * g + v * (unit + u * 10 ^ 7)) 1000
-mix-least k v g u h = omega (arith, mul-le-mul-left k h, divide-floor (k * g + v * (unit + u * 10 ^ 7)) 1000 (omega arith))
-
 pub weighed-least : (c : Curve) → CurveWithin c → (j : ℕ) → suc j ≤ 60 → least (suc j) ≤ Rounded.weighed c low (suc j)
 weighed-least c f j h =
     rw (weighed-to-60 c low (suc j) h)
-    (mix-least (1000 - weight (suc j)) (weight (suc j)) (Rounded.growth c low (suc j)) (c .ufr) (growth-low c f j h))
+    (mixed {v = ufrGrowth c} (96 * 10 ^ 7) (10 ^ 9) (1000 - weight (suc j)) (weight (suc j)) (growth-low c f j h) (omega arith) .le)
 
 weighed-low-pos : (c : Curve) → CurveWithin c → (j : ℕ) → 0 < Rounded.weighed c low (suc j)
 weighed-low-pos c f j = go (decLe (suc j) 60)
@@ -144,7 +147,7 @@ unfolding Exact.factor
 quotient-pos c f j = mul-pos (mul-pos (omega arith) (product-pos c f j .0)) (growth-fraction-pos c f j .0)
 
 pub factor-in : (c : Curve) → CurveWithin c → (e : End) (t : ℕ) → Bounded e unit (Rounded.factor c e t) (Exact.factor c t)
-factor-in c f e zero = unfold Exact.factor Exact.product Rounded.factor in (start e unit)
+factor-in c f e zero = unfold Exact.factor Exact.product Rounded.factor in (exactly (omega arith))
 factor-in c f e (suc j) = go (decLe (suc j) 20) (factor-in c f e j)
   where
     go : Dec (suc j ≤ 20) → Bounded e unit (Rounded.factor c e j) (Exact.factor c j) → Bounded e unit (Rounded.factor c e (suc j)) (Exact.factor c (suc j))

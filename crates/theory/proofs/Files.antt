@@ -1,4 +1,4 @@
--- What holds of every list of bytes that is accepted.
+-- What holds of every list of bytes that is accepted: its case is within the limits, and demand 3 is proved of every such case.
 -- Assumes nothing.
 use mathlib.Core.Path.{_≡_}
 use mathlib.Core.List.{List}

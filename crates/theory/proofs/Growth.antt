@@ -1,19 +1,21 @@
--- The growth of a term: in its bracket, its width, and its least value.
+-- The growth of term j + 1: in its bracket, which is at most 4 × j + 1 units wide, and at least 0.97. The width of j times × P(j+1) ÷
+-- P(j) is at most 3 × j (`scaled-width`), because the limit of the forward rates keeps the quotient at most 1 + 2 ÷ 3j; the last factor
+-- P(j+1) ÷ N, at most 1.11, makes that at most 4 × j, and its two roundings add at most 1.
 -- Assumes nothing.
-use Prim.Native.Nat.{ℕ, zero, suc, _+_, _*_, _-_, _^_, _≤_, _<_}
+use Prim.Native.Nat.{ℕ, suc, _+_, _*_, _-_, _^_, _≤_, _<_}
 use mathlib.Core.Path.{_≡_}
 use native.Mathlib.Omega.{arith}
-use native.Mathlib.Nat.{mul-le-mul-left, mul-le-mul-right, pow-zero, pow-suc, le-dest, mul-pos, one-le-pow}
-use native.Mathlib.Decide.{decLe}
+use native.Mathlib.Nat.{mul-le-mul-left, mul-le-mul-right, pow-suc, mul-pos}
+use Rattle.arith.specs.Rounding.{End, low, high, divide}
 use Rattle.model.specs.Fraction.{_//_, _*ᶠ_, _÷ᶠ_, _^ᶠ_, _≈_}
 use Rattle.model.specs.Curve.{Curve, P}
 use Rattle.model.specs.Exact.{G, onePlusR}
-use Rattle.arith.specs.Rounding.{End, low, high, divide}
 use Rattle.model.specs.Constants.{unit}
 use Rattle.model.specs.Rounded as Rounded
 use Rattle.model.specs.Rounded.{scaled}
-use Rattle.theory.proofs.Bracket.{Bounded}
 use Rattle.model.specs.CurveWithin.{CurveWithin}
+use Rattle.theory.proofs.Bracket.{Bounded}
+use Rattle.theory.proofs.Powers.{pow-pos, forward}
 use Rattle.theory.proofs.Steps.{step, same, scaled-in, scaled-width, wider}
 
 sub-one : (j : ℕ) → suc j - 1 ≡ j
@@ -31,9 +33,6 @@ growth-suc c e j = rw (sub-one j)
 -- (P ÷ P')^j × P ÷ N is G
 telescope : (p q n j : ℕ) → ((p // q) ^ᶠ j) *ᶠ (p // n) ≈ ((p // n) ^ᶠ suc j) ÷ᶠ ((q // n) ^ᶠ j)
 telescope p q n j = rw (pow-suc p j, pow-suc n j) (omega arith)
-
-pub pow-pos : (a j : ℕ) → 0 < a → 0 < a ^ j
-pow-pos a j h = one-le-pow j a h
 
 pub N-pos : (c : Curve) → CurveWithin c → 0 < c .N
 N-pos c f = omega (arith, f .some)
@@ -60,24 +59,6 @@ growth-width c f j h =
     (wider (scaled low p q j) (scaled high p q j) p (c .N) (3 * j) (4 * j) (N-pos c f)
     (scaled-width p q j hq near j (omega arith))
     (omega (arith, mul-le-mul-left j (f .most (suc j) h))))
-
--- the mean of powers: (n + 1) × a × b^n is at most a^(n+1) + n × b^(n+1)
-square : (a b : ℕ) → 2 * (a * b) ≤ a * a + b * b
-square a b = go (decLe a b)
-  where
-    go : Dec (a ≤ b) → 2 * (a * b) ≤ a * a + b * b
-    go (yes h) = let (d, e) = le-dest h in rw (← e) (omega arith)
-    go (no h) = let k : b ≤ a = omega arith in let (d, e) = le-dest k in rw (← e) (omega arith)
-
-pub mean : (a b n : ℕ) → suc n * (a * b ^ n) ≤ a ^ suc n + n * b ^ suc n
-mean a b zero = rw (pow-suc a 0, pow-suc b 0, pow-zero a, pow-zero b) (omega arith)
-mean a b (suc n) =
-    rw (pow-suc a (suc n), pow-suc b (suc n), pow-suc a n, pow-suc b n)
-    (omega (arith, mul-le-mul-right a (rw (pow-suc a n, pow-suc b n) at (mean a b n)), mul-le-mul-right (suc n * b ^ n) (square a b)))
-
--- a growth is at least the forward rate of linear form, in hundredths of N
-pub forward : (p q r n j : ℕ) → 100 * (j * q) + r * n ≤ 100 * (suc j * p) → r * n * q ^ j ≤ 100 * p ^ suc j
-forward p q r n j h = omega (arith, rw (pow-suc q j) at (mean p q j), mul-le-mul-right (q ^ j) h)
 
 pub growth-least : (c : Curve) → CurveWithin c → (j : ℕ) → suc j ≤ 60 → Bounded low 100 97 (G c (suc j))
 growth-least c f j h =

@@ -2,6 +2,8 @@
 pub mod Conditions
 pub mod Differences
 pub mod Lists
+pub mod Powers
+pub mod Search
 pub mod Checks
 pub mod Tests
 pub mod Accepted
@@ -20,8 +22,9 @@ pub mod Steps
 pub mod Growth
 pub mod Factor
 pub mod Width
+pub mod BaseCurve
+pub mod RateTests
 pub mod ZeroRate
-pub mod Search
 pub mod Sizes
 pub mod Money
 pub mod MoneyWidth

@@ -3,10 +3,11 @@ use mathlib.Core.Path.{_≡_, refl, ap, sym, _∙_, subst}
 use mathlib.Core.Bool.{Bool, true, false, _&&_}
 use mathlib.Core.Logic.{⊎-elim}
 use mathlib.Core.List.{List, [], _∷_, _++_, map}
-use Prim.Native.Nat.{ℕ, zero, suc, _<_}
+use Prim.Native.Nat.{ℕ, zero, suc, _≤_, _<_}
 use native.Mathlib.Nat.{not-suc-le-zero, le-of-suc-le-suc, eq-or-lt-of-le, le-refl}
 use native.Mathlib.Omega.{arith}
-use lib.Dec.{T}
+use borrow.Author.Tests.{leb-true}
+use lib.Dec.{T, leb}
 use lib.ListN.{length, getD, length-append, List·getD-append}
 use lib.Seq.{getD-at}
 use Rattle.model.specs.Numbers.{every, table}
@@ -35,6 +36,10 @@ every-at test (suc n) i h l =
     ⊎-elim (λ e. subst (λ (k : ℕ). test k ≡ true) (sym e) (and-second (every test n) (test n) h))
     (λ k. every-at test n i (and-first (every test n) (test n) h) k)
     (eq-or-lt-of-le (le-of-suc-le-suc l))
+
+-- an order of two numbers of each index below n, where it is computed of all of them
+pub every-le : (f g : ℕ → ℕ) (n i : ℕ) → every (λ j. leb (f j) (g j)) n ≡ true → i < n → f i ≤ g i
+every-le f g n i h l = leb-true (f i) (g i) (every-at (λ j. leb (f j) (g j)) n i h l)
 
 pub every-all : (test : ℕ → Bool) (n : ℕ) → ((i : ℕ) → i < n → test i ≡ true) → every test n ≡ true
 unfolding every

@@ -1,18 +1,19 @@
--- Every money figure lies in its bracket.
+-- Every money figure lies in its bracket, since each is made by steps that keep one (Steps): a difference takes the other end of what it
+-- subtracts, and a maximum is taken of each end. S6 and S are roots of fractions, so their squares are compared.
 -- Assumes nothing.
 use Prim.Native.Nat.{ℕ, suc, _+_, _*_, _^_, _≤_, _<_, max}
 use mathlib.Core.Path.{_≡_}
 use mathlib.Core.List.{List, [], _∷_}
 use lib.ListN.{length}
 use native.Mathlib.Omega.{arith}
-use native.Mathlib.Nat.{mul-le-mul-left, mul-le-mul-right, le-of-mul-le-mul-right, mul-pos, max-eq-left, max-eq-right, le-max-left, le-max-right}
+use native.Mathlib.Nat.{mul-le-mul-left, mul-le-mul-right, le-of-mul-le-mul-right, mul-pos, max-eq-left, max-eq-right, max-comm, le-max-right}
 use native.Mathlib.Decide.{decLe}
 use Rattle.arith.specs.Rounding.{End, low, high, other, divide}
 use Rattle.arith.specs.Root.{root}
 use Rattle.arith.proofs.Rounding.{divide-floor, divide-ceiling}
-use Rattle.arith.proofs.Root.{root-floor, root-ceiling}
+use Rattle.arith.proofs.Ends.{_and_, _times_, from, cancel, divide-end, root-end}
 use Rattle.model.specs.Constants.{unit}
-use Rattle.model.specs.Fraction.{Fraction, _//_, _+ᶠ_, _*ᶠ_, square, whole, larger}
+use Rattle.model.specs.Fraction.{Fraction, _//_, _+ᶠ_, _*ᶠ_, square, whole, larger, _≤ᶠ_}
 use Rattle.model.specs.Case.{FileCase, allExceptCurrency, ageGap}
 use Rattle.model.specs.Limits.{WithinLimits}
 use Rattle.model.specs.Curve.{Curve, Move, base, up, down, curve}
@@ -21,23 +22,22 @@ use Rattle.model.specs.Exact.{loss, S², S6²}
 use Rattle.model.specs.Rounded as Rounded
 use Rattle.model.specs.Rounded.{mortality}
 use Rattle.model.specs.Margins.{weightedSum, W}
-use Rattle.theory.proofs.Bracket.{Bounded}
 use Rattle.model.specs.CurveWithin.{CurveWithin}
+use Rattle.theory.proofs.Bracket.{Bounded}
 use Rattle.theory.proofs.CaseCurves.{curve-within}
 use Rattle.theory.proofs.Conditions.{cond-le, cond-gt}
-use Rattle.theory.proofs.Steps.{same, sum, minus, prod}
+use Rattle.theory.proofs.Steps.{exactly, same, sum, minus, prod}
 use Rattle.theory.proofs.Factor.{factor-in, product-pos}
 use Rattle.theory.proofs.Width.{factor-width}
 
 -- one flow, and the flows
 flow : {e : End} {f : ℕ} {F : Fraction} (x : ℕ) → Bounded e unit f F → Bounded e 1 (divide e (x * f) (10 ^ 10)) (whole (100 * x) *ᶠ F)
-flow {e = low} {f} {F} x h = omega (arith, mul-le-mul-right (F .den) (divide-floor (x * f) (10 ^ 10) (omega arith) .0), mul-le-mul-left x (h .is))
-flow {e = high} {f} {F} x h = omega (arith, mul-le-mul-right (F .den) (divide-ceiling (x * f) (10 ^ 10) (omega arith) .0), mul-le-mul-left x (h .is))
+flow {e} {f} {F} x h =
+    record { is = cancel {c = 10 ^ 10} (omega arith) (from (divide-end e (x * f) (10 ^ 10) (omega arith) times F .den and h .is times x) (omega arith)) }
 
 pub worth-in : (c : Curve) → CurveWithin c → (e : End) (t : ℕ) (xs : List ℕ) → Bounded e 1 (Rounded.worth e (Rounded.factor c e) t xs) (Exact.worth (Exact.factor c) t xs)
 unfolding Exact.worth Rounded.worth
-worth-in c f low t [] = omega arith
-worth-in c f high t [] = omega arith
+worth-in c f e t [] = exactly (omega arith)
 worth-in c f e t (x ∷ xs) = sum (flow x (factor-in c f e t)) (worth-in c f e (suc t) xs)
 
 pub worth-den : (c : Curve) → CurveWithin c → (t : ℕ) (xs : List ℕ) → 0 < Exact.worth (Exact.factor c) t xs .den
@@ -59,7 +59,7 @@ worth-wide c f t (x ∷ xs) =
 pub worth-width : (c : Curve) → CurveWithin c → (xs : List ℕ) → Rounded.worth high (Rounded.factor c high) 1 xs ≤ Rounded.worth low (Rounded.factor c low) 1 xs + W xs
 worth-width c f xs = omega (arith, worth-wide c f 1 xs, divide-ceiling (weightedSum 1 xs) (10 ^ 10) (omega arith))
 
--- maxima: a lower end of x is one of whatever x is at most
+-- maxima: a lower end of x is also a lower end of every y that x is at most
 carry : (u n a b c d : ℕ) → 0 < b → a * d ≤ c * b → n * b ≤ u * a → n * d ≤ u * c
 carry u n a b c d hb k h =
     le-of-mul-le-mul-right {m = n * d} {n = u * c} (omega (arith, mul-le-mul-right d h, mul-le-mul-left u k)) hb
@@ -71,19 +71,18 @@ max-le-times n m d z h l = go (decLe n m)
     go (yes k) = rw (max-eq-right k) l
     go (no k) = rw (max-eq-left {n = n} {m = m} (omega arith)) h
 
+-- needs both ends: the larger of two lower ends is no more than the larger figure, and one of two upper ends is no less
+max-in : (e : End) {u n m : ℕ} {x y : Fraction} → 0 < x .den → x ≤ᶠ y → Bounded e u n x → Bounded e u m y → Bounded e u (max n m) y
+max-in low {u} {n} {m} {x} {y} hx k h l =
+    record { is = record { le = max-le-times n m (y .den) (u * y .num) (carry u n (x .num) (x .den) (y .num) (y .den) hx k (h .is .le)) (l .is .le) } }
+max-in high {u} {n} {m} {x} {y} hx k h l = omega (arith, l .is .le, mul-le-mul-right (y .den) (le-max-right n m))
+
 larger-in : {e : End} {u n m : ℕ} {x y : Fraction} → 0 < x .den → 0 < y .den → Bounded e u n x → Bounded e u m y → Bounded e u (max n m) (larger x y)
-larger-in {e} {u} {n} {m} {x} {y} hx hy h l = go e h l (decLe (x .num * y .den) (y .num * x .den))
+larger-in {e} {u} {n} {m} {x} {y} hx hy h l = go (decLe (x .num * y .den) (y .num * x .den))
   where
-    go : (e : End) → Bounded e u n x → Bounded e u m y → Dec (x .num * y .den ≤ y .num * x .den) → Bounded e u (max n m) (larger x y)
-    go low h l (yes k) =
-        rw (cond-le (x .num * y .den) (y .num * x .den) y x k)
-        record { is = max-le-times n m (y .den) (u * y .num) (carry u n (x .num) (x .den) (y .num) (y .den) hx k (h .is)) (l .is) }
-    go low h l (no k) =
-        rw (cond-gt (x .num * y .den) (y .num * x .den) y x (omega arith))
-        record { is = max-le-times n m (x .den) (u * x .num) (h .is) (carry u m (y .num) (y .den) (x .num) (x .den) hy (omega arith) (l .is)) }
-    go high h l (yes k) = rw (cond-le (x .num * y .den) (y .num * x .den) y x k) (omega (arith, l .is, mul-le-mul-right (y .den) (le-max-right n m)))
-    go high h l (no k) =
-        rw (cond-gt (x .num * y .den) (y .num * x .den) y x (omega arith)) (omega (arith, h .is, mul-le-mul-right (x .den) (le-max-left n m)))
+    go : Dec (x .num * y .den ≤ y .num * x .den) → Bounded e u (max n m) (larger x y)
+    go (yes k) = rw (cond-le (x .num * y .den) (y .num * x .den) y x k) (max-in e {x = x} hx k h l)
+    go (no k) = rw (cond-gt (x .num * y .den) (y .num * x .den) y x (omega arith), max-comm n m) (max-in e {x = y} hy (omega arith) l h)
 
 larger-den : (x y : Fraction) → 0 < x .den → 0 < y .den → 0 < larger x y .den
 larger-den x y hx hy = go (decLe (x .num * y .den) (y .num * x .den))
@@ -92,38 +91,23 @@ larger-den x y hx hy = go (decLe (x .num * y .den) (y .num * x .den))
     go (yes h) = rw (cond-le (x .num * y .den) (y .num * x .den) y x h) hy
     go (no h) = rw (cond-gt (x .num * y .den) (y .num * x .den) y x (omega arith)) hx
 
-zero-in : (e : End) → Bounded e 1 0 (whole 0)
-zero-in low = omega arith
-zero-in high = omega arith
-
 -- one rounding of a fraction; finer units; a root
 once : (e : End) (a b : ℕ) → 0 < b → Bounded e 1 (divide e a b) (a // b)
-once low a b h = omega (arith, divide-floor a b h .0)
-once high a b h = omega (arith, divide-ceiling a b h .0)
+once e a b h = record { is = from (divide-end e a b h) (omega arith) }
 
 thousand : {e : End} {u n : ℕ} {x : Fraction} → Bounded e u n x → Bounded e (1000 * u) (1000 * n) x
-thousand {e = low} h = omega (arith, mul-le-mul-left 1000 (h .is))
-thousand {e = high} h = omega (arith, mul-le-mul-left 1000 (h .is))
+thousand h = record { is = from (h .is times 1000) (omega arith) }
 
 -- the root of n ÷ d, squared, where n counts x in units of 1 over d
 rooted : {e : End} {d n : ℕ} {x : Fraction} → 0 < d → Bounded e d n x → Bounded e 1 (root e n d * root e n d) x
-rooted {e = low} {d} {n} {x} hd h =
-    let r : ℕ = root low n d in
-    let f : r * r * d ≤ n = root-floor n d hd .reaches in
-    record { is = le-of-mul-le-mul-right {m = r * r * x .den} {n = 1 * x .num} {k = d} (omega (arith, h .is, mul-le-mul-right (x .den) f)) hd }
-rooted {e = high} {d} {n} {x} hd h =
-    let r : ℕ = root high n d in
-    let f : n ≤ r * r * d = root-ceiling n d hd .covers in
-    record { is = le-of-mul-le-mul-right {m = 1 * x .num} {n = r * r * x .den} {k = d} (omega (arith, h .is, mul-le-mul-right (x .den) f)) hd }
+rooted {e} {d} {n} {x} hd h = record { is = cancel hd (from (root-end e n d hd times x .den and h .is) (omega arith)) }
 
 twice : {e : End} {u n : ℕ} {x : Fraction} (c : ℕ) → Bounded e u n x → Bounded e (1000 * u) (2 * c * n) (((2 * c) // 1000) *ᶠ x)
-twice {e = low} c h = omega (arith, mul-le-mul-left (2 * c) (h .is))
-twice {e = high} c h = omega (arith, mul-le-mul-left (2 * c) (h .is))
+twice c h = record { is = from (h .is times (2000 * c)) (omega arith) }
 
 -- l² × m counts the square of a figure that l counts, times m over d, in units of 1 over d
 factored : {e : End} {n : ℕ} {x : Fraction} (m d : ℕ) → Bounded e 1 n x → Bounded e d (n * m) (x *ᶠ (m // d))
-factored {e = low} m d h = omega (arith, mul-le-mul-right (m * d) (h .is))
-factored {e = high} m d h = omega (arith, mul-le-mul-right (m * d) (h .is))
+factored m d h = record { is = from (h .is times (m * d)) (omega arith) }
 
 S6-same : (x y h d : ℕ)
     → x * (h * ((320 + 3 * d) * (320 + 3 * d)) + 92160000) * (y * (230400 * h * 10000))
@@ -179,11 +163,7 @@ module _ (k : FileCase) (w : WithinLimits k) where
   B-den m = worth-den (curve k m) (curve-within k w m) 1 (k .bonds)
 
   pub A-in : (e : End) → Bounded e 1 (Rounded.A k e) (Exact.A k)
-  A-in e = sum (B-in base e) (whole-in e)
-    where
-      whole-in : (e : End) → Bounded e 1 (100 * allExceptCurrency (k .amounts)) (whole (100 * allExceptCurrency (k .amounts)))
-      whole-in low = omega arith
-      whole-in high = omega arith
+  A-in e = sum (B-in base e) (exactly {x = whole (100 * allExceptCurrency (k .amounts))} (omega arith))
 
   pub A-den : 0 < Exact.A k .den
   A-den = omega (arith, B-den base)
@@ -199,7 +179,7 @@ module _ (k : FileCase) (w : WithinLimits k) where
 
   pub S1-in : (e : End) → Bounded e 1 (Rounded.S1 k e) (Exact.S1 k)
   S1-in e =
-      larger-in (omega arith) falls-den (zero-in e) (larger-in (fall-den up) (fall-den down) (fall-in up e) (fall-in down e))
+      larger-in {x = whole 0} (omega arith) falls-den (exactly (omega arith)) (larger-in (fall-den up) (fall-den down) (fall-in up e) (fall-in down e))
 
   pub S1-den : 0 < Exact.S1 k .den
   S1-den = larger-den (whole 0) (larger (Exact.fall k up) (Exact.fall k down)) (omega arith) falls-den

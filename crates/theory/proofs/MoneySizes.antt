@@ -1,4 +1,5 @@
--- How large the money figures become: every end lies below 2^53, so that a double holds it.
+-- How large the money figures become: every end lies below 2^53, so that a double holds it. Each limit of a file bounds one number of a
+-- product, no factor passes 2.2, and a root of squares with a correlation of at most 1 is at most the sum of its parts.
 -- Assumes nothing.
 use Prim.Native.Nat.{ℕ, suc, _+_, _*_, _^_, _≤_, _<_, max}
 use mathlib.Core.List.{List, [], _∷_}
@@ -11,19 +12,14 @@ use Rattle.arith.proofs.Root.{root-le}
 use Rattle.model.specs.Case.{FileCase, ageGap}
 use Rattle.model.specs.Limits.{WithinLimits}
 use Rattle.model.specs.Curve.{Curve, Move, base, up, down, curve}
-use Rattle.model.specs.Exact as Exact
 use Rattle.model.specs.Rounded as Rounded
 use Rattle.model.specs.Rounded.{mortality, buffer}
 use Rattle.model.specs.CurveWithin.{CurveWithin}
 use Rattle.theory.proofs.CaseCurves.{curve-within}
 use Rattle.theory.proofs.Steps.{ends}
-use Rattle.theory.proofs.Factor.{factor-in, product-pos}
+use Rattle.theory.proofs.Factor.{factor-in, factor-den}
 use Rattle.theory.proofs.Sizes.{factor-size}
 use Rattle.theory.proofs.MoneyWidth.{share}
-
-factor-den : (c : Curve) → CurveWithin c → (t : ℕ) → 0 < Exact.factor c t .den
-unfolding Exact.factor
-factor-den c f t = omega (arith, product-pos c f t .0)
 
 -- at both ends
 pub factor-most : (c : Curve) → CurveWithin c → (e : End) (t : ℕ) → Rounded.factor c e t ≤ 22 * 10 ^ 11

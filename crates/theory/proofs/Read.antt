@@ -1,4 +1,6 @@
--- From a file that is the bytes of a case within the limits, that case is read, and each check holds.
+-- From a file that is the bytes of a case within the limits, that case is read, and each check holds. From the first field to the last:
+-- a number within its limit fits its bytes, so it is read as it was written, and a field takes as many bytes as the reading assumes, so
+-- the next field is read where it was written.
 use mathlib.Core.Path.{_≡_, refl, ap, sym, _∙_, subst}
 use mathlib.Core.Bool.{Bool, true, false, cond}
 use mathlib.Core.List.{List, [], _++_, append-assoc, append-nil}
@@ -60,7 +62,8 @@ use Rattle.model.specs.Refusals.{
 use Rattle.model.specs.declared.case.Amounts.{Amounts}
 use Rattle.model.specs.declared.case.Shocks.{Shocks}
 use Rattle.model.specs.declared.case.People.{People}
-use Rattle.theory.proofs.Lists.{_also_, length-table, getD-table, table-none}
+use Rattle.theory.proofs.Lists.{_also_, getD-table, table-none}
+use Rattle.theory.proofs.Accepted.{days-length}
 use Rattle.theory.proofs.Checks.{Hold, Passed}
 use Rattle.theory.proofs.Tests.{within-test, flows-test, rates-test, forward-test}
 use Rattle.theory.proofs.Encoding.{
@@ -377,17 +380,13 @@ module _ (file : List ℕ) (p : Present) (k : FileCase) (w : WithinLimits k) (g 
       let l = reached file 2 2 (bytesOf 2 (k .ufr)) (fromDays p k) (length-bytes 2 (k .ufr)) (lit≤ tt) (ufr-there e) in
       le-leb 4 (length file) l also le-leb (number file 2 2) 5000 (rw e at (kept .ufr)) also tt
 
-  days-length : length (caseOf file .days) ≡ dayCount file
-  unfolding caseOf daysOf
-  days-length = length-table (dayFrom file (daysAt file + 1)) (dayCount file)
-
   days-passed : Hold (daysChecks file)
   unfolding daysChecks pensionAt caseOf daysOf
   days-passed =
       let at = daysAt file in
       let n = dayCount file in
-      let some = rw days-length at (kept .days .some) in
-      let most = rw days-length at (kept .days .most) in
+      let some = rw (days-length file) at (kept .days .some) in
+      let most = rw (days-length file) at (kept .days .most) in
       let l = reached file at 1 (bytesOf 1 days) (ratesOf (k .days) ++ fromPension p k) (length-bytes 1 days) (lit≤ tt) at-count in
       let m = reached file (at + 1) (2 * (60 * n)) (ratesOf (k .days)) (fromPension p k) rates-length (omega arith) at-rates in
       le-leb (at + 1) (length file) l
@@ -402,7 +401,7 @@ module _ (file : List ℕ) (p : Present) (k : FileCase) (w : WithinLimits k) (g 
       day : (d : ℕ) → d < dayCount file → DayWithin (dayFrom file (daysAt file + 1) d)
       day d l =
           rw (getD-table (dayFrom file (daysAt file + 1)) (dayCount file) d [] l)
-          at (kept .days .each d (rw days-length l))
+          at (kept .days .each d (rw (days-length file) l))
 
   -- flows that are read, and of which there is one at least
   flows-passed : (at most : ℕ) (flows rest : List ℕ) → FlowsRead file at flows rest → 1 ≤ length flows → length flows ≤ most
@@ -484,7 +483,7 @@ module _ (file : List ℕ) (p : Present) (k : FileCase) (w : WithinLimits k) (g 
   end-passed =
       let e : length file - endAt file ≡ 0 = sym (length-drop (endAt file) file) ∙ ap length (people-are .1) in
       le-leb (length file) (endAt file) (omega arith)
-      also forward-test (daysOf file) (dayCount file) (rw days-length at (kept .days .forwards))
+      also forward-test (daysOf file) (dayCount file) (rw (days-length file) at (kept .days .forwards))
       also tt
 
   pub passed : Passed file

@@ -1,52 +1,56 @@
--- The tests of the zero rate are monotone in the step at both ends, so a search by halving finds the step that the definition names.
+-- What the searches of the definitions find, `largest` and `smallest`: an index that passes, if there is one, and the only one that
+-- passes beside one that does not, if the test is monotone. So a search by halving may take their place.
 -- Assumes nothing.
-use Prim.Native.Nat.{ℕ, zero, suc, _+_, _*_, _^_, _≤_, _<_}
-use mathlib.Core.Path.{_≡_}
-use mathlib.Core.Bool.{Bool}
+use Prim.Native.Nat.{ℕ, zero, suc, _+_, _≤_, _<_}
+use mathlib.Core.Path.{_≡_, refl, sym, _∙_, ap, subst}
+use mathlib.Core.Bool.{Bool, true, false, cond}
 use native.Mathlib.Omega.{arith}
-use native.Mathlib.Nat.{mul-le-mul-left, mul-le-mul-right, le-trans, le-antisymm}
+use native.Mathlib.Nat.{le-antisymm, not-suc-le-zero}
 use native.Mathlib.Decide.{decLe}
-use lib.Dec.{T, leb, leb→le, le→leb}
-use Rattle.arith.specs.Rounding.{End, low, high, divide}
-use Rattle.arith.proofs.Rounding.{divide-floor, divide-ceiling, divide-le, le-divide, divide-mono, divide-ends}
-use Rattle.model.specs.Constants.{stepsPerOne}
-use Rattle.model.specs.Curve.{Curve}
-use Rattle.model.specs.Rounded as Rounded
-use Rattle.model.specs.Rounded.{scaled, tested, lowerTest, upperTest}
+use lib.Dec.{T}
 use Rattle.model.specs.Brackets.{largest, smallest}
-use Rattle.theory.proofs.Conditions.{below, at}
-use Rattle.theory.proofs.ZeroRate.{largest-found, smallest-found}
 
--- a larger divisor gives no larger quotient
-divide-anti : (e : End) (a b c : ℕ) → 0 < b → b ≤ c → divide e a c ≤ divide e a b
-divide-anti low a b c h k =
-    le-divide low a b (divide low a c) h (omega (arith, divide-floor a c (omega arith), mul-le-mul-left (divide low a c) k))
-divide-anti high a b c h k =
-    divide-le high a c (divide high a b) (omega arith) (omega (arith, divide-ceiling a b h, mul-le-mul-left (divide high a b) k))
+-- where index i passes, so does the one found, on the right side of i
+pub largest-found : (f : ℕ → Bool) (n none i : ℕ) → i < n → T (f i) → T (f (largest f n none)) × (largest f n none < n) × (i ≤ largest f n none)
+unfolding largest
+largest-found f zero none i h t = absurd (not-suc-le-zero h)
+largest-found f (suc n) none i h t = go (f n) refl (largest-found f n none i)
+  where
+    go : (b : Bool) → f n ≡ b → (i < n → T (f i) → T (f (largest f n none)) × (largest f n none < n) × (i ≤ largest f n none))
+        → T (f (cond b n (largest f n none))) × (cond b n (largest f n none) < suc n) × (i ≤ cond b n (largest f n none))
+    go true e ih = (subst T (sym e) tt, omega arith, omega arith)
+    go false e ih = later (decLe (suc i) n)
+      where
+        later : Dec (i < n) → T (f (largest f n none)) × (largest f n none < suc n) × (i ≤ largest f n none)
+        later (yes l) = let r = ih l t in (r .0, omega (arith, r .1), r .2)
+        later (no l) = let q : i ≡ n = omega arith in absurd (subst T (ap f q ∙ e) t)
 
-pub scaled-anti : (e : End) (a b c j : ℕ) → 0 < b → b ≤ c → scaled e a c j ≤ scaled e a b j
-unfolding scaled
-scaled-anti e a b c zero h k = omega arith
-scaled-anti e a b c (suc j) h k =
-    le-trans (divide-anti e (scaled e a c j * a) b c h k)
-    (divide-mono e (scaled e a c j * a) (scaled e a b j * a) b h (mul-le-mul-right a (scaled-anti e a b c j h k)))
+pub smallest-found : (f : ℕ → Bool) (i n none m : ℕ) → i ≤ m → m < i + n → T (f m) → T (f (smallest f i n none)) × (smallest f i n none ≤ m)
+unfolding smallest
+smallest-found f i zero none m h l t = absurd (never h l)
+  where
+    never : i ≤ m → m < i + 0 → ⊥
+    never h l = omega arith
+smallest-found f i (suc n) none m h l t = go (f i) refl (smallest-found f (suc i) n none m)
+  where
+    go : (b : Bool) → f i ≡ b
+        → (suc i ≤ m → m < suc i + n → T (f m) → T (f (smallest f (suc i) n none)) × (smallest f (suc i) n none ≤ m))
+        → T (f (cond b i (smallest f (suc i) n none))) × (cond b i (smallest f (suc i) n none) ≤ m)
+    go true e ih = (subst T (sym e) tt, h)
+    go false e ih = later (decLe (suc i) m)
+      where
+        later : Dec (suc i ≤ m) → T (f (smallest f (suc i) n none)) × (smallest f (suc i) n none ≤ m)
+        later (yes k) = ih k (omega arith) t
+        later (no k) = let q : m ≡ i = omega arith in absurd (subst T (ap f q ∙ e) t)
 
--- a larger step gives no larger result
-pub tested-anti : (e : End) (t i j : ℕ) → i ≤ j → tested e t j ≤ tested e t i
-tested-anti e t i j h = scaled-anti e stepsPerOne (98000 + i) (98000 + j) t (omega arith) (omega arith)
+-- so no index on the wrong side of it passes
+pub past-largest : (f : ℕ → Bool) (n none i : ℕ) → largest f n none < i → i < n → T (f i) → ⊥
+past-largest f n none i l h t = let r = largest-found f n none i h t in omega (arith, r .2)
 
--- where a step passes the lower test, so does each below it; where one passes the upper test, so does each above it
-pub lower-falls : (c : Curve) (t i j : ℕ) → i ≤ j → T (lowerTest (Rounded.factor c) t j) → T (lowerTest (Rounded.factor c) t i)
-lower-falls c t i j h p =
-    le→leb (Rounded.factor c high t) (tested low t i)
-    (le-trans (leb→le (Rounded.factor c high t) (tested low t j) p) (tested-anti low t i j h))
+pub before-smallest : (f : ℕ → Bool) (n none i : ℕ) → i < smallest f 0 n none → i < n → T (f i) → ⊥
+before-smallest f n none i l h t = let r = smallest-found f 0 n none i (omega arith) (omega arith) t in omega (arith, r .1)
 
-pub upper-rises : (c : Curve) (t i j : ℕ) → i ≤ j → T (upperTest (Rounded.factor c) t i) → T (upperTest (Rounded.factor c) t j)
-upper-rises c t i j h p =
-    le→leb (tested high t j) (Rounded.factor c low t)
-    (le-trans (tested-anti high t i j h) (leb→le (tested high t i) (Rounded.factor c low t) p))
-
--- the only step that passes and whose neighbour does not
+-- where the test falls, or rises, it is the only index that passes and whose neighbour does not
 pub largest-is : (f : ℕ → Bool) → ((i j : ℕ) → i ≤ j → T (f j) → T (f i)) → (n none i : ℕ) → i < n → T (f i) → (suc i < n → T (f (suc i)) → ⊥) → largest f n none ≡ i
 largest-is f falls n none i h p last =
     let r = largest-found f n none i h p in
@@ -65,28 +69,3 @@ smallest-is f rises n none i h p first =
     go i first (yes k) r = k
     go zero first (no k) r = omega arith
     go (suc j) first (no k) r = absurd (first j (omega arith) (rises (smallest f 0 n none) j (omega arith) (r .0)))
-
--- no result passes 1.2 × 10^13, so that × 100,000 fits 64 bits
-abbrev small : ℕ → Bool
-small t = leb (scaled high stepsPerOne 98000 t) (12 * 10 ^ 12)
-
-all-small : T (below small 121)
-unfolding below scaled divide
-all-small = tt
-
--- the ends of a result are in order
-pub scaled-ends : (a b j : ℕ) → 0 < b → scaled low a b j ≤ scaled high a b j
-unfolding scaled
-scaled-ends a b zero h = omega arith
-scaled-ends a b (suc j) h =
-    le-trans (divide-mono low (scaled low a b j * a) (scaled high a b j * a) b h (mul-le-mul-right a (scaled-ends a b j h)))
-    (divide-ends (scaled high a b j * a) b h)
-
-high-small : (t i : ℕ) → t ≤ 120 → tested high t i ≤ 12 * 10 ^ 12
-high-small t i h =
-    le-trans (scaled-anti high stepsPerOne 98000 (98000 + i) t (omega arith) (omega arith))
-    (leb→le (scaled high stepsPerOne 98000 t) (12 * 10 ^ 12) (at small 121 all-small t (omega arith)))
-
-pub tested-small : (e : End) (t i : ℕ) → t ≤ 120 → tested e t i ≤ 12 * 10 ^ 12
-tested-small high t i h = high-small t i h
-tested-small low t i h = le-trans (scaled-ends stepsPerOne (98000 + i) t (omega arith)) (high-small t i h)

@@ -1,9 +1,9 @@
--- How large the rounded numbers become on each of the three curves: what the code needs so that its products fit.
+-- How large the rounded numbers become on each of the three curves: what the code needs so that its products fit. The lower end of a
+-- growth over i years is at most the exact power, which the forward rate bounds (Powers), and the upper end is that and the width more.
+-- A factor is at most `factorMost`, a recursion that reads no file and is computed for each term.
 -- Assumes nothing.
 use Prim.Native.Nat.{ℕ, zero, suc, _+_, _*_, _^_, _≤_, _<_}
-use mathlib.Core.Path.{ap}
-use mathlib.Core.Bool.{Bool}
-use lib.Dec.{T, leb, leb→le}
+use mathlib.Core.Path.{refl, ap}
 use native.Mathlib.Omega.{arith}
 use native.Mathlib.Nat.{mul-le-mul-left, mul-le-mul-right, le-of-mul-le-mul-right, pow-suc, le-dest, le-trans, add-suc}
 use native.Mathlib.Decide.{decLe}
@@ -13,13 +13,14 @@ use Rattle.model.specs.Constants.{unit}
 use Rattle.model.specs.Curve.{Curve, P, weight, weights}
 use Rattle.model.specs.Rounded as Rounded
 use Rattle.model.specs.Rounded.{scaled, ufrGrowth}
+use Rattle.model.specs.Numbers.{every}
 use Rattle.model.specs.CurveWithin.{CurveWithin}
-use Rattle.theory.proofs.Conditions.{below, at}
-use Rattle.theory.proofs.Steps.{scaled-in, scaled-width}
-use Rattle.theory.proofs.Growth.{growth-suc, P-pos, N-pos, pow-pos}
+use Rattle.theory.proofs.Lists.{every-le}
+use Rattle.theory.proofs.Powers.{pow-pos, backward}
+use Rattle.theory.proofs.Steps.{scaled-in, scaled-mono, scaled-width}
+use Rattle.theory.proofs.Growth.{growth-suc, P-pos, N-pos}
 use Rattle.theory.proofs.Factor.{rounded-factor-first, rounded-factor-next, weighed-from-61, least}
-use Rattle.theory.proofs.Width.{scaled-most, factorMost, middle}
-use Rattle.theory.proofs.ZeroRate.{backward}
+use Rattle.theory.proofs.Width.{factorMost, middle}
 
 -- r + i p is at most (i + 1) q for each i up to j, if it is so at j
 earlier : (p q r j i : ℕ) → i ≤ j → r ≤ q → r + j * p ≤ suc j * q → r + i * p ≤ suc i * q
@@ -37,7 +38,7 @@ years-low : (p q r i : ℕ) → 0 < q → r + 100 * (i * p) ≤ 100 * (suc i * q
 years-low p q r i hq h =
     let f : p ^ i * r ≤ 100 * (q ^ i * q) = rw (pow-suc q i) at (backward p q r i h) in
     le-of-mul-le-mul-right {m = scaled low p q i * r} {n = unit * (100 * q)} {k = q ^ i}
-    (omega (arith, mul-le-mul-right r (scaled-in low p q i hq .is), mul-le-mul-left unit f)) (pow-pos q i hq)
+    (omega (arith, mul-le-mul-right r (scaled-in low p q i hq .is .le), mul-le-mul-left unit f)) (pow-pos q i hq)
 
 -- the growth over i years, i up to t - 1
 pub years-most : (c : Curve) → CurveWithin c → (j i : ℕ) → suc j ≤ 60 → i ≤ j → scaled high (P c (suc j)) (P c j) i ≤ 12 * 10 ^ 11
@@ -66,27 +67,21 @@ growth-size c f j h =
     (omega (arith, mul-le-mul-right (P c (suc j)) (years-most c f j j h (omega arith)), f .most (suc j) h)))
 
 -- the factor, to 20 and at every term
-abbrev firsts : ℕ → Bool
-firsts i = leb (scaled high 100 98 i) (15 * 10 ^ 11)
+firsts : (i : ℕ) → i < 21 → scaled high 100 98 i ≤ 15 * 10 ^ 11
+unfolding every scaled divide
+firsts i = every-le (λ i. scaled high 100 98 i) (λ _. 15 * 10 ^ 11) 21 i refl
 
-all-firsts : T (below firsts 21)
-unfolding below scaled divide
-all-firsts = tt
-
-abbrev middles : ℕ → Bool
-middles j = leb (factorMost j) (22 * 10 ^ 11)
-
-all-middles : T (below middles 41)
-unfolding below factorMost scaled divide weight weights
-all-middles = tt
+middles : (j : ℕ) → j < 41 → factorMost j ≤ 22 * 10 ^ 11
+unfolding every factorMost scaled divide weight weights
+middles j = every-le factorMost (λ _. 22 * 10 ^ 11) 41 j refl
 
 pub first-size : (c : Curve) → CurveWithin c → (t i : ℕ) → t ≤ 60 → i ≤ 20 → scaled high (c .N) (P c t) i ≤ 15 * 10 ^ 11
 first-size c f t i h k =
-    le-trans (scaled-most (c .N) (P c t) 100 98 i (P-pos c f t h) (omega arith) (omega (arith, f .least t h)))
-    (leb→le (scaled high 100 98 i) (15 * 10 ^ 11) (at firsts 21 all-firsts i (omega arith)))
+    le-trans (scaled-mono high (c .N) (P c t) 100 98 i (P-pos c f t h) (omega arith) (omega (arith, f .least t h)))
+    (firsts i (omega arith))
 
 late-size : (c : Curve) → CurveWithin c → (i : ℕ) → Rounded.factor c high (60 + i) ≤ 22 * 10 ^ 11
-late-size c f zero = le-trans (middle c f 40 (omega arith) .0) (leb→le (factorMost 40) (22 * 10 ^ 11) (at middles 41 all-middles 40 (omega arith)))
+late-size c f zero = le-trans (middle c f 40 (omega arith) .0) (middles 40 (omega arith))
 late-size c f (suc i) =
     rw (add-suc 60 i, rounded-factor-next c high (60 + i) (omega arith), weighed-from-61 c low (suc (60 + i)) (omega arith))
     (divide-le high (Rounded.factor c high (60 + i) * unit) (ufrGrowth c) (22 * 10 ^ 11) (omega arith) (omega (arith, late-size c f i)))
@@ -103,7 +98,7 @@ factor-size c f t = go (decLe t 20) (decLe t 60)
     go (no h) (yes k) =
         let l : 20 ≤ t = omega arith in
         let (j, e) = le-dest l in
-        rw (← e) (le-trans (middle c f j (omega arith) .0) (leb→le (factorMost j) (22 * 10 ^ 11) (at middles 41 all-middles j (omega arith))))
+        rw (← e) (le-trans (middle c f j (omega arith) .0) (middles j (omega arith)))
     go (no h) (no k) =
         let l : 60 ≤ t = omega arith in
         let (i, e) = le-dest l in

@@ -1,4 +1,7 @@
--- Each verdict given, other than undecided, is the exact one; undecided is said only within the margins.
+-- Each verdict given, other than undecided, is the exact one; undecided is said only within the margins. A comparison that decides sets
+-- the upper end of the smaller side against the lower end of the larger, so the exact figures, which lie in their brackets, are in that
+-- order too. Undecided means that the brackets of the two sides of a border overlap, so the exact sides differ by no more than both
+-- brackets are wide: 20 × WB + 21 × WL at the first border; WB for A, WL for L and 3 × WL + 2 × WB + 8 for S at the second.
 -- Assumes nothing.
 use Prim.Native.Nat.{ℕ, suc, _+_, _*_, _-_, _≤_, _<_}
 use mathlib.Core.Path.{_≡_, sym, _∙_}
@@ -7,6 +10,7 @@ use native.Mathlib.Omega.{arith}
 use native.Mathlib.Nat.{mul-le-mul, mul-le-mul-right, mul-lt-mul-of-pos-right, mul-pos, le-of-mul-le-mul-left, lt-of-mul-lt-mul-left}
 use native.Mathlib.Decide.{decLe}
 use Rattle.arith.specs.Rounding.{End, low, high}
+use Rattle.arith.proofs.Ends.{_≤⟨_⟩_, _and_, _times_, from}
 use Rattle.model.specs.Fraction.{Fraction, _∸ᶠ_, _*ᶠ_, square, whole, _≤ᶠ_}
 use Rattle.model.specs.Case.{FileCase}
 use Rattle.model.specs.Limits.{WithinLimits}
@@ -17,7 +21,7 @@ use Rattle.model.specs.Margins.{WL, WB, NearFirst, NearSecond, firstMargin, sec
 use Rattle.model.specs.declared.figures.Verdict.the-variants.{Dekkingstekort, Reservetekort, VrijVermogen, Onbeslist}
 use Rattle.theory.proofs.Bracket.{Bounded}
 use Rattle.theory.proofs.Conditions.{cond-le, cond-gt}
-use Rattle.theory.proofs.Steps.{sum, minus, prod, multiple, ends}
+use Rattle.theory.proofs.Steps.{exactly, sum, minus, prod, multiple, ends}
 use Rattle.theory.proofs.Money.{L-in, A-in, S-in, L-den, A-den, S-den}
 use Rattle.theory.proofs.MoneyWidth.{L-width, A-width, S-width}
 
@@ -25,23 +29,22 @@ use Rattle.theory.proofs.MoneyWidth.{L-width, A-width, S-width}
 apart : {u n m : ℕ} {x y : Fraction} → 0 < x .den → 0 < y .den → Bounded high u n x → Bounded low u m y → n < m → x .num * y .den < y .num * x .den
 apart {u} {x = x} {y = y} hx hy h l k =
     lt-of-mul-lt-mul-left u
-    (omega (arith, mul-lt-mul-of-pos-right k (mul-pos hx hy), mul-le-mul-right (y .den) (h .is), mul-le-mul-right (x .den) (l .is)))
+    (omega (arith, mul-lt-mul-of-pos-right k (mul-pos hx hy), mul-le-mul-right (y .den) (h .is .le), mul-le-mul-right (x .den) (l .is .le)))
 
 ordered : {u n m : ℕ} {x y : Fraction} → 0 < u → Bounded high u n x → Bounded low u m y → n ≤ m → _≤ᶠ_ x y
 ordered {x = x} {y = y} hu h l k =
     le-of-mul-le-mul-left
-    (omega (arith, mul-le-mul-right (x .den * y .den) k, mul-le-mul-right (y .den) (h .is), mul-le-mul-right (x .den) (l .is))) hu
+    (omega (arith, mul-le-mul-right (x .den * y .den) k, mul-le-mul-right (y .den) (h .is .le), mul-le-mul-right (x .den) (l .is .le))) hu
 
-cents : (e : End) (c : ℕ) → Bounded e 1 c (whole c)
-cents low c = omega arith
-cents high c = omega arith
+cents : {e : End} (c : ℕ) → Bounded e 1 c (whole c)
+cents c = exactly (omega arith)
 
--- squares
-over : {n : ℕ} {v : Fraction} (m : ℕ) → Bounded high 1 n v → n ≤ m → Bounded high 1 (m * m) (v *ᶠ v)
-over {v = v} m h k = omega (arith, prod h h .is, mul-le-mul-right (v .den * v .den) (mul-le-mul k k))
-
-under : {n : ℕ} {v : Fraction} (m : ℕ) → Bounded low 1 n v → m ≤ n → Bounded low 1 (m * m) (v *ᶠ v)
-under {v = v} m h k = omega (arith, prod h h .is, mul-le-mul-right (v .den * v .den) (mul-le-mul k k))
+-- the square of what is at most a lower end, or at least an upper one
+squared : {e : End} {n : ℕ} {v : Fraction} (m : ℕ) → m ≤⟨ e ⟩ n → Bounded e 1 n v → Bounded e 1 (m * m) (v *ᶠ v)
+squared {e} {n} {v} m k h = prod further further
+  where
+    further : Bounded e 1 m v
+    further = record { is = from (k times v .den and h .is) (omega arith) }
 
 lt-square : (p q : ℕ) → p < q → p * p < q * q
 lt-square p q h = omega (arith, mul-le-mul h h)
@@ -119,11 +122,11 @@ module _ (x y z : Fraction) (hx : 0 < x .den) (hy : 0 < y .den) (hz : 0 < z .den
   right-r : 21 * L high ≤ 20 * A low → A high < L low + S low → Exact.judge x y z ≡ Reservetekort
   right-r k m =
       exact-r x y z (covered k)
-      (apart (mul-pos (mul-pos hx hy) (mul-pos hx hy)) hz (over (A high - L low) (minus high xh yl) (omega arith)) zl
+      (apart (mul-pos (mul-pos hx hy) (mul-pos hx hy)) hz (squared (A high - L low) (omega arith) (minus high xh yl)) zl
       (lt-square (A high - L low) (S low) (omega (arith, ends hx xl xh, ends hy yl yh))))
 
   right-v : 21 * L high ≤ 20 * A low → L high + S high ≤ A low → Exact.judge x y z ≡ VrijVermogen
-  right-v k m = exact-v x y z (covered k) (ordered (omega arith) zh (under (S high) (minus low xl yh) (omega arith)) (omega arith))
+  right-v k m = exact-v x y z (covered k) (ordered (omega arith) zh (squared (S high) (omega arith) (minus low xl yh)) (omega arith))
 
   pub right : Rounded.judge A L S ≢ Onbeslist → Rounded.judge A L S ≡ Exact.judge x y z
   right n = go (decLe (suc (20 * A high)) (21 * L low)) (decLe (21 * L high) (20 * A low)) (decLe (suc (A high)) (L low + S low)) (decLe (L high + S high) (A low))
@@ -141,17 +144,17 @@ module _ (x y z : Fraction) (hx : 0 < x .den) (hy : 0 < y .den) (hz : 0 < z .den
     near-first h k =
         let c : ℕ = 20 * wb + 21 * wl in
         record {
-          above = ordered (omega arith) (multiple 20 xh) (sum (multiple 21 yl) (cents low c)) (omega arith);
-          below = ordered (omega arith) (multiple 21 yh) (sum (multiple 20 xl) (cents low c)) (omega arith);
+          above = ordered (omega arith) (multiple 20 xh) (sum (multiple 21 yl) (cents c)) (omega arith);
+          below = ordered (omega arith) (multiple 21 yh) (sum (multiple 20 xl) (cents c)) (omega arith);
         }
 
     near-second : 21 * L high ≤ 20 * A low → L low + S low ≤ A high → A low < L high + S high → NearSecond (4 * wl + 3 * wb + 8) x y z
     near-second h k m =
         let c : ℕ = 4 * wl + 3 * wb + 8 in
         record {
-          above = ordered (omega arith) (over (S low) (minus high xh (sum yl (cents low c))) (omega arith)) zl (omega arith);
-          positive = ordered (omega arith) yh (sum xl (cents low c)) (omega arith);
-          below = ordered (omega arith) zh (under (S high) (minus low (sum xl (cents low c)) yh) (omega arith)) (omega arith);
+          above = ordered (omega arith) (squared (S low) (omega arith) (minus high xh (sum yl (cents c)))) zl (omega arith);
+          positive = ordered (omega arith) yh (sum xl (cents c)) (omega arith);
+          below = ordered (omega arith) zh (squared (S high) (omega arith) (minus low (sum xl (cents c)) yh)) (omega arith);
         }
 
     pub margin : Rounded.judge A L S ≡ Onbeslist → NearFirst (20 * wb + 21 * wl) x y ⊎ NearSecond (4 * wl + 3 * wb + 8) x y z

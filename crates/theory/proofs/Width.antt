@@ -1,37 +1,29 @@
--- The bracket of factor t is at most 4 × t × t units wide.
+-- The bracket of factor t is at most 4 × t × t units wide. To 20 each of the t multiplications adds at most 3. From 21 to 60 a year
+-- divides the width by the growth, and adds the growth's own width, which is at most linear in t (Growth), times the factor; such yearly
+-- additions sum to a square. The recursion of these bounds (`widthMost`) reads no file, so that it stays below 4 × t × t is computed for
+-- each term. From 61 the growth is at least 1 and the same at both ends, so a year adds at most 1.
 -- Assumes nothing.
-use Rattle.arith.proofs.Rounding.{divide-floor, divide-ceiling, divide-le}
 use Prim.Native.Nat.{ℕ, zero, suc, _+_, _*_, _-_, _^_, _≤_, _<_}
-use mathlib.Core.Bool.{Bool}
-use lib.Dec.{T, leb, leb→le}
+use mathlib.Core.Path.{refl}
 use native.Mathlib.Omega.{arith}
-use native.Mathlib.Nat.{add-suc, le-dest, mul-le-mul, mul-le-mul-left, mul-le-mul-right, mul-lt-mul-of-pos-right, le-of-mul-le-mul-right, lt-of-mul-lt-mul-right}
+use native.Mathlib.Nat.{add-suc, le-dest, mul-le-mul, mul-le-mul-left, mul-le-mul-right, mul-lt-mul-of-pos-right, lt-of-mul-lt-mul-right}
 use native.Mathlib.Decide.{decLe}
-use Rattle.model.specs.Curve.{Curve, P, weight, weights}
 use Rattle.arith.specs.Rounding.{low, high, divide}
+use Rattle.arith.proofs.Rounding.{divide-floor, divide-ceiling, divide-le}
+use Rattle.model.specs.Curve.{Curve, P, weight, weights}
 use Rattle.model.specs.Constants.{unit}
 use Rattle.model.specs.Rounded as Rounded
 use Rattle.model.specs.Rounded.{scaled, ufrGrowth}
+use Rattle.model.specs.Numbers.{every}
 use Rattle.model.specs.CurveWithin.{CurveWithin}
-use Rattle.theory.proofs.Steps.{wider, scaled-width, ends}
+use Rattle.theory.proofs.Steps.{wider, scaled-width, scaled-mono, ends}
 use Rattle.theory.proofs.Growth.{growth-width, P-pos}
 use Rattle.theory.proofs.Factor.{least, weighed-least, weighed-to-60, weighed-from-61, weighed-in, growth-fraction-pos, rounded-factor-first, rounded-factor-next}
-use Rattle.theory.proofs.Conditions.{below, at}
+use Rattle.theory.proofs.Lists.{every-le}
 
--- to 20
-pub scaled-most : (a b p q j : ℕ) → 0 < b → 0 < q → a * q ≤ p * b → scaled high a b j ≤ scaled high p q j
-unfolding scaled
-scaled-most a b p q zero h k l = omega arith
-scaled-most a b p q (suc j) h k l =
-    let x : ℕ = scaled high a b j in
-    let y : ℕ = scaled high p q j in
-    let r : ℕ = divide high (y * p) q in
-    let ih : x ≤ y = scaled-most a b p q j h k l in
-    divide-le high (x * a) b r h
-    (le-of-mul-le-mul-right {m = x * a} {n = r * b}
-    (omega (arith, mul-le-mul-right (a * q) ih, mul-le-mul-left y l, mul-le-mul-right b (divide-ceiling (y * p) q k .0))) k)
-
--- one crosswise division
+-- One crosswise division, of a factor from lo to hi by a growth from gl to gh. A is at most the growth, H at least the factor, H′ at
+-- least the new factor; W and v are the widths of factor and growth. The new width is at most W ÷ A + H′ × v ÷ A + 1; a and b are at
+-- least the two quotients.
 pub crosswise : (lo hi gl gh W v H A H′ a b : ℕ) → 0 < A → A ≤ gl → gl ≤ gh → gh ≤ gl + v → hi ≤ lo + W → hi ≤ H
     → W * unit ≤ a * A → H * unit ≤ H′ * A → H′ * v ≤ b * A
     → (divide high (hi * unit) gl ≤ H′) × (divide high (hi * unit) gl ≤ divide low (lo * unit) gh + (a + b + 1))
@@ -52,7 +44,7 @@ crosswise lo hi gl gh W v H A H′ a b hA k1 k2 k3 k4 k5 l1 l2 l3 =
     let m : q < p + (a + b + 2) = lt-of-mul-lt-mul-right (gl * gh) (omega (arith, u, f1, f2, f3, f4, g1, g2, g3)) in
     (divide-le high (hi * unit) gl H′ hl f0, omega arith)
 
--- Numbers that no file passes, at term 20 + j: the width of the growth of term t, the upper factor, the factor's width.
+-- Numbers that no file passes: the width of the weighed growth of term t; the upper factor of term 20 + j, and the width of its bracket.
 unfoldable pub growthMost : ℕ → ℕ
 growthMost t = divide high ((1000 - weight t) * (4 * t)) 1000 + 1
 
@@ -66,12 +58,10 @@ widthMost (suc j) =
     divide high (widthMost j * unit) (least (suc (20 + j)))
     + divide high (factorMost (suc j) * growthMost (suc (20 + j))) (least (suc (20 + j))) + 1
 
-abbrev square : ℕ → Bool
-square j = leb (widthMost j) (4 * (20 + j) * (20 + j))
-
-narrow : T (below square 41)
-unfolding below widthMost factorMost growthMost divide scaled weight weights
-narrow = tt
+-- computed of each
+narrow : (j : ℕ) → j < 41 → widthMost j ≤ 4 * (20 + j) * (20 + j)
+unfolding every widthMost factorMost growthMost divide scaled weight weights
+narrow j = every-le widthMost (λ j. 4 * (20 + j) * (20 + j)) 41 j refl
 
 pub weighed-width : (c : Curve) → CurveWithin c → (j : ℕ) → suc j ≤ 60 → Rounded.weighed c high (suc j) ≤ Rounded.weighed c low (suc j) + growthMost (suc j)
 unfolding growthMost
@@ -94,7 +84,7 @@ pub middle : (c : Curve) → CurveWithin c → (j : ℕ) → j ≤ 40
 unfolding factorMost widthMost
 middle c f zero h =
     rw (rounded-factor-first c high 19 (omega arith), rounded-factor-first c low 19 (omega arith)) (
-      scaled-most (c .N) (P c 20) 100 98 20 hp (omega arith) (omega (arith, hl)),
+      scaled-mono high (c .N) (P c 20) 100 98 20 hp (omega arith) (omega (arith, hl)),
       scaled-width (c .N) (P c 20) 20 hp (omega (arith, hl)) 20 (omega arith),
     )
   where
@@ -124,7 +114,7 @@ middle c f (suc j) h =
 
 -- from 61 the width grows by at most one a year
 late : (c : Curve) → CurveWithin c → (i : ℕ) → Rounded.factor c high (60 + i) ≤ Rounded.factor c low (60 + i) + (14400 + i)
-late c f zero = omega (arith, middle c f 40 (omega arith) .1, leb→le (widthMost 40) 14400 (at square 41 narrow 40 (omega arith)))
+late c f zero = omega (arith, middle c f 40 (omega arith) .1, narrow 40 (omega arith))
 late c f (suc i) =
     let m : 20 < suc (60 + i) = omega arith in
     let k : 60 < suc (60 + i) = omega arith in
@@ -151,7 +141,7 @@ factor-width c f t = go (decLe t 20) (decLe t 60)
     go (no h) (yes k) =
         let l : 20 ≤ t = omega arith in
         let (j, e) = le-dest l in
-        rw (← e) (omega (arith, middle c f j (omega arith) .1, leb→le (widthMost j) (4 * (20 + j) * (20 + j)) (at square 41 narrow j (omega arith))))
+        rw (← e) (omega (arith, middle c f j (omega arith) .1, narrow j (omega arith)))
     go (no h) (no k) =
         let l : 60 ≤ t = omega arith in
         let (i, e) = le-dest l in

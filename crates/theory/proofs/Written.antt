@@ -1,4 +1,6 @@
--- An accepted file is the bytes of the case that is read from it.
+-- An accepted file is the bytes of the case that is read from it. From the last field to the first: the bytes of a field as it is read,
+-- and behind them the bytes of the later fields, are what the file has from that field on, because the checks say that every field ends
+-- within the file and that nothing follows the last.
 use mathlib.Core.Path.{_≡_, refl, ap, sym, _∙_}
 use mathlib.Core.Bool.{Bool, true, false, cond}
 use mathlib.Core.List.{List, [], _++_, append-assoc, append-nil}

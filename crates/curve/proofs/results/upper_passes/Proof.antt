@@ -2,7 +2,7 @@
 use native.Mathlib.Omega.{arith}
 use borrow.Author.Needs.{needs}
 use Rattle.arith.specs.Rounding.{low}
-use Rattle.theory.proofs.Search.{tested-small}
+use Rattle.theory.proofs.RateTests.{tested-small}
 use Rattle.curve.proofs.Tested.{above-fails, near-passes}
 use Rattle.curve.proofs.results.upper_passes.Statement.{statement}
 use Rattle.curve.proofs.results.upper_passes.Tie as tie

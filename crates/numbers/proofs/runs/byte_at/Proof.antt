@@ -3,7 +3,7 @@ use mathlib.Core.Path.{sym, _∙_}
 use borrow.Author.Needs.{needs}
 use lib.Dec.{lit<}
 use lib.ListN.{List·getD-eq-default}
-use Rattle.numbers.proofs.Loops.{one-byte}
+use Rattle.theory.proofs.Encoding.{number-one}
 use Rattle.numbers.proofs.runs.byte_at.Statement.{statement}
 use Rattle.numbers.proofs.runs.byte_at.Tie as tie
 
@@ -11,7 +11,7 @@ number-at-requires : tie.Need-number-at-requires
 number-at-requires c κs = search needs
 
 returns : tie.Need-returns
-returns c = (c .number-at .ensures .0 ∙ one-byte _ _, c .number-at .ensures .1)
+returns c = (c .number-at .ensures .0 ∙ number-one _ _, c .number-at .ensures .1)
 
 returns-2 : tie.Need-returns-2
 returns-2 c = (sym (List·getD-eq-default (c .before .before .args .file .now) 0 (c .if1 .left)), lit< tt)

@@ -1,4 +1,3 @@
-pub mod Filled
 pub mod Valued
 pub mod Guaranteed
 pub mod Plain

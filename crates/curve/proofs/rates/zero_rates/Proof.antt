@@ -1,20 +1,22 @@
 -- `curve::rates::zero_rates` meets its contract. After t turns the entries of the terms 1 to t stand. Assumes nothing.
-use Prim.Native.Nat.{_*_, _-_, _≤_}
-use mathlib.Core.Path.{_≡_, refl}
+use Prim.Native.Nat.{ℕ, _*_, _-_, _≤_}
+use mathlib.Core.Path.{_≡_, refl, ap, _∙_}
 use native.Mathlib.Omega.{arith}
-use lib.ListN.{length, take, length-set}
+use mathlib.Core.List.{_++_}
+use lib.ListN.{length, drop, length-set}
 use Rattle.model.specs.Buffers.{byTerm, entryOf}
 use Rattle.model.specs.Rounded.{rateOf}
 use Rattle.curve.specs.Kept.{Kept}
 use Rattle.curve.proofs.Kept.{none-kept, keep-on}
-use Rattle.curve.proofs.Terms.{one-term-more, all-terms}
+use Rattle.theory.proofs.Lists.{all-filled}
+use Rattle.theory.proofs.Entries.{term-filled}
 use Rattle.curve.proofs.Rated.{lower-within, upper-within, lower-rate, upper-rate}
 use Rattle.curve.proofs.rates.zero_rates.Statement.{statement}
 use Rattle.curve.proofs.rates.zero_rates.Tie as tie
 
 abbrev Inv-loop : tie.InvT-loop
 Inv-loop factors out₀ steps₀ results₀ terms₀ t₀ out steps results terms t =
-    (t ≤ 120) × (length out ≡ 240) × (take (2 * t) out ≡ byTerm (rateOf (entryOf factors)) t) × Kept t steps results terms
+    (t ≤ 120) × (length out ≡ 240) × (out ≡ byTerm (rateOf (entryOf factors)) t ++ drop (2 * t) out₀) × Kept t steps results terms
 
 abbrev μ-loop : tie.MeasureT-loop
 μ-loop factors out₀ steps₀ results₀ terms₀ t₀ out steps results terms t = 120 - t
@@ -96,16 +98,18 @@ loop-again c =
     let upper = c .before .before .upper-step .ensures in (
       omega arith,
       simp length-set (inv .1),
-      one-term-more _ _ _ _ _ (omega arith) (inv .2)
+      term-filled _ _ _ _ _ _ (omega arith)
           (lower-rate _ _ _ _ (c .before .rate-at .ensures) (lower .1 .0) (lower .0))
-          (upper-rate _ _ _ _ (c .rate-at2 .ensures) (upper .1 .0) (upper .0)),
+          (upper-rate _ _ _ _ (c .rate-at2 .ensures) (upper .1 .0) (upper .0))
+          (inv .2),
       upper .1 .1,
     )
 
 returns : tie.Need-returns Inv-loop μ-loop
 returns c =
     let inv = c .before .loop .inv in
-    all-terms _ _ _ 120 (inv .1) (inv .0) (c .loop-test .left) (inv .2)
+    let n : c .before .loop .t ≡ 120 = omega arith in
+    all-filled _ _ _ _ (ap (λ (t : ℕ). 2 * t) n) (inv .2) ∙ ap (byTerm _) n
 
 pub zero-rates-spec : {M : Type 1} → statement M
 zero-rates-spec =

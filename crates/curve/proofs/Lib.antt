@@ -7,11 +7,5 @@ pub mod Moving
 pub mod Growths
 pub mod Discounts
 pub mod Terms
-pub mod Tested
-pub mod Kept
-pub mod Halved
-pub mod Signed
-pub mod Rated
 pub mod Agree
 pub mod HeldCurves
-pub mod RateEntries

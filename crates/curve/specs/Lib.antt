@@ -1,4 +1,3 @@
 -- What the contracts of `curve` cite.
 pub mod Sums
 pub mod Ranges
-pub mod Kept

@@ -18,8 +18,9 @@ use Rattle.theory.proofs.Entries.{length-byTerm, entry-is}
 use Rattle.theory.proofs.MoneySizes.{factor-most}
 use Rattle.curve.specs.declared.sums.CurveSums.{CurveSums}
 use Rattle.curve.specs.Sums.{curveOf, movedSums, curveHeld}
-use Rattle.curve.specs.Ranges.{FactorsWithin, RatesWithin}
-use Rattle.curve.proofs.RateEntries.{rates-of-entries, entries-within}
+use Rattle.curve.specs.Ranges.{FactorsWithin}
+use Rattle.zerorates.specs.Ranges.{RatesWithin}
+use Rattle.zerorates.proofs.RateEntries.{rates-of-entries, entries-within}
 use Rattle.solvency.specs.OnCurves.{on, worths, entriesOn, moneyOf}
 use Rattle.solvency.specs.Ranges.{FlowsFit, FactorsFit, CurvesFit}
 use Rattle.solvency.specs.declared.buffer.Money.{Money}

@@ -8,7 +8,6 @@ ghost use Rattle.working.specs.Working.{CaseFits, factorsOn, curvesOn, m
 ghost use Rattle.solvency.specs.OnCurves.{entriesOn};
 ghost use Rattle.solvency.specs.Ranges.{CurvesFit};
 use curve::factor::factors;
-use curve::rates::zero_rates;
 use curve::sums::base_curve;
 use curve::sums::down_curve;
 use curve::sums::up_curve;
@@ -17,6 +16,7 @@ use solvency::buffer::Money;
 use solvency::buffer::money_by;
 use solvency::worth::Curves;
 use solvency::worth::worths_of;
+use zerorates::rates::zero_rates;
 
 // What is worked out of a case: the entries of both buffers, the figures and the verdict.
 pub struct Worked {

@@ -6,9 +6,3 @@ pub mod Shifting
 pub mod Growths
 pub mod Discounts
 pub mod Terms
-pub mod Tested
-pub mod Kept
-pub mod Halved
-pub mod Signed
-pub mod Rated
-pub mod RateEntries

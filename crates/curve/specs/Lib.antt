@@ -1,4 +1,3 @@
 -- What the contracts of `curve` cite.
 pub mod Shifted
 pub mod Ranges
-pub mod Kept

@@ -1,14 +1,12 @@
 -- What the functions of `curve` ask of their numbers, so that nothing on the way passes 64 bits.
-use Rattle.model.specs.Buffers.{entryOf}
 use Prim.Native.Nat.{ℕ, _*_, _-_, _^_, _≤_, _<_}
 use mathlib.Core.Path.{_≡_}
-use mathlib.Core.List.{List}
 use lib.ListN.{getD}
-use Rattle.arith.specs.Rounding.{low, high}
+use Rattle.arith.specs.Rounding.{high}
 use Rattle.model.specs.declared.case.Case.{Case}
 use Rattle.model.specs.declared.figures.Bracket.{Bracket}
 use Rattle.model.specs.Rounded as Rounded
-use Rattle.model.specs.Rounded.{scaled, tested}
+use Rattle.model.specs.Rounded.{scaled}
 use Rattle.model.specs.Brackets.{bracket}
 use Rattle.model.specs.CurveWithin.{CurveWithin}
 use Rattle.curve.specs.declared.shift.CurveSums.{CurveSums}
@@ -70,22 +68,3 @@ pub record NextWithin (c : CurveSums) (f : Bracket) (t : ℕ) : Type 0 where
   pub curve : FactorsWithin c
   pub some : 1 ≤ t
   pub before : f ≡ bracket (λ e. Rounded.factor (curveOf c) e (t - 1))
-
--- of a test of the zero rate
-pub record StepWithin (t i : ℕ) : Type 0 where
-  pub term : t ≤ 120
-  pub step : i ≤ 22000
-
--- of a search: the first step passes the lower test, or the last one the upper test
-pub record LowerWithin (t factor : ℕ) : Type 0 where
-  pub term : t ≤ 120
-  pub passes : factor ≤ tested low t 0
-
-pub record UpperWithin (t factor : ℕ) : Type 0 where
-  pub term : t ≤ 120
-  pub passes : tested high t 22000 ≤ factor
-
--- of the factors of the terms 1 to 120
-pub record RatesWithin (factors : List ℕ) : Type 0 where
-  pub lower : (t : ℕ) → 1 ≤ t → t ≤ 120 → LowerWithin t (entryOf factors high t)
-  pub upper : (t : ℕ) → 1 ≤ t → t ≤ 120 → UpperWithin t (entryOf factors low t)

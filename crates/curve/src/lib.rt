@@ -1,10 +1,6 @@
-// The rounded curve of a case: growths, discount factors and zero rates, at both ends of each
-// bracket.
+// The rounded curve of a case: growths and discount factors, at both ends of each bracket.
 pub mod factor;
 pub mod growth;
-pub mod rates;
-pub mod results;
-pub mod search;
 pub mod shift;
 pub mod times;
 pub mod weights;

@@ -1,4 +1,4 @@
--- What one more turn of a loop adds: a test, an entry of a table.
+-- What one more turn of a loop adds to a test, positions in a run of numbers, and entries past the last.
 use mathlib.Core.Path.{_≡_, refl, subst}
 use mathlib.Core.List.{List}
 use mathlib.Core.Bool.{Bool, true, false, _&&_}
@@ -7,8 +7,7 @@ use Prim.Native.Nat.{ℕ, zero, suc, _+_, _*_, _<_, _≤_}
 use native.Mathlib.Nat.{mul-le-mul, not-suc-le-zero, le-of-suc-le-suc, eq-or-lt-of-le}
 use native.Mathlib.Numerals.{add-one}
 use native.Mathlib.Omega.{arith}
-use lib.ListN.{getD, length, set, take, List·getD-eq-default}
-use lib.Seq.{take-suc-set}
+use lib.ListN.{getD, List·getD-eq-default}
 use Rattle.model.specs.Numbers.{every, table}
 use Rattle.theory.proofs.Lists.{length-table}
 
@@ -33,11 +32,6 @@ every-fails test i (suc n) l h =
     ⊎-elim (λ e. and-false (every test n) (test n) (subst (λ (k : ℕ). test k ≡ false) e h))
     (λ k. simp (every-fails test i n k h))
     (eq-or-lt-of-le (le-of-suc-le-suc l))
-
--- one entry more of a table
-pub table-more : (f : ℕ → ℕ) (l : List ℕ) (i v : ℕ) → i < length l → take i l ≡ table f i → v ≡ f i → take (i + 1) (set l i v) ≡ table f (i + 1)
-unfolding table
-table-more f l i v h e k = rw (add-one, take-suc-set, e, k)
 
 -- behind the last entry of a table
 pub table-behind : (f : ℕ → ℕ) (n i : ℕ) → n ≤ i → getD (table f n) i 0 ≡ 0

@@ -4,12 +4,14 @@ use Prim.Native.Nat.{ℕ, zero, suc, _+_, _*_, _-_, _≤_, _<_}
 use mathlib.Core.Path.{_≡_, refl, ap, sym, _∙_}
 use mathlib.Core.List.{List, [], _∷_, _++_}
 use mathlib.Core.Logic.{_⊎_, inl, inr}
+use native.Mathlib.Numerals.{add-one}
 use native.Mathlib.Omega.{arith}
 use native.Mathlib.Nat.{not-suc-le-zero, le-of-suc-le-suc, eq-or-lt-of-le}
-use lib.ListN.{length, getD, length-append, List·getD-append}
-use lib.Seq.{getD-append-add}
+use lib.ListN.{length, getD, drop, set, length-append, List·getD-append}
+use lib.Seq.{getD-append-add, append-snoc}
 use Rattle.arith.specs.Rounding.{End, low, high}
 use Rattle.model.specs.Buffers.{byTerm, entryOf, entryOr}
+use Rattle.theory.proofs.Lists.{one-filled}
 
 module _ {A : Type 0} (f : End → ℕ → A) where
   pub length-byTerm : (n : ℕ) → length (byTerm f n) ≡ 2 * n
@@ -66,3 +68,15 @@ by-term d entries f n lower upper high (suc t) h k = let q : suc t - 1 ≡ t = o
 
 pub entry-is : (f : End → ℕ → ℕ) (n : ℕ) (e : End) (t : ℕ) → 1 ≤ t → t ≤ n → entryOf (byTerm f n) e t ≡ f e t
 entry-is f n = by-term 0 (byTerm f n) f n (λ t. lower-entry f n t 0) (λ t. upper-entry f n t 0)
+
+-- an array that a loop fills, one term more: its two entries
+pub term-filled : {A : Type 0} (f : End → ℕ → A) (held out : List A) (t : ℕ) (a b : A) → 2 * t + 1 < length held → a ≡ f low (t + 1) → b ≡ f high (t + 1)
+    → out ≡ byTerm f t ++ drop (2 * t) held → set (set out (2 * t) a) (2 * t + 1) b ≡ byTerm f (t + 1) ++ drop (2 * (t + 1)) held
+unfolding byTerm
+term-filled {A} f held out t a b h p q e =
+    let n = length-byTerm f t in
+    let first = one-filled held out (byTerm f t) (2 * t) a n (omega arith) e in
+    let front = byTerm f t ++ (a ∷ []) in
+    let m : length front ≡ 2 * t + 1 = length-append (byTerm f t) (a ∷ []) ∙ (omega arith) in
+    let i : 2 * t + 1 + 1 ≡ 2 * (t + 1) = omega arith in
+    one-filled held (set out (2 * t) a) front (2 * t + 1) b m h first ∙ rw (append-snoc (byTerm f t) a (b ∷ []), i, p, q, add-one t)

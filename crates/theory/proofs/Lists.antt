@@ -1,15 +1,16 @@
--- Laws of `every` and `table`, and of tests that hold together.
+-- Laws of `every` and `table`, of tests that hold together, and of an array that a loop fills.
 use mathlib.Core.Path.{_≡_, refl, ap, sym, _∙_, subst}
 use mathlib.Core.Bool.{Bool, true, false, _&&_}
 use mathlib.Core.Logic.{⊎-elim}
-use mathlib.Core.List.{List, [], _∷_, _++_, map}
-use Prim.Native.Nat.{ℕ, zero, suc, _≤_, _<_}
+use mathlib.Core.List.{List, [], _∷_, _++_, map, append-nil}
+use Prim.Native.Nat.{ℕ, zero, suc, _+_, _≤_, _<_}
 use native.Mathlib.Nat.{not-suc-le-zero, le-of-suc-le-suc, eq-or-lt-of-le, le-refl}
+use native.Mathlib.Numerals.{add-one}
 use native.Mathlib.Omega.{arith}
 use borrow.Author.Tests.{leb-true}
 use lib.Dec.{T, leb}
-use lib.ListN.{length, getD, length-append, List·getD-append}
-use lib.Seq.{getD-at}
+use lib.ListN.{length, getD, drop, set, length-append, List·getD-append}
+use lib.Seq.{getD-at, ext-getD, drop-cons, drop-length, append-snoc, set-at}
 use Rattle.model.specs.Numbers.{every, table}
 
 -- a pair, written between its parts
@@ -85,3 +86,30 @@ module _ {A B : Type 0} (g : A → B) where
   unfolding table
   map-table f zero = refl
   map-table f (suc n) = map-append (table f n) (f n) ∙ ap (λ l. l ++ (g (f n) ∷ [])) (map-table f n)
+
+-- ---- an array that a loop fills: the first i entries are written, and the rest is as it was held
+module _ {A : Type 0} where
+  -- one entry more
+  pub one-filled : (held out front : List A) (i : ℕ) (v : A) → length front ≡ i → i < length held → out ≡ front ++ drop i held
+      → set out i v ≡ (front ++ (v ∷ [])) ++ drop (i + 1) held
+  one-filled held out front i v n h e =
+      ap (λ (l : List A). set l i v) (e ∙ ap (λ (l : List A). front ++ l) (drop-cons held i v h))
+      ∙ set-at front (getD held i v) (drop (suc i) held) v i n
+      ∙ sym (append-snoc front v (drop (suc i) held))
+      ∙ rw add-one
+
+  -- the whole array
+  pub all-filled : (held out front : List A) (i : ℕ) → i ≡ length held → out ≡ front ++ drop i held → out ≡ front
+  all-filled held out front i n e = e ∙ rw (n, drop-length held, append-nil front)
+
+  -- the same of a table
+  pub table-filled : (f : ℕ → A) (held out : List A) (i : ℕ) (v : A) → i < length held → v ≡ f i → out ≡ table f i ++ drop i held
+      → set out i v ≡ table f (i + 1) ++ drop (i + 1) held
+  unfolding table
+  table-filled f held out i v h k e = one-filled held out (table f i) i v (length-table f i) h e ∙ rw (add-one, k)
+
+  -- a list is the table of its entries
+  pub table-of : (xs : List A) (n : ℕ) (d : A) → length xs ≡ n → table (λ i. getD xs i d) n ≡ xs
+  table-of xs n d h =
+      let l : length (table (λ i. getD xs i d) n) ≡ length xs = length-table (λ i. getD xs i d) n ∙ sym h in
+      ext-getD d (table (λ i. getD xs i d) n) xs l (λ i k. getD-table (λ i. getD xs i d) n i d (omega arith))

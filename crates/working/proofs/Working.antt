@@ -20,9 +20,10 @@ use Rattle.theory.proofs.Entries.{length-byTerm, entry-is}
 use Rattle.theory.proofs.MoneySizes.{factor-most}
 use Rattle.curve.specs.declared.shift.CurveSums.{CurveSums}
 use Rattle.curve.specs.Shifted.{curveOf, shiftedSum, shiftedSums, movedSums, curveHeld}
-use Rattle.curve.specs.Ranges.{ShiftWithin, FactorsWithin, RatesWithin}
+use Rattle.curve.specs.Ranges.{ShiftWithin, FactorsWithin}
 use Rattle.curve.proofs.Curves.{N-of, P-of}
-use Rattle.curve.proofs.RateEntries.{rates-of-entries, entries-within}
+use Rattle.zerorates.specs.Ranges.{RatesWithin}
+use Rattle.zerorates.proofs.RateEntries.{rates-of-entries, entries-within}
 use Rattle.solvency.specs.OnCurves.{on, worths, entriesOn, moneyOf}
 use Rattle.solvency.specs.Ranges.{FlowsFit, FactorsFit, CurvesFit}
 use Rattle.solvency.specs.declared.figures.Money.{Money}

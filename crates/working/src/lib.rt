@@ -13,7 +13,6 @@ ghost use Rattle.solvency.specs.Ranges.{CurvesFit};
 ghost use Rattle.working.specs.Working.{factorsOn, curvesOn, ratesOn, moneyBy, moneyOn};
 ghost use Rattle.working.specs.Ranges.{CaseFits};
 use curve::factor::factors;
-use curve::rates::zero_rates;
 use curve::shift::shifted_curve;
 use fill::fill_factors;
 use fill::fill_rates;
@@ -23,6 +22,7 @@ use solvency::figures::Money;
 use solvency::figures::money_by;
 use solvency::worth::Curves;
 use solvency::worth::worths_of;
+use zerorates::rates::zero_rates;
 
 // The factors of the base curve alone.
 pub fn factors_of(case: Case) -> [u64; 240]

@@ -1,19 +1,19 @@
 -- `numbers::rates::sums` meets its contract: after t turns the first t entries are P(1) to P(t). Assumes nothing.
-use mathlib.Core.Path.{_≡_, refl, sym, ap, _∙_}
+use mathlib.Core.Path.{_≡_, refl, ap, _∙_}
 use Prim.Native.Nat.{_≤_, _-_}
 use borrow.Author.Needs.{needs}
 use native.Mathlib.Omega.{arith}
-use lib.Seq.{take-all}
-use lib.ListN.{length, take, length-set}
+use mathlib.Core.List.{_++_}
+use lib.ListN.{length, drop, length-set}
 use Rattle.model.specs.Numbers.{table}
 use Rattle.model.specs.Curve.{natural}
 use Rattle.numbers.specs.Rates.{sumWith}
-use Rattle.numbers.proofs.Loops.{table-more}
+use Rattle.theory.proofs.Lists.{table-filled, all-filled}
 use Rattle.numbers.proofs.rates.sums.Statement.{statement}
 use Rattle.numbers.proofs.rates.sums.Tie as tie
 
 abbrev Inv-loop : tie.InvT-loop
-Inv-loop file at days out₀ t₀ out t = (t ≤ 60) × (length out ≡ 60) × (take t out ≡ table (λ i. natural (sumWith file at days i)) t)
+Inv-loop file at days out₀ t₀ out t = (t ≤ 60) × (length out ≡ 60) × (out ≡ table (λ i. natural (sumWith file at days i)) t ++ drop t out₀)
 
 abbrev μ-loop : tie.MeasureT-loop
 μ-loop file at days out₀ t₀ out t = 60 - t
@@ -43,14 +43,14 @@ loop-again c =
     let h = l .inv in (
       search needs,
       simp length-set (h .1),
-      table-more _ (l .out) (l .t) (c .sum-at .result) (omega arith) (h .2) (ap natural (c .sum-at .ensures .0)),
+      table-filled _ _ (l .out) (l .t) (c .sum-at .result) (omega arith) (ap natural (c .sum-at .ensures .0)) (h .2),
     )
 
 returns : tie.Need-returns Inv-loop μ-loop
 returns c =
     let h = c .before .loop .inv in
     let w : c .before .loop .t ≡ 60 = omega arith in
-    sym (take-all (c .before .loop .t) (c .before .loop .out) (omega arith)) ∙ h .2 ∙ ap (table _) w
+    all-filled _ _ _ _ w (h .2) ∙ ap (table _) w
 
 pub sums-spec : {M : Type 1} → statement M
 sums-spec =

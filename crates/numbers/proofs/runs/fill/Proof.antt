@@ -1,18 +1,18 @@
 -- `numbers::runs::fill` meets its contract: after i turns the first i entries of `out` are those of the run. Assumes nothing.
-use mathlib.Core.Path.{_≡_, refl, sym, ap, _∙_}
+use mathlib.Core.Path.{_≡_, refl, ap, _∙_}
 use Prim.Native.Nat.{_≤_, _-_}
 use borrow.Author.Needs.{needs}
 use native.Mathlib.Omega.{arith}
-use lib.Seq.{take-all}
-use lib.ListN.{length, take, getD, length-set}
+use mathlib.Core.List.{_++_}
+use lib.ListN.{length, drop, getD, length-set}
 use Rattle.model.specs.Numbers.{entry, table}
-use Rattle.numbers.proofs.Loops.{table-more}
+use Rattle.theory.proofs.Lists.{table-filled, all-filled}
 use Rattle.numbers.proofs.runs.fill.Statement.{statement}
 use Rattle.numbers.proofs.runs.fill.Tie as tie
 
 abbrev Inv-loop : tie.InvT-loop
 Inv-loop file at width count out₀ i₀ out i =
-    (i ≤ length out) × (length out ≡ length out₀) × (take i out ≡ table (λ j. getD (table (entry file at width) count) j 0) i)
+    (i ≤ length out) × (length out ≡ length out₀) × (out ≡ table (λ j. getD (table (entry file at width) count) j 0) i ++ drop i out₀)
 
 abbrev μ-loop : tie.MeasureT-loop
 μ-loop file at width count out₀ i₀ out i = length out - i
@@ -42,7 +42,7 @@ loop-again c =
     let i = c .before .before .loop .i in (
       simp length-set (omega arith),
       simp length-set (h .1),
-      table-more _ (c .before .before .loop .out) i (c .entry-or-zero .result) (omega arith) (h .2) (c .entry-or-zero .ensures),
+      table-filled _ _ (c .before .before .loop .out) i (c .entry-or-zero .result) (omega arith) (c .entry-or-zero .ensures) (h .2),
     )
 
 same-length : tie.Need-same-length Inv-loop μ-loop
@@ -52,7 +52,7 @@ returns : tie.Need-returns Inv-loop μ-loop
 returns c =
     let h = c .before .loop .inv in
     let w : c .before .loop .i ≡ length (c .before .before .before .before .args .out .now) = omega arith in
-    sym (take-all (c .before .loop .i) (c .before .loop .out) (omega arith)) ∙ h .2 ∙ ap (table _) w
+    all-filled _ _ _ _ w (h .2) ∙ ap (table _) w
 
 pub fill-spec : {M : Type 1} → statement M
 fill-spec =

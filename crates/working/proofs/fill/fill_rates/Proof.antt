@@ -6,19 +6,21 @@ use native.Mathlib.Omega.{arith}
 use lib.IntN.{pos}
 use mir.Syntax.{w64}
 use mir.Val.{toZ, ofZ}
-use lib.ListN.{length, getD, take, drop, length-set}
+use lib.ListN.{length, getD, drop, length-set}
 use borrow.Author.Needs.{needs}
-use Rattle.working.proofs.Filled.{one-filled, all-filled}
+use Rattle.model.specs.Numbers.{table}
+use Rattle.theory.proofs.Lists.{table-filled, table-of}
 use Rattle.working.proofs.fill.fill_rates.Statement.{statement}
 use Rattle.working.proofs.fill.fill_rates.Tie as tie
 
 abbrev Inv-loop : tie.InvT-loop
-Inv-loop out₀ entries i₀ out i = (i ≤ 240) × (length out ≡ length out₀) × (length entries ≡ 240) × (out ≡ take i entries ++ drop i out₀)
+Inv-loop out₀ entries i₀ out i = (i ≤ 240) × (length out ≡ length out₀) × (length entries ≡ 240) × (out ≡ table (λ k. getD entries k (pos 0)) i ++ drop i out₀)
 
 abbrev μ-loop : tie.MeasureT-loop
 μ-loop out₀ entries i₀ out i = 240 - i
 
 loop-holds : tie.Need-loop-holds Inv-loop μ-loop
+unfolding table
 loop-holds c = (omega arith, refl, search needs, refl)
 
 mul-out : tie.Need-mul-out Inv-loop μ-loop
@@ -43,12 +45,11 @@ loop-again : tie.Need-loop-again Inv-loop μ-loop
 loop-again c =
     let s = c .before .before .before in
     let l = c .before .before .loop in
-    let h : l .j < length (s .args .t1) = omega arith in
     let k : l .j < length (s .args .out .now) = omega (arith, s .pre) in
     let z = getD (s .args .t1) (l .j) (pos 0) in
     let e : toZ w64 (ofZ w64 z) ≡ z = search needs in
     rw e
-    (omega arith, length-set (l .out) (l .j) z ∙ l .inv .1, l .inv .2, one-filled (s .args .t1) (s .args .out .now) (l .out) (l .j) (pos 0) h k (l .inv .3))
+    (omega arith, length-set (l .out) (l .j) z ∙ l .inv .1, l .inv .2, table-filled _ (s .args .out .now) (l .out) (l .j) _ k refl (l .inv .3))
 
 same-length : tie.Need-same-length Inv-loop μ-loop
 same-length c = c .before .loop .inv .1
@@ -57,7 +58,8 @@ returns : tie.Need-returns Inv-loop μ-loop
 returns c =
     let s = c .before .before in
     let l = c .before .loop in
-    all-filled (s .args .t1) (s .args .out .now) (l .out) (l .j) 240 (l .inv .2) (omega arith) (l .inv .3)
+    let n : l .j ≡ 240 = omega arith in
+    l .inv .3 ∙ rw (n, table-of (s .args .t1) 240 (pos 0) (l .inv .2))
 
 pub fill-rates-spec : {M : Type 1} → statement M
 fill-rates-spec =

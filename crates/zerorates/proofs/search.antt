@@ -1,0 +1,2 @@
+-- What the proofs of the two searches share.
+mod Halved

@@ -1,0 +1,3 @@
+-- What the contracts of `zerorates` cite.
+pub mod Ranges
+pub mod Kept

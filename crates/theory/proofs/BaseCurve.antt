@@ -87,29 +87,33 @@ ufr-bound c b high = omega (arith, b .within .ufrMost)
 unfoldable pub weighedBound : End → ℕ → ℕ
 weighedBound e t = cond (leb t 60) ((1000 - weight t) * growthBound e + weight t * ufrBound e) (1000 * ufrBound e)
 
-weighed-bound : (c : Curve) → BaseWithin c → (e : End) (j : ℕ) → weighedBound e (suc j) ≤⟨ e ⟩ Rounded.weighed c e (suc j)
+bound-to-60 : (e : End) (t : ℕ) → t ≤ 60 → weighedBound e t ≡ (1000 - weight t) * growthBound e + weight t * ufrBound e
 unfolding weighedBound
+bound-to-60 e t h = cond-le t 60 _ _ h
+
+bound-from-61 : (e : End) (t : ℕ) → 60 < t → weighedBound e t ≡ 1000 * ufrBound e
+unfolding weighedBound
+bound-from-61 e t h = cond-gt t 60 _ _ h
+
+weighed-bound : (c : Curve) → BaseWithin c → (e : End) (j : ℕ) → weighedBound e (suc j) ≤⟨ e ⟩ Rounded.weighed c e (suc j)
 weighed-bound c b e j = go (decLe (suc j) 60)
   where
     go : Dec (suc j ≤ 60) → weighedBound e (suc j) ≤⟨ e ⟩ Rounded.weighed c e (suc j)
     go (yes h) =
-        rw (weighed-to-60 c e (suc j) h, cond-le (suc j) 60 ((1000 - weight (suc j)) * growthBound e + weight (suc j) * ufrBound e) (1000 * ufrBound e) h)
+        rw (bound-to-60 e (suc j) h, weighed-to-60 c e (suc j) h)
         (mixed (growthBound e) (ufrBound e) (1000 - weight (suc j)) (weight (suc j)) (growth-bound c b e j h) (ufr-bound c b e))
-    go (no h) =
-        rw (weighed-from-61 c e (suc j) (omega arith), cond-gt (suc j) 60 ((1000 - weight (suc j)) * growthBound e + weight (suc j) * ufrBound e) (1000 * ufrBound e) (omega arith))
-        (ufr-bound c b e)
+    go (no h) = rw (bound-from-61 e (suc j) (omega arith), weighed-from-61 c e (suc j) (omega arith)) (ufr-bound c b e)
 
 weighedBound-pos : (e : End) (t : ℕ) → 0 < weighedBound e t
-unfolding weighedBound
 weighedBound-pos e t = go (decLe t 60)
   where
     some : (e : End) (k v : ℕ) → 1000 ≤ k + v → 0 < k * growthBound e + v * ufrBound e
     some low k v h = omega arith
     some high k v h = omega arith
 
-    go : Dec (t ≤ 60) → 0 < cond (leb t 60) ((1000 - weight t) * growthBound e + weight t * ufrBound e) (1000 * ufrBound e)
-    go (yes h) = rw (cond-le t 60 ((1000 - weight t) * growthBound e + weight t * ufrBound e) (1000 * ufrBound e) h) (some e (1000 - weight t) (weight t) (omega arith))
-    go (no h) = rw (cond-gt t 60 ((1000 - weight t) * growthBound e + weight t * ufrBound e) (1000 * ufrBound e) (omega arith)) (omega (arith, some e 0 1000 (omega arith)))
+    go : Dec (t ≤ 60) → 0 < weighedBound e t
+    go (yes h) = rw (bound-to-60 e t h) (some e (1000 - weight t) (weight t) (omega arith))
+    go (no h) = rw (bound-from-61 e t (omega arith)) (omega (arith, some e 0 1000 (omega arith)))
 
 -- ---- the factor between closed numbers
 abbrev pub meanBound : End → ℕ

@@ -6,11 +6,11 @@ use mathlib.Core.Bool.{Bool, true, false, not, cond}
 use lib.Dec.{T, leb, le→leb}
 use lib.Arith.{lt→nleb}
 
-pub cond-yes {ℓ} : {A : Type ℓ} (b : Bool) (x y : A) → T b → cond b x y ≡ x
+cond-yes {ℓ} : {A : Type ℓ} (b : Bool) (x y : A) → T b → cond b x y ≡ x
 cond-yes true x y t = refl
 cond-yes false x y t = absurd t
 
-pub cond-no {ℓ} : {A : Type ℓ} (b : Bool) (x y : A) → T (not b) → cond b x y ≡ y
+cond-no {ℓ} : {A : Type ℓ} (b : Bool) (x y : A) → T (not b) → cond b x y ≡ y
 cond-no true x y t = absurd t
 cond-no false x y t = refl
 

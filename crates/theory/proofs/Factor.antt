@@ -4,8 +4,6 @@
 -- Assumes nothing.
 use Prim.Native.Nat.{ℕ, zero, suc, _+_, _*_, _-_, _^_, _≤_, _<_}
 use mathlib.Core.Path.{_≡_, _∙_, ap}
-use lib.Dec.{leb, le→leb}
-use lib.Arith.{lt→nleb}
 use native.Mathlib.Omega.{arith}
 use native.Mathlib.Nat.{mul-le-mul-left, pow-zero, mul-pos}
 use native.Mathlib.Decide.{decLe}
@@ -20,7 +18,7 @@ use Rattle.model.specs.Rounded as Rounded
 use Rattle.model.specs.Rounded.{scaled, ufrGrowth}
 use Rattle.model.specs.CurveWithin.{CurveWithin}
 use Rattle.theory.proofs.Bracket.{Bounded}
-use Rattle.theory.proofs.Conditions.{cond-yes, cond-no}
+use Rattle.theory.proofs.Conditions.{cond-le, cond-gt}
 use Rattle.theory.proofs.Powers.{pow-pos}
 use Rattle.theory.proofs.Steps.{same, cross, weigh, mixed, ends, across, exactly, scaled-in}
 use Rattle.theory.proofs.Growth.{growth-in, growth-width, growth-least, G-pos, G-suc, P-pos}
@@ -28,15 +26,15 @@ use Rattle.theory.proofs.Growth.{growth-in, growth-width, growth-least,
 -- which growth, by the term
 pub growth-to-20 : (c : Curve) (t : ℕ) → t ≤ 20 → Exact.growth c t ≡ G c t
 unfolding Exact.growth
-growth-to-20 c t h = cond-yes (leb t 20) _ _ (le→leb t 20 h)
+growth-to-20 c t h = cond-le t 20 _ _ h
 
 pub growth-to-60 : (c : Curve) (t : ℕ) → 20 < t → t ≤ 60 → Exact.growth c t ≡ Exact.weighed c t
 unfolding Exact.growth
-growth-to-60 c t h k = cond-no (leb t 20) _ _ (lt→nleb t 20 h) ∙ cond-yes (leb t 60) _ _ (le→leb t 60 k)
+growth-to-60 c t h k = cond-gt t 20 _ _ h ∙ cond-le t 60 _ _ k
 
 pub growth-from-61 : (c : Curve) (t : ℕ) → 60 < t → Exact.growth c t ≡ onePlusUfr c
 unfolding Exact.growth
-growth-from-61 c t h = cond-no (leb t 20) _ _ (lt→nleb t 20 (omega arith)) ∙ cond-no (leb t 60) _ _ (lt→nleb t 60 h)
+growth-from-61 c t h = cond-gt t 20 _ _ (omega arith) ∙ cond-gt t 60 _ _ h
 
 -- to 20 the product of the growths is (1 + R(t))^t
 product-first : (c : Curve) → CurveWithin c → (t : ℕ) → t ≤ 20 → Exact.product c t ≈ onePlusR c t ^ᶠ t
@@ -48,11 +46,11 @@ product-first c f (suc j) h = rw (growth-to-20 c (suc j) h, G-suc c j)
 -- the growth that a factor is divided by, from term 21
 pub weighed-to-60 : (c : Curve) (e : End) (t : ℕ) → t ≤ 60 → Rounded.weighed c e t ≡ divide e ((1000 - weight t) * Rounded.growth c e t + weight t * ufrGrowth c) 1000
 unfolding Rounded.weighed
-weighed-to-60 c e t h = cond-yes (leb t 60) _ _ (le→leb t 60 h)
+weighed-to-60 c e t h = cond-le t 60 _ _ h
 
 pub weighed-from-61 : (c : Curve) (e : End) (t : ℕ) → 60 < t → Rounded.weighed c e t ≡ ufrGrowth c
 unfolding Rounded.weighed
-weighed-from-61 c e t h = cond-no (leb t 60) _ _ (lt→nleb t 60 h)
+weighed-from-61 c e t h = cond-gt t 60 _ _ h
 
 ufr-in : (c : Curve) (e : End) → Bounded e unit (ufrGrowth c) (onePlusUfr c)
 ufr-in c e = exactly (omega arith)
@@ -103,11 +101,11 @@ factor-first c f e t h =
 
 pub rounded-factor-first : (c : Curve) (e : End) (j : ℕ) → suc j ≤ 20 → Rounded.factor c e (suc j) ≡ scaled e (c .N) (P c (suc j)) (suc j)
 unfolding Rounded.factor
-rounded-factor-first c e j h = cond-yes (leb (suc j) 20) _ _ (le→leb (suc j) 20 h)
+rounded-factor-first c e j h = cond-le (suc j) 20 _ _ h
 
 pub rounded-factor-next : (c : Curve) (e : End) (j : ℕ) → 20 < suc j → Rounded.factor c e (suc j) ≡ divide e (Rounded.factor c e j * unit) (Rounded.weighed c (other e) (suc j))
 unfolding Rounded.factor
-rounded-factor-next c e j h = cond-no (leb (suc j) 20) _ _ (lt→nleb (suc j) 20 h)
+rounded-factor-next c e j h = cond-gt (suc j) 20 _ _ h
 
 factor-next : (c : Curve) (t : ℕ) → Exact.factor c t ÷ᶠ Exact.growth c (suc t) ≈ Exact.factor c (suc t)
 unfolding Exact.factor Exact.product

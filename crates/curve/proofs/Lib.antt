@@ -5,4 +5,3 @@ pub mod Curves
 pub mod Shifting
 pub mod Growths
 pub mod Discounts
-pub mod Terms

@@ -1,16 +1,18 @@
 -- `curve::shift::shifted_curve` meets its contract. Before each turn the sums of the terms below t stand. Assumes nothing.
 use Prim.Native.Nat.{_-_, _≤_}
-use mathlib.Core.Path.{_≡_, refl}
+use mathlib.Core.Path.{_≡_, refl, ap, _∙_}
 use native.Mathlib.Omega.{arith}
-use lib.ListN.{length, take, length-set}
+use mathlib.Core.List.{_++_}
+use lib.ListN.{length, drop, length-set}
 use Rattle.model.specs.Numbers.{table}
 use Rattle.curve.specs.Shifted.{shiftedSum}
-use Rattle.curve.proofs.Shifting.{one-sum-more, all-sums, added-most, taken-most}
+use Rattle.theory.proofs.Lists.{table-filled, all-filled}
+use Rattle.curve.proofs.Shifting.{sum-at, all-sums, added-most, taken-most}
 use Rattle.curve.proofs.shift.shifted_curve.Statement.{statement}
 use Rattle.curve.proofs.shift.shifted_curve.Tie as tie
 
 abbrev Inv-loop : tie.InvT-loop
-Inv-loop more less case perStep n added taken sums₀ t₀ sums t = (1 ≤ t) × (t ≤ 61) × (length sums ≡ 61) × (take t sums ≡ table (shiftedSum more less case) t)
+Inv-loop more less case perStep n added taken sums₀ t₀ sums t = (1 ≤ t) × (t ≤ 61) × (length sums ≡ 61) × (sums ≡ table (shiftedSum more less case) t ++ drop t sums₀)
 
 abbrev μ-loop : tie.MeasureT-loop
 μ-loop more less case perStep n added taken sums₀ t₀ sums t = 61 - t
@@ -64,12 +66,13 @@ loop-less c = omega arith
 loop-again : tie.Need-loop-again Inv-loop μ-loop
 loop-again c =
     let inv = c .before .before .loop .inv in
-    (omega arith, omega arith, simp length-set (inv .2), one-sum-more _ _ _ _ _ (inv .0) (omega arith) (inv .3))
+    (omega arith, omega arith, simp length-set (inv .2), table-filled _ _ _ _ _ (omega arith) (sum-at _ _ _ _ (inv .0)) (inv .3))
 
 returns : tie.Need-returns Inv-loop μ-loop
 returns c =
     let inv = c .before .loop .inv in
-    all-sums _ _ _ _ _ (inv .2) (inv .1) (c .loop-test .left) (inv .3)
+    let n : c .before .loop .t ≡ 61 = omega arith in
+    all-sums _ _ _ _ (all-filled _ _ _ _ n (inv .3) ∙ ap (table _) n)
 
 pub shifted-curve-spec : {M : Type 1} → statement M
 shifted-curve-spec =

@@ -62,7 +62,7 @@ def compare_listings(comparison, kind, batch):
     comparison.same(kind, batch, found, expected)
 
 
-# ---------------------------------------------------------------- curves
+# ---------------------------------------------------------------- buffers
 
 def curve_files(rng, count):
     """Files for a comparison of the buffers, one of them refused."""
@@ -72,7 +72,7 @@ def curve_files(rng, count):
 
 
 def compare_curves(comparison, batch):
-    comparison.same("factors and zero rates", batch, programs.curves(batch), map(programs.curve, batch))
+    comparison.same("factors and zero rates", batch, programs.buffers(batch), map(programs.curve, batch))
 
 
 # ---------------------------------------------------------------- demand 3
@@ -108,7 +108,7 @@ def compare_exactly(comparison, rng, count):
     cases = exact_cases(rng, count)
     batch = [files.file_of(rng, case) for case in cases]
     listings, wrong = programs.listings(batch), []
-    for case, data, listing, curve in zip(cases, batch, listings, programs.curves(batch)):
+    for case, data, listing, curve in zip(cases, batch, listings, programs.buffers(batch)):
         broken = demand3(case, Exact(case), engine_figures(case, listing, curve))
         if broken:
             wrong.append((data, "broken: " + "; ".join(broken)))

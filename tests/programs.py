@@ -87,10 +87,10 @@ def row(words):
     return " ".join(map(str, words)).encode() + b"\n"
 
 
-# ---------------------------------------------------------------- curves
+# ---------------------------------------------------------------- buffers
 
-def curves(files):
-    return answers("curves", files, rb"F .*\nZ .*\n")
+def buffers(files):
+    return answers("buffers", files, rb"F .*\nZ .*\n")
 
 
 def curve(data):

@@ -1,6 +1,6 @@
-"""Writes the input and the expected output of the programs vectors, readings and curves, both from the reference alone.
+"""Writes the input and the expected output of the programs vectors, readings and buffers, both from the reference alone.
 
-Command line: python3 tests/vectors.py           writes crates/{vectors,readings,curves}/{stdin,stdout}
+Command line: python3 tests/vectors.py           writes crates/{vectors,readings,buffers}/{stdin,stdout}
               python3 tests/vectors.py --check   ends with 1 if one of them is another
 """
 
@@ -49,9 +49,9 @@ def wanted():
     """Every file that this script writes, by its path."""
     stored = vector_files()
     assert {programs.outcome(reference.listing(data)) for data in stored} == set(programs.OUTCOMES)
-    curves = stored[:12] + stored[12:75:5] + stored[-4:]
+    buffers = stored[:12] + stored[12:75:5] + stored[-4:]
     runs = {"vectors": (stored, reference.listing), "readings": (stored[::3], programs.reading),
-            "curves": (curves, programs.curve)}
+            "buffers": (buffers, programs.curve)}
     texts = {}
     for name, (batch, answer) in runs.items():
         texts[f"crates/{name}/stdin"] = programs.framed(batch)

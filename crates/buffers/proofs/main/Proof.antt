@@ -1,7 +1,7 @@
--- `curves::main` is safe and ends: the turns that are left fall. Assumes nothing.
+-- `buffers::main` is safe and ends: the turns that are left fall. Assumes nothing.
 use native.Mathlib.Omega.{arith}
-use Rattle.curves.proofs.main.Statement.{statement}
-use Rattle.curves.proofs.main.Tie as tie
+use Rattle.buffers.proofs.main.Statement.{statement}
+use Rattle.buffers.proofs.main.Tie as tie
 
 abbrev Inv-loop : tie.InvT-loop
 Inv-loop turns₀ turns = Unit {0}

@@ -1,27 +1,24 @@
--- `curves::print_rates` is safe and ends. Assumes nothing.
+-- `buffers::print_numbers` is safe and ends. Assumes nothing.
 use borrow.Author.Needs.{needs}
 use Prim.Native.Nat.{_≤_, _-_}
 use lib.ListN.{length}
-use Rattle.curves.proofs.print_rates.Statement.{statement}
-use Rattle.curves.proofs.print_rates.Tie as tie
+use Rattle.buffers.proofs.print_numbers.Statement.{statement}
+use Rattle.buffers.proofs.print_numbers.Tie as tie
 
 abbrev Inv-loop : tie.InvT-loop
-Inv-loop rates i₀ i = i ≤ length rates
+Inv-loop numbers i₀ i = i ≤ length numbers
 
 abbrev μ-loop : tie.MeasureT-loop
-μ-loop rates i₀ i = length rates - i
+μ-loop numbers i₀ i = length numbers - i
 
 loop-holds : tie.Need-loop-holds Inv-loop μ-loop
 loop-holds c = search needs
 
-mul-raised : tie.Need-mul-raised Inv-loop μ-loop
-mul-raised c = search needs
+mul-print-number : tie.Need-mul-print-number Inv-loop μ-loop
+mul-print-number c = search needs
 
-shared-slice-copy-out-raised : tie.Need-shared-slice-copy-out-raised Inv-loop μ-loop
-shared-slice-copy-out-raised c = search needs
-
-raised-requires : tie.Need-raised-requires Inv-loop μ-loop
-raised-requires c κs = search needs
+shared-slice-read-print-number : tie.Need-shared-slice-read-print-number Inv-loop μ-loop
+shared-slice-read-print-number c = search needs
 
 print-number-requires : tie.Need-print-number-requires Inv-loop μ-loop
 print-number-requires c κs = search needs
@@ -38,16 +35,15 @@ loop-again c = search needs
 returns : tie.Need-returns Inv-loop μ-loop
 returns c = search needs
 
-pub print-rates-spec : {M : Type 1} → statement M
-print-rates-spec =
+pub print-numbers-spec : {M : Type 1} → statement M
+print-numbers-spec =
     tie.close
     (tie.spec
     Inv-loop
     μ-loop
     loop-holds
-    mul-raised
-    shared-slice-copy-out-raised
-    raised-requires
+    mul-print-number
+    shared-slice-read-print-number
     print-number-requires
     add-i
     loop-less

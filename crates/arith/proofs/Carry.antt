@@ -4,7 +4,7 @@ use mathlib.Core.Path.{_≡_, sym, ap, _∙_, subst}
 use native.Mathlib.Nat.{mul-le-mul, add-zero, zero-add, div-add-mod', lt-of-le-of-lt}
 use native.Mathlib.Omega.{arith}
 use lib.Dec.{lit<}
-use Rattle.arith.specs.Value.{value}
+use Rattle.arith.specs.inner.Value.{value}
 
 -- a product of two digits leaves room for two digits more
 pub digits-product : {d k : ℕ} → d < 2 ^ 32 → k < 2 ^ 32 → d * k ≤ (2 ^ 32 - 1) * (2 ^ 32 - 1)

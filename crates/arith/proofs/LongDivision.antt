@@ -4,7 +4,7 @@ use mathlib.Core.Path.{_≡_, sym, ap, _∙_}
 use native.Mathlib.Nat.{mul-le-mul, div-add-mod', mod-lt, div-lt-iff-lt-mul}
 use native.Mathlib.Omega.{arith}
 use lib.Arith.{digits-div, digits-mod}
-use Rattle.arith.specs.Range.{InRange}
+use Rattle.arith.specs.inner.Range.{InRange}
 use Rattle.arith.specs.Rounding.{high, divide}
 use Rattle.arith.proofs.Rounding.{divide-high-exact, divide-high-more}
 

@@ -6,7 +6,7 @@ use lib.Dec.{leb}
 use borrow.Author.Tests.{le-leb, lt-leb}
 use native.Mathlib.Nat.{le-of-lt}
 use native.Mathlib.Omega.{arith}
-use Rattle.arith.specs.Value.{value}
+use Rattle.arith.specs.inner.Value.{value}
 
 abbrev three : (x0 x1 x2 : ℕ) → ℕ
 three x0 x1 x2 = x0 + 2 ^ 64 * (x1 + 2 ^ 64 * x2)

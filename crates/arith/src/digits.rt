@@ -2,7 +2,7 @@
 ghost use mathlib.Core.Path.{_≡_};
 ghost use Prim.Native.Nat.{_+_, _*_, _^_, _<_};
 ghost use lib.Dec.{leb};
-ghost use Rattle.arith.specs.Value.{val};
+ghost use Rattle.arith.specs.inner.Value.{val};
 
 // Six digits, the least first. Every value of the type is a number: val in specs/Value.antt says which.
 pub struct Wide {

@@ -3,7 +3,7 @@ ghost use mathlib.Core.Path.{_≡_};
 ghost use Prim.Native.Nat.{_*_, _^_, _≤_, _<_};
 ghost use Rattle.arith.specs.Rounding.{low, high};
 ghost use Rattle.arith.specs.Root.{root};
-ghost use Rattle.arith.specs.Value.{val};
+ghost use Rattle.arith.specs.inner.Value.{val};
 use super::digits::Wide;
 use super::digits::at_most;
 use super::digits::product;

@@ -2,7 +2,7 @@
 // and where it passes them. There is no loop.
 ghost use mathlib.Core.Path.{_≡_};
 ghost use Prim.Native.Nat.{_*_, _/_, _%_};
-ghost use Rattle.arith.specs.Range.{Small, InRange};
+ghost use Rattle.arith.specs.inner.Range.{Small, InRange};
 ghost use Rattle.arith.specs.Rounding.{low, high, divide};
 
 // x * a / b, rounded down.

@@ -8,9 +8,9 @@ use borrow.Author.Tests.{le-leb, lt-leb, ltb-true}
 use lib.Dec.{leb, ltb}
 use Rattle.model.specs.Reading.{hasUfr, pensionAt, bondsAt, hasBonds, amountsAt, hasAmounts, shocksAt, peopleAt}
 use Rattle.model.specs.Refusals.{Check, firstOf, within, mapChecks, ufrChecks, daysChecks, flowsChecks, amountsChecks, shocksChecks, peopleChecks, checks, refusal}
-use Rattle.theory.proofs.Lists.{and-first, and-second, and-both}
-use Rattle.theory.proofs.Checks.{numbered}
-use Rattle.casefile.specs.Order.{mapToDays, pensionToAmounts, shocksToEnd}
+use Rattle.theory.proofs.general.Lists.{and-first, and-second, and-both}
+use Rattle.theory.proofs.acceptance.Checks.{numbered}
+use Rattle.casefile.specs.inner.Order.{mapToDays, pensionToAmounts, shocksToEnd}
 
 -- ---- one check
 

@@ -11,10 +11,10 @@ use Rattle.model.specs.Case.{noAmounts, s}
 use Rattle.model.specs.Curve.{base, movedSum, curve, natural, P}
 use Rattle.model.specs.Held.{padded, held}
 use Rattle.model.specs.Reading.{daysAt, dayCount, pensionAt, pensionCount, bondsAt, bondCount, daysOf, amountsOf, shocksOf, caseOf}
-use Rattle.theory.proofs.Lists.{length-table}
-use Rattle.theory.proofs.Accepted.{days-length}
-use Rattle.numbers.specs.Rates.{daysFrom, sumWith}
-use Rattle.casefile.specs.Fields.{amountsFrom, shocksFrom}
+use Rattle.theory.proofs.general.Lists.{length-table}
+use Rattle.theory.proofs.acceptance.Accepted.{days-length}
+use Rattle.numbers.specs.inner.Rates.{daysFrom, sumWith}
+use Rattle.casefile.specs.inner.Fields.{amountsFrom, shocksFrom}
 
 -- a run of numbers, at the position and with the count of the definition
 pub run-at : (file : List ℕ) (width room : ℕ) {p q n m : ℕ} {v : List ℕ} → v ≡ padded room (table (entry file p width) n) → p ≡ q → n ≡ m

@@ -10,7 +10,7 @@ use Rattle.model.specs.Held.{held, defaultCase}
 use Rattle.model.specs.Reading.{daysAt, dayCount, pensionAt, caseOf}
 use Rattle.model.specs.Refusals.{daysChecks, refusal, ratesPartAfter, ratesPart}
 use Rattle.model.specs.declared.case.Case.{Case}
-use Rattle.theory.proofs.Checks.{accepted-passed}
+use Rattle.theory.proofs.acceptance.Checks.{accepted-passed}
 use Rattle.casefile.specs.Answers.{answerOf, caseAfter, readingOf, ratesFrom, behind}
 use Rattle.casefile.specs.declared.Answer.the-variants.{Accepted, Refused}
 

@@ -1,4 +1,3 @@
--- What the reader answers, and the parts in which it goes through a file.
-pub mod Order
-pub mod Fields
+-- Answers has to be believed: what the reader answers. inner serves contracts of this crate and proofs.
 pub mod Answers
+pub mod inner

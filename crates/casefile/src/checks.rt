@@ -18,7 +18,7 @@ use numbers::runs::number_at;
 ghost use mathlib.Core.Path.{_≡_};
 ghost use Prim.Native.Nat.{_<_, _≤_};
 ghost use Rattle.model.specs.Refusals.{firstOf, bitsRight, mapChecks, daysChecks, flowsChecks, shocksChecks, peopleChecks, endChecks};
-ghost use Rattle.casefile.specs.Order.{optionalUfr, optionalBonds, optionalAmounts};
+ghost use Rattle.casefile.specs.inner.Order.{optionalUfr, optionalBonds, optionalAmounts};
 
 // Bits 1, 2, 5 and 6 stand, and none above them.
 fn bits_right(map: u64) -> bool

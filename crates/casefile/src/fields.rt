@@ -21,7 +21,7 @@ ghost use mathlib.Core.Path.{_≡_};
 ghost use mathlib.Core.Bool.{cond};
 ghost use Rattle.model.specs.Held.{padded, held};
 ghost use Rattle.model.specs.Reading.{hasAmounts, caseOf};
-ghost use Rattle.casefile.specs.Fields.{amountsFrom, shocksFrom};
+ghost use Rattle.casefile.specs.inner.Fields.{amountsFrom, shocksFrom};
 
 fn ufr_in(file: &[u8]) -> u64
     ensures { λ r. ⌜ r ≡ caseOf (now (file .entry)) .ufr ⌝ }

@@ -13,7 +13,7 @@ use numbers::positions::people_at;
 use numbers::positions::shocks_at;
 ghost use mathlib.Core.Path.{_≡_};
 ghost use Rattle.model.specs.Refusals.{firstOf};
-ghost use Rattle.casefile.specs.Order.{mapToDays, pensionToAmounts, shocksToEnd};
+ghost use Rattle.casefile.specs.inner.Order.{mapToDays, pensionToAmounts, shocksToEnd};
 
 // The checks of the map, the UFR and the days.
 pub fn map_to_days(file: &[u8]) -> u8

@@ -1,7 +1,4 @@
--- Laws of the rounded curve that the proofs of the functions cite, and the conclusions for their callers.
+-- Laws that several modules cite, and Curves, which other crates cite too. What serves one module is in that module's folder.
 pub mod Years
 pub mod Weighing
 pub mod Curves
-pub mod Shifting
-pub mod Growths
-pub mod Discounts

@@ -4,15 +4,15 @@ use mathlib.Core.Path.{_≡_, refl, sym, _∙_}
 use native.Mathlib.Omega.{arith}
 use native.Mathlib.Numerals.{add-one}
 use native.Mathlib.Nat.{mul-le-mul}
-use Rattle.arith.specs.Range.{Small, InRange}
+use Rattle.arith.specs.inner.Range.{Small, InRange}
 use Rattle.arith.specs.Rounding.{End, low, high, divide}
 use Rattle.model.specs.Constants.{unit}
 use Rattle.model.specs.Rounded.{scaled}
 use Rattle.model.specs.Brackets.{bracket, endOf}
 use Rattle.model.specs.declared.figures.Bracket.{Bracket}
-use Rattle.theory.proofs.Steps.{scaled-ends}
-use Rattle.curve.specs.Ranges.{TimesWithin, ScaledWithin, GrowthWithin}
-use Rattle.theory.proofs.ByEnds.{by-ends, end-is}
+use Rattle.theory.proofs.curve.Steps.{scaled-ends}
+use Rattle.curve.specs.inner.Ranges.{TimesWithin, ScaledWithin, GrowthWithin}
+use Rattle.theory.proofs.general.ByEnds.{by-ends, end-is}
 
 pub scaled-none : (e : End) (a b : ℕ) → scaled e a b 0 ≡ unit
 unfolding scaled

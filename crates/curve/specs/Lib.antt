@@ -1,3 +1,3 @@
--- What the contracts of `curve` cite.
-pub mod Shifted
-pub mod Ranges
+-- Nothing here has to be believed: the contracts of `curve` are equalities with the definitions of `model`, over curves as the code holds
+-- them.
+pub mod inner

@@ -4,7 +4,7 @@ ghost use Prim.Native.Nat.{_+_, _*_, _-_};
 ghost use Rattle.arith.specs.Rounding.{divide};
 ghost use Rattle.model.specs.Rounded.{scaled};
 ghost use Rattle.model.specs.Brackets.{bracket, endOf};
-ghost use Rattle.curve.specs.Ranges.{ScaledWithin, GrowthWithin, WeighWithin};
+ghost use Rattle.curve.specs.inner.Ranges.{ScaledWithin, GrowthWithin, WeighWithin};
 use super::times::times_both;
 use model::case::Case;
 use model::figures::Bracket;

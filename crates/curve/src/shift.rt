@@ -1,7 +1,7 @@
 // A curve of a case, as N and the sums P(t): the base curve, or one whose mean rates are shifted.
 ghost use mathlib.Core.Path.{_≡_};
-ghost use Rattle.curve.specs.Shifted.{shiftedSums};
-ghost use Rattle.curve.specs.Ranges.{ShiftWithin};
+ghost use Rattle.curve.specs.inner.Shifted.{shiftedSums};
+ghost use Rattle.curve.specs.inner.Ranges.{ShiftWithin};
 use model::case::Case;
 
 // `n` is N; `sums` has P(0) to P(60), which are N times 1 + the mean rate, so that no mean is rounded. `ufr` is in rate steps.

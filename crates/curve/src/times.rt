@@ -3,7 +3,7 @@ ghost use mathlib.Core.Path.{_≡_};
 ghost use Prim.Native.Nat.{_*_};
 ghost use Rattle.arith.specs.Rounding.{divide};
 ghost use Rattle.model.specs.Brackets.{bracket, endOf};
-ghost use Rattle.curve.specs.Ranges.{TimesWithin};
+ghost use Rattle.curve.specs.inner.Ranges.{TimesWithin};
 use arith::scale::mul_div_ceil;
 use arith::scale::mul_div_floor;
 use arith::scale::times_ceil;

@@ -24,11 +24,11 @@ use Rattle.model.specs.declared.figures.Figures.{Figures}
 use Rattle.model.specs.declared.figures.Verdict.{Verdict}
 use Rattle.model.specs.declared.figures.Valuation.{Valuation}
 use Rattle.model.specs.declared.figures.Valuation.the-variants.{Refused, Valued}
-use Rattle.theory.proofs.Acceptance.{accepted-keeps, keeps-accepted}
-use Rattle.theory.proofs.Demand3Proved.{IsRounded}
-use Rattle.theory.proofs.Entries.{length-byTerm, lower-entry, upper-entry, by-term}
-use Rattle.theory.proofs.Files.{demand3-of-files}
-use Rattle.theory.proofs.Lists.{and-first, and-second}
+use Rattle.theory.proofs.acceptance.Acceptance.{accepted-keeps, keeps-accepted}
+use Rattle.theory.proofs.demand3.Demand3Proved.{IsRounded}
+use Rattle.theory.proofs.general.Entries.{length-byTerm, lower-entry, upper-entry, by-term}
+use Rattle.theory.proofs.demand3.Files.{demand3-of-files}
+use Rattle.theory.proofs.general.Lists.{and-first, and-second}
 use Rattle.casefile.proofs.AcceptedReading.{slice-bytes}
 use Rattle.engine.specs.Guarantee.{given, RefusedCall, AcceptedCall, AcceptedExactly, Call}
 use Rattle.engine.proofs.Valued.{passes, fails}

@@ -22,8 +22,8 @@ use Rattle.casefile.specs.declared.Reading.{Reading}
 use Rattle.casefile.proofs.AcceptedReading.{accepted-reading, reading-number}
 use Rattle.engine.specs.Guarantee.{Call}
 use Rattle.solvency.specs.declared.figures.Money.{Money}
-use Rattle.working.specs.Ranges.{CaseFits}
-use Rattle.working.specs.Working.{factorsOn, ratesOn, moneyOn}
+use Rattle.working.specs.inner.Ranges.{CaseFits}
+use Rattle.working.specs.inner.Working.{factorsOn, ratesOn, moneyOn}
 use Rattle.working.proofs.HeldCase.{held-fits, held-factors, held-rates, held-money}
 
 -- one check in front of others

@@ -1,2 +1,2 @@
--- What holds of every call of `value`.
+-- Guarantee has to be believed: what holds of every call of `value`.
 pub mod Guarantee

@@ -1,2 +1,2 @@
--- What the contracts of `host` cite beside the definitions of `model`.
+-- Flat has to be believed: what hosts are given, by the definitions of `model`.
 pub mod Flat

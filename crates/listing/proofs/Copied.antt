@@ -7,8 +7,8 @@ use lib.ListN.{length, take, drop}
 use lib.Seq.{sets-eq, length-sets, length-take-le, take-at}
 use Rattle.model.specs.Listing.{listing, listingAfter, listingLength}
 use Rattle.model.specs.declared.figures.Valuation.{Valuation}
-use Rattle.theory.proofs.Conditions.{cond-le, cond-gt}
-use Rattle.output.specs.Wrote.{Wrote}
+use Rattle.theory.proofs.general.Conditions.{cond-le, cond-gt}
+use Rattle.output.specs.inner.Wrote.{Wrote}
 
 -- the bytes that are written to the front of a buffer
 in-front : {b t : List ℕ} {m r : ℕ} {a : List ℕ} → Wrote b 0 t m r a → r ≤ length b → a ≡ t ++ drop (length t) b

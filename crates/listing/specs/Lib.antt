@@ -1,2 +1,2 @@
--- What the contracts of `listing` cite beside the definitions of `model`.
-pub mod Parts
+-- Nothing here has to be believed: what is listed is defined in `model`.
+pub mod inner

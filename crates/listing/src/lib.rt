@@ -9,8 +9,8 @@ ghost use mathlib.Core.Path.{_≡_};
 ghost use Prim.Native.Nat.{_+_, _≤_};
 ghost use lib.ListN.{length, take};
 ghost use Rattle.model.specs.Listing.{word, listing, listingAfter, listingLength};
-ghost use Rattle.output.specs.Wrote.{Wrote};
-ghost use Rattle.listing.specs.Parts.{spaced, named, values, firstLosses, lastLosses, judged};
+ghost use Rattle.output.specs.inner.Wrote.{Wrote};
+ghost use Rattle.listing.specs.inner.Parts.{spaced, named, values, firstLosses, lastLosses, judged};
 
 // A space and a number.
 fn put_number(buf: &mut [u8], at: usize, n: u64) -> usize

@@ -6,7 +6,6 @@ use lib.ListN.{length, getD}
 use lib.IntN.{ℤ, pos, negsuc, negℤ, _+ℤ_, _*ℤ_}
 use Rattle.model.specs.Constants.{stepsPerOne}
 use Rattle.model.specs.Case.{FileCase, s}
-use Rattle.model.specs.declared.case.Shocks.{Shocks}
 
 -- N, the sums s(t) as integers, and the UFR in steps: the mean rate R(t) is s(t) ÷ N
 pub record Curve : Type 0 where
@@ -22,17 +21,6 @@ abbrev pub shift : FileCase → Move → ℤ
 shift k base = pos 0
 shift k up = pos (k .shocks .«up_shift»)
 shift k down = negℤ (pos (k .shocks .«down_shift»))
-
--- the same as natural numbers: the steps that a curve adds to every mean rate, and those that it takes
-abbrev pub added : Shocks → Move → ℕ
-added x base = 0
-added x up = x .«up_shift»
-added x down = 0
-
-abbrev pub taken : Shocks → Move → ℕ
-taken x base = 0
-taken x up = 0
-taken x down = x .«down_shift»
 
 -- "Up and down curves add the shift to, or take it from, every mean rate at terms 1 to 60": to the sum over n days n × shift, and
 -- s(0) stays 0

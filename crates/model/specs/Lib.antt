@@ -1,4 +1,4 @@
--- Document 01 as definitions, a file a section, in its order.
+-- Document 01 as definitions, a file a section, in its order. All of it has to be believed, except what is in inner.
 pub mod Constants
 pub mod Numbers
 pub mod Case
@@ -9,7 +9,6 @@ pub mod Refusals
 pub mod Fraction
 pub mod Brackets
 pub mod Curve
-pub mod CurveWithin
 pub mod Held
 pub mod Exact
 pub mod Rounded
@@ -18,3 +17,4 @@ pub mod Demand3
 pub mod Buffers
 pub mod Window
 pub mod Listing
+pub mod inner

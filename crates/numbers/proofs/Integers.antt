@@ -10,7 +10,7 @@ use lib.IntN.{ℤ, pos, negsuc, negℤ, _+ℤ_, _-ℤ_}
 use lib.Signed.{leZ}
 use Rattle.model.specs.Numbers.{twosComplement}
 use Rattle.model.specs.Refusals.{withinZ}
-use Rattle.theory.proofs.Differences.{Diff, again, diff-pos, diff-sum, diff-neg, diff-minus}
+use Rattle.theory.proofs.general.Differences.{Diff, again, diff-pos, diff-sum, diff-neg, diff-minus}
 
 -- two tests of order that say the same
 pub same-leb : (a b c d : ℕ) → (a ≤ b → c ≤ d) → (c ≤ d → a ≤ b) → leb a b ≡ leb c d

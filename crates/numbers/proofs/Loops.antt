@@ -9,7 +9,7 @@ use native.Mathlib.Numerals.{add-one}
 use native.Mathlib.Omega.{arith}
 use lib.ListN.{getD, List·getD-eq-default}
 use Rattle.model.specs.Numbers.{every, table}
-use Rattle.theory.proofs.Lists.{length-table}
+use Rattle.theory.proofs.general.Lists.{length-table}
 
 -- a position in a run of numbers: up to eight bytes each, up to 5,000 of them
 pub run-most : (w i : ℕ) → w ≤ 8 → i ≤ 5000 → w * i ≤ 40000

@@ -13,9 +13,9 @@ use Rattle.model.specs.Numbers.{entry, twosComplement, table}
 use Rattle.model.specs.Case.{s}
 use Rattle.model.specs.Limits.{forward}
 use Rattle.model.specs.Refusals.{withinZ}
-use Rattle.theory.proofs.Differences.{Diff, again, diff-sum, diff-minus, diff-times}
-use Rattle.theory.proofs.Lists.{getD-table}
-use Rattle.numbers.specs.Rates.{daysFrom, sumWith}
+use Rattle.theory.proofs.general.Differences.{Diff, again, diff-sum, diff-minus, diff-times}
+use Rattle.theory.proofs.general.Lists.{getD-table}
+use Rattle.numbers.specs.inner.Rates.{daysFrom, sumWith}
 use Rattle.numbers.proofs.Integers.{same-leb, diff-within, diff-raised, raised-diff}
 
 -- one day more at the end

@@ -1,2 +1,2 @@
--- The rates of days that begin at a position.
-pub mod Rates
+-- Nothing here has to be believed.
+pub mod inner

@@ -8,7 +8,7 @@ ghost use lib.IntN.{pos, _+ℤ_};
 ghost use Rattle.model.specs.Constants.{stepsPerOne};
 ghost use Rattle.model.specs.Numbers.{entry, every, table, twosComplement};
 ghost use Rattle.model.specs.Curve.{natural};
-ghost use Rattle.numbers.specs.Rates.{rateWithin, sumWith, forwardWithin};
+ghost use Rattle.numbers.specs.inner.Rates.{rateWithin, sumWith, forwardWithin};
 
 // Whether 16 bits are a rate of -1,000 to 10,000 steps: from 32,768 on they stand for 65,536 less,
 // so that 64,536 is -1,000.

@@ -10,7 +10,7 @@ use lib.ListN.{length, set, take, getD, length-append}
 use lib.Seq.{sets, take-suc, length-take-le}
 use borrow.Author.Tests.{lt-ltb, le-ltb}
 use Rattle.model.specs.Listing.{digits}
-use Rattle.output.specs.Wrote.{Wrote}
+use Rattle.output.specs.inner.Wrote.{Wrote}
 
 sets-join : (t u b : List ℕ) (at : ℕ) → sets b at (t ++ u) ≡ sets (sets b at t) (at + length t) u
 sets-join [] u b at = rw add-zero

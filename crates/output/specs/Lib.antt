@@ -1,2 +1,2 @@
--- What the contracts of `output` cite beside the definitions of `model`.
-pub mod Wrote
+-- Nothing here has to be believed: it says what one write leaves, for the contracts of this crate and those above it.
+pub mod inner

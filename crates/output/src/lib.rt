@@ -2,7 +2,7 @@
 ghost use Prim.Native.Nat.{_+_, _^_, _≤_, _<_};
 ghost use lib.ListN.{length};
 ghost use Rattle.model.specs.Listing.{digits};
-ghost use Rattle.output.specs.Wrote.{Wrote};
+ghost use Rattle.output.specs.inner.Wrote.{Wrote};
 
 // Stores text from at on, and answers the offset after it.
 pub fn put(buf: &mut [u8], at: usize, text: &[u8]) -> usize

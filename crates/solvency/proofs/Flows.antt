@@ -10,13 +10,13 @@ use native.Mathlib.Numerals.{add-one}
 use lib.Dec.{lit≤, lit<}
 use lib.ListN.{length, getD, take}
 use lib.Seq.{take-suc, length-take-le}
-use Rattle.arith.specs.Range.{InRange}
+use Rattle.arith.specs.inner.Range.{InRange}
 use Rattle.arith.specs.Rounding.{End, low, high, divide}
 use Rattle.arith.proofs.Rounding.{divide-le}
 use Rattle.model.specs.Rounded.{worth}
 use Rattle.model.specs.Brackets.{bracket}
 use Rattle.model.specs.declared.figures.Bracket.{Bracket}
-use Rattle.solvency.specs.Ranges.{FactorsFit}
+use Rattle.solvency.specs.inner.Ranges.{FactorsFit}
 
 worth-last : (e : End) (f : ℕ → ℕ) (t : ℕ) (xs : List ℕ) (x : ℕ) → worth e f t (xs ++ (x ∷ [])) ≡ worth e f t xs + divide e (x * f (t + length xs)) (10 ^ 10)
 unfolding worth

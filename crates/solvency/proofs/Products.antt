@@ -5,7 +5,7 @@ use mathlib.Core.Path.{_≡_, sym, ap, _∙_}
 use native.Mathlib.Omega.{arith}
 use native.Mathlib.Nat.{mul-le-mul, mul-le-mul-left, le-trans, lt-of-le-of-lt, lt-of-lt-of-le, le-refl}
 use lib.Dec.{lit≤, lit<}
-use Rattle.arith.specs.Range.{InRange}
+use Rattle.arith.specs.inner.Range.{InRange}
 use Rattle.arith.specs.Rounding.{End, low, high, divide}
 use Rattle.arith.specs.Root.{root}
 use Rattle.arith.proofs.Rounding.{divide-le, divide-common}
@@ -14,7 +14,7 @@ use Rattle.model.specs.Limits.{AmountsWithin, ShocksWithin}
 use Rattle.model.specs.Rounded.{creditLoss}
 use Rattle.model.specs.declared.case.Amounts.{Amounts}
 use Rattle.model.specs.declared.case.Shocks.{Shocks}
-use Rattle.solvency.specs.Ranges.{UpTo}
+use Rattle.solvency.specs.inner.Ranges.{UpTo}
 
 -- a bracket whose figure is at most m at both ends
 pub up-to : (m a b : ℕ) (f : End → ℕ) → a ≡ f low → b ≡ f high → ((e : End) → f e ≤ m) → UpTo m (record { lower = a; upper = b })

@@ -14,8 +14,8 @@ use Rattle.model.specs.declared.case.People.{People}
 use Rattle.model.specs.declared.figures.Bracket.{Bracket}
 use Rattle.model.specs.declared.figures.Figures.{Figures}
 use Rattle.model.specs.declared.figures.Verdict.{Verdict}
-use Rattle.solvency.specs.OnCurves.{on, moneyOf}
-use Rattle.solvency.specs.Ranges.{UpTo, WorthFits}
+use Rattle.solvency.specs.inner.OnCurves.{on, moneyOf}
+use Rattle.solvency.specs.inner.Ranges.{UpTo, WorthFits}
 use Rattle.solvency.specs.declared.worth.Worths.{Worths}
 use Rattle.solvency.specs.declared.figures.Money.{Money}
 

@@ -1,3 +1,2 @@
--- What the contracts of `solvency` cite beside the model's own figures.
-pub mod OnCurves
-pub mod Ranges
+-- Nothing here has to be believed: the contracts of `solvency` are equalities with the figures of `model`, by their parts.
+pub mod inner

@@ -1,10 +1,10 @@
 // The root buffer S.
 ghost use mathlib.Core.Path.{_≡_};
 ghost use Prim.Native.Nat.{_+_, _*_, _^_, _≤_, _<_};
-ghost use Rattle.arith.specs.Value.{val};
+ghost use Rattle.arith.specs.inner.Value.{val};
 ghost use Rattle.model.specs.Brackets.{bracket, endOf};
 ghost use Rattle.model.specs.Rounded as Rounded;
-ghost use Rattle.solvency.specs.Ranges.{UpTo, LossFits, SixFit};
+ghost use Rattle.solvency.specs.inner.Ranges.{UpTo, LossFits, SixFit};
 use super::roots::roots;
 use arith::digits::Wide;
 use arith::digits::product;

@@ -4,8 +4,8 @@ ghost use Rattle.model.specs.Limits.{AmountsWithin, ShocksWithin, PeopleWithin}
 ghost use Rattle.model.specs.Brackets.{bracket, endOf};
 ghost use Rattle.model.specs.Rounded as Rounded;
 ghost use Rattle.model.specs.Rounded.{figuresOf};
-ghost use Rattle.solvency.specs.OnCurves.{on, moneyOf};
-ghost use Rattle.solvency.specs.Ranges.{WorthFits, WorthsFit, Judgeable};
+ghost use Rattle.solvency.specs.inner.OnCurves.{on, moneyOf};
+ghost use Rattle.solvency.specs.inner.Ranges.{WorthFits, WorthsFit, Judgeable};
 use super::buffer::buffer;
 use super::interest::s1;
 use super::losses::s2;

@@ -3,8 +3,8 @@ ghost use mathlib.Core.Path.{_≡_};
 ghost use Prim.Native.Nat.{_-_, max};
 ghost use Rattle.model.specs.Rounded.{fallOf, interestLoss};
 ghost use Rattle.model.specs.Brackets.{bracket, endOf};
-ghost use Rattle.solvency.specs.OnCurves.{on};
-ghost use Rattle.solvency.specs.Ranges.{WorthFits, WorthsFit, LossFits};
+ghost use Rattle.solvency.specs.inner.OnCurves.{on};
+ghost use Rattle.solvency.specs.inner.Ranges.{WorthFits, WorthsFit, LossFits};
 use super::worth::Worths;
 use model::figures::Bracket;
 

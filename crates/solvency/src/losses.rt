@@ -5,7 +5,7 @@ ghost use Rattle.arith.specs.Rounding.{divide};
 ghost use Rattle.model.specs.Limits.{AmountsWithin, ShocksWithin};
 ghost use Rattle.model.specs.Rounded.{equityLoss, currencyLoss, commodityLoss, creditLoss};
 ghost use Rattle.model.specs.Brackets.{bracket};
-ghost use Rattle.solvency.specs.Ranges.{LossFits};
+ghost use Rattle.solvency.specs.inner.Ranges.{LossFits};
 use arith::digits::product;
 use arith::scale::mul_div_ceil;
 use arith::scale::mul_div_floor;

@@ -4,7 +4,7 @@ ghost use Rattle.model.specs.Case.{ageGap};
 ghost use Rattle.model.specs.Limits.{PeopleWithin};
 ghost use Rattle.model.specs.Brackets.{bracket, endOf};
 ghost use Rattle.model.specs.Rounded.{mortalityLoss};
-ghost use Rattle.solvency.specs.Ranges.{WorthFits, LossFits};
+ghost use Rattle.solvency.specs.inner.Ranges.{WorthFits, LossFits};
 use super::roots::roots;
 use arith::digits::product;
 use model::case::People;

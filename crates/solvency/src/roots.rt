@@ -1,8 +1,8 @@
 // The root of a fraction at both ends of a bracket.
 ghost use mathlib.Core.Path.{_≡_};
 ghost use Prim.Native.Nat.{_*_, _^_, _<_};
-ghost use Rattle.arith.specs.Value.{val};
-ghost use Rattle.solvency.specs.Ranges.{Roots};
+ghost use Rattle.arith.specs.inner.Value.{val};
+ghost use Rattle.solvency.specs.inner.Ranges.{Roots};
 use arith::digits::Wide;
 use arith::halving::root_ceil;
 use arith::halving::root_floor;

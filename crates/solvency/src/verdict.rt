@@ -2,7 +2,7 @@
 ghost use mathlib.Core.Path.{_≡_};
 ghost use Rattle.model.specs.Brackets.{endOf};
 ghost use Rattle.model.specs.Rounded.{judge};
-ghost use Rattle.solvency.specs.Ranges.{Judgeable};
+ghost use Rattle.solvency.specs.inner.Ranges.{Judgeable};
 use model::figures::Bracket;
 use model::figures::Verdict;
 

@@ -1,2 +1,2 @@
--- What the contracts of `valuation` cite. Assumes nothing.
+-- Input has to be believed: what can be said of reading.
 pub mod Input

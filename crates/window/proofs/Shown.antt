@@ -22,14 +22,14 @@ use Rattle.model.specs.Window.{double, figuresInOrder, factorPoint, factorBrack
 use Rattle.model.specs.declared.figures.Bracket.{Bracket}
 use Rattle.model.specs.declared.figures.Figures.{Figures}
 use Rattle.model.specs.declared.window.Point.the-variants.{Factor, Money}
-use Rattle.theory.proofs.Accepted.{within-limits}
-use Rattle.theory.proofs.CaseCurves.{curve-within}
-use Rattle.theory.proofs.MoneySizes.{factor-most, L-most, B-most, A-most, S1-most, S2-most, S3-most, S4-most, S5-most, S6-most, S-most}
+use Rattle.theory.proofs.acceptance.Accepted.{within-limits}
+use Rattle.theory.proofs.curve.CaseCurves.{curve-within}
+use Rattle.theory.proofs.money.MoneySizes.{factor-most, L-most, B-most, A-most, S1-most, S2-most, S3-most, S4-most, S5-most, S6-most, S-most}
 use Rattle.window.specs.Shown.{FactorShown, MoneyShown, Shown}
 use Rattle.window.proofs.Whole.{holds}
 use Rattle.window.proofs.Points as Points
 use Rattle.window.proofs.Points.{noBracket, none-shown, later-shown, factor-shown, money-shown}
-use Rattle.theory.proofs.Entries.{length-byTerm, lower-entry, upper-entry}
+use Rattle.theory.proofs.general.Entries.{length-byTerm, lower-entry, upper-entry}
 
 figure-shown : (f : Figures) (figure : End → ℕ) (p : ℕ) → 120 < p → p ≤ 130
     → bracket figure ≡ getD (figuresInOrder f) (p - 121) noBracket → ((e : End) → figure e ≤ 2 ^ 53) → MoneyShown p f figure

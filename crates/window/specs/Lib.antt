@@ -1,3 +1,3 @@
--- What the contracts and the theorems of `window` cite beside the definitions of `model`.
+-- Both have to be believed. Holds: a bracket as two doubles. Shown: what holds of every point after a valuation.
 pub mod Holds
 pub mod Shown

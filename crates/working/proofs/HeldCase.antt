@@ -15,14 +15,14 @@ use Rattle.model.specs.Held.{padded, held}
 use Rattle.model.specs.Buffers.{byTerm, factorEntries, rateEntries}
 use Rattle.model.specs.Rounded as Rounded
 use Rattle.model.specs.Rounded.{rateOf}
-use Rattle.theory.proofs.Lists.{length-table, getD-table}
-use Rattle.curve.specs.Shifted.{curveHeld}
+use Rattle.theory.proofs.general.Lists.{length-table, getD-table}
+use Rattle.curve.specs.inner.Shifted.{curveHeld}
 use Rattle.working.proofs.HeldCurves.{held-per-step-most, held-curve-within, held-base-within, held-factor}
-use Rattle.solvency.specs.OnCurves.{moneyOf}
-use Rattle.solvency.specs.Ranges.{FlowsFit}
+use Rattle.solvency.specs.inner.OnCurves.{moneyOf}
+use Rattle.solvency.specs.inner.Ranges.{FlowsFit}
 use Rattle.solvency.specs.declared.figures.Money.{Money}
-use Rattle.working.specs.Ranges.{CaseFits}
-use Rattle.working.specs.Working.{factorsOn, ratesOn, moneyOn}
+use Rattle.working.specs.inner.Ranges.{CaseFits}
+use Rattle.working.specs.inner.Working.{factorsOn, ratesOn, moneyOn}
 
 -- the flows of a padded list
 take-padded : (n : ℕ) (xs : List ℕ) → length xs ≤ n → take (length xs) (padded n xs) ≡ xs

@@ -5,15 +5,16 @@ use native.Mathlib.Omega.{arith}
 use lib.ListN.{length, getD}
 use Rattle.model.specs.Case.{FileCase}
 use Rattle.model.specs.Limits.{WithinLimits}
-use Rattle.model.specs.Curve.{Move, base, added, taken, curve, P}
+use Rattle.model.specs.Curve.{Move, base, curve, P}
+use Rattle.model.specs.inner.Shifts.{added, taken}
 use Rattle.model.specs.Held.{held}
 use Rattle.model.specs.Rounded as Rounded
-use Rattle.theory.proofs.Lists.{getD-table}
-use Rattle.model.specs.CurveWithin.{CurveWithin, BaseWithin}
-use Rattle.theory.proofs.CaseCurves.{N-is, ufr-is, P-zero, P-shifted, curve-within, base-within}
-use Rattle.curve.specs.Shifted.{shiftedSum, shiftedSums, movedSums, curveHeld}
+use Rattle.theory.proofs.general.Lists.{getD-table}
+use Rattle.model.specs.inner.CurveWithin.{CurveWithin, BaseWithin}
+use Rattle.theory.proofs.curve.CaseCurves.{N-is, ufr-is, P-zero, P-shifted, curve-within, base-within}
+use Rattle.curve.specs.inner.Shifted.{shiftedSum, shiftedSums, movedSums, curveHeld}
 use Rattle.curve.proofs.Curves.{N-of, ufr-of, P-of}
-use Rattle.theory.proofs.Agree.{Agree, agree-back, same-factors, same-within, same-base}
+use Rattle.theory.proofs.curve.Agree.{Agree, agree-back, same-factors, same-within, same-base}
 
 -- ---- the curves of a case
 module _ (k : FileCase) (w : WithinLimits k) where

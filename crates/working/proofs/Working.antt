@@ -8,29 +8,30 @@ use lib.IntN.{ℤ}
 use lib.ListN.{length, take, getD, drop}
 use lib.Seq.{length-take-le}
 use Rattle.arith.specs.Rounding.{End, low, high}
-use Rattle.model.specs.Curve.{Curve, Move, base, up, down, added, taken, P}
-use Rattle.model.specs.CurveWithin.{CurveWithin}
+use Rattle.model.specs.Curve.{Curve, Move, base, up, down, P}
+use Rattle.model.specs.inner.Shifts.{added, taken}
+use Rattle.model.specs.inner.CurveWithin.{CurveWithin}
 use Rattle.model.specs.Buffers.{byTerm, entryOf}
 use Rattle.model.specs.Rounded as Rounded
 use Rattle.model.specs.Rounded.{worth, rateOf}
 use Rattle.model.specs.declared.case.Case.{Case}
 use Rattle.model.specs.declared.figures.Valuation.the-variants.{Valued}
-use Rattle.theory.proofs.Lists.{getD-table}
-use Rattle.theory.proofs.Entries.{length-byTerm, entry-is}
-use Rattle.theory.proofs.MoneySizes.{factor-most}
+use Rattle.theory.proofs.general.Lists.{getD-table}
+use Rattle.theory.proofs.general.Entries.{length-byTerm, entry-is}
+use Rattle.theory.proofs.money.MoneySizes.{factor-most}
 use Rattle.curve.specs.declared.shift.CurveSums.{CurveSums}
-use Rattle.curve.specs.Shifted.{curveOf, shiftedSum, shiftedSums, movedSums, curveHeld}
-use Rattle.curve.specs.Ranges.{ShiftWithin, FactorsWithin}
+use Rattle.curve.specs.inner.Shifted.{curveOf, shiftedSum, shiftedSums, movedSums, curveHeld}
+use Rattle.curve.specs.inner.Ranges.{ShiftWithin, FactorsWithin}
 use Rattle.curve.proofs.Curves.{N-of, P-of}
-use Rattle.zerorates.specs.Ranges.{RatesWithin}
+use Rattle.zerorates.specs.inner.Ranges.{RatesWithin}
 use Rattle.zerorates.proofs.RateEntries.{rates-of-entries, entries-within}
-use Rattle.solvency.specs.OnCurves.{on, worths, entriesOn, moneyOf}
-use Rattle.solvency.specs.Ranges.{FlowsFit, FactorsFit, CurvesFit}
+use Rattle.solvency.specs.inner.OnCurves.{on, worths, entriesOn, moneyOf}
+use Rattle.solvency.specs.inner.Ranges.{FlowsFit, FactorsFit, CurvesFit}
 use Rattle.solvency.specs.declared.figures.Money.{Money}
 use Rattle.solvency.specs.declared.worth.Worths.{Worths}
 use Rattle.solvency.specs.declared.worth.Curves.{Curves}
-use Rattle.working.specs.Ranges.{CaseFits}
-use Rattle.working.specs.Working.{factorsOn, curvesOn, ratesOn, owed, bonds, moneyBy, moneyOn}
+use Rattle.working.specs.inner.Ranges.{CaseFits}
+use Rattle.working.specs.inner.Working.{factorsOn, curvesOn, ratesOn, owed, bonds, moneyBy, moneyOn}
 
 -- ---- the curves
 -- the base curve's sums are the case's own

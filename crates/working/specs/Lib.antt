@@ -1,4 +1,3 @@
--- Nothing here has to be believed: `working` is called by crates above it, and what they promise is stated by the definitions of `model`.
--- Working names what the contracts of this crate compute, in the words of `model`; Ranges has what they require.
-pub mod Ranges
-pub mod Working
+-- Nothing here has to be believed: what is promised of a file is stated by the definitions of `model`, and proofs/HeldCase.antt is the
+-- bridge to them.
+pub mod inner

@@ -9,7 +9,7 @@ use lib.Seq.{getD-set-same, getD-set-other}
 use Rattle.arith.specs.Rounding.{low}
 use Rattle.model.specs.Constants.{unit}
 use Rattle.model.specs.Rounded.{tested}
-use Rattle.zerorates.specs.Kept.{Kept}
+use Rattle.zerorates.specs.inner.Kept.{Kept}
 use Rattle.zerorates.proofs.Tested.{tested-none}
 
 -- a result kept in place d

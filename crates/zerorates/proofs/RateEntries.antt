@@ -9,10 +9,10 @@ use Rattle.model.specs.Rounded as Rounded
 use Rattle.model.specs.Rounded.{stepAt, tested, rateOf}
 use Rattle.model.specs.Brackets.{largest, smallest}
 use Rattle.model.specs.Buffers.{byTerm, entryOf}
-use Rattle.model.specs.CurveWithin.{BaseWithin}
-use Rattle.theory.proofs.Entries.{entry-is}
-use Rattle.theory.proofs.ZeroRate.{first-passes, last-passes}
-use Rattle.zerorates.specs.Ranges.{RatesWithin}
+use Rattle.model.specs.inner.CurveWithin.{BaseWithin}
+use Rattle.theory.proofs.general.Entries.{entry-is}
+use Rattle.theory.proofs.curve.ZeroRate.{first-passes, last-passes}
+use Rattle.zerorates.specs.inner.Ranges.{RatesWithin}
 
 -- lists of the same figures
 same-terms : {A : Type 0} (f g : End → ℕ → A) (n : ℕ) → ((e : End) (t : ℕ) → 1 ≤ t → t ≤ n → f e t ≡ g e t) → byTerm f n ≡ byTerm g n

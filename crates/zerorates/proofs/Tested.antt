@@ -6,15 +6,15 @@ use native.Mathlib.Omega.{arith}
 use native.Mathlib.Numerals.{add-one}
 use borrow.Author.Tests.{le-leb, lt-leb}
 use lib.Dec.{leb}
-use Rattle.arith.specs.Range.{Small}
+use Rattle.arith.specs.inner.Range.{Small}
 use Rattle.arith.specs.Rounding.{End, low, high, divide}
 use Rattle.model.specs.Constants.{unit}
 use Rattle.model.specs.Numbers.{every}
 use Rattle.model.specs.Rounded.{scaled, tested}
-use Rattle.theory.proofs.Lists.{every-le}
-use Rattle.theory.proofs.Steps.{scaled-ends}
-use Rattle.theory.proofs.RateTests.{tested-small, testWidth, tested-width}
-use Rattle.zerorates.specs.Ranges.{StepWithin}
+use Rattle.theory.proofs.general.Lists.{every-le}
+use Rattle.theory.proofs.curve.Steps.{scaled-ends}
+use Rattle.theory.proofs.curve.RateTests.{tested-small, testWidth, tested-width}
+use Rattle.zerorates.specs.inner.Ranges.{StepWithin}
 
 -- over no years
 pub tested-none : (e : End) (i : ℕ) → tested e 0 i ≡ unit

@@ -1,3 +1,2 @@
--- What the contracts of `zerorates` cite.
-pub mod Ranges
-pub mod Kept
+-- Nothing here has to be believed: the contracts of `zerorates` are equalities with the definitions of `model`.
+pub mod inner

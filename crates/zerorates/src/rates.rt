@@ -3,7 +3,7 @@ ghost use mathlib.Core.Path.{_≡_};
 ghost use Prim.Native.Nat.{_≤_};
 ghost use Rattle.model.specs.Rounded.{stepAt, rateOf};
 ghost use Rattle.model.specs.Buffers.{byTerm, entryOf};
-ghost use Rattle.zerorates.specs.Ranges.{RatesWithin};
+ghost use Rattle.zerorates.specs.inner.Ranges.{RatesWithin};
 use super::search::search_lower_rate;
 use super::search::search_upper_rate;
 use model::case::Case;

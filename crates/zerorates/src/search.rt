@@ -8,8 +8,8 @@ ghost use lib.Dec.{leb};
 ghost use Rattle.arith.specs.Rounding.{low, high};
 ghost use Rattle.model.specs.Rounded.{tested};
 ghost use Rattle.model.specs.Brackets.{largest, smallest};
-ghost use Rattle.zerorates.specs.Ranges.{LowerWithin, UpperWithin};
-ghost use Rattle.zerorates.specs.Kept.{Kept};
+ghost use Rattle.zerorates.specs.inner.Ranges.{LowerWithin, UpperWithin};
+ghost use Rattle.zerorates.specs.inner.Kept.{Kept};
 use super::memo::lower_result;
 use super::memo::upper_passes;
 

@@ -2,7 +2,7 @@
 use mathlib.Core.Path.{refl}
 use Rattle.model.specs.Numbers.{table}
 use Rattle.model.specs.Listing.{ascii}
-use Rattle.listing.specs.Parts.{lastLosses}
+use Rattle.listing.specs.inner.Parts.{lastLosses}
 use Rattle.output.proofs.Stores.{then}
 use Rattle.listing.proofs.Texts.{as-line}
 use borrow.Author.Needs.{needs}

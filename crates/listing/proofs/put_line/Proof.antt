@@ -3,7 +3,7 @@ use native.Mathlib.Omega.{arith}
 use mathlib.Core.Path.{refl}
 use Rattle.model.specs.Numbers.{table}
 use Rattle.model.specs.Listing.{ascii}
-use Rattle.listing.specs.Parts.{named}
+use Rattle.listing.specs.inner.Parts.{named}
 use Rattle.output.proofs.Stores.{then, as-text}
 use borrow.Author.Needs.{needs}
 use Rattle.listing.proofs.put_line.Statement.{statement}

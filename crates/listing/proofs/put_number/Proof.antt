@@ -1,7 +1,7 @@
 -- `put_number`: the space, then the digits.
 use Rattle.model.specs.Numbers.{table}
 use Rattle.model.specs.Listing.{ascii, decimal}
-use Rattle.listing.specs.Parts.{spaced}
+use Rattle.listing.specs.inner.Parts.{spaced}
 use Rattle.output.proofs.Stores.{then}
 use borrow.Author.Needs.{needs}
 use Rattle.listing.proofs.put_number.Statement.{statement}

@@ -12,7 +12,7 @@ use mir.Val.{toZ, ofZ}
 use Rattle.arith.specs.Rounding.{low, high}
 use Rattle.model.specs.Rounded.{stepAt, tested, rateOf}
 use Rattle.model.specs.Brackets.{largest, smallest}
-use Rattle.zerorates.specs.Ranges.{LowerWithin, UpperWithin, RatesWithin}
+use Rattle.zerorates.specs.inner.Ranges.{LowerWithin, UpperWithin, RatesWithin}
 use Rattle.zerorates.proofs.rates.Signed.{stored}
 
 module _ (factors : List ℕ) (t : ℕ) where

@@ -9,8 +9,8 @@ use Rattle.arith.specs.Rounding.{low, high}
 use Rattle.arith.proofs.Bisection.{Parted, middle-left, middle-right, neighbours, test-left, halves-near}
 use Rattle.model.specs.Rounded.{tested}
 use Rattle.model.specs.Brackets.{largest, smallest}
-use Rattle.theory.proofs.Search.{largest-is, smallest-is}
-use Rattle.theory.proofs.RateTests.{tested-anti}
+use Rattle.theory.proofs.general.Search.{largest-is, smallest-is}
+use Rattle.theory.proofs.curve.RateTests.{tested-anti}
 
 -- Place p is step p - 1: nothing is said of place 0, which is ahead of the first step, nor of place 22,002, which is past the last.
 abbrev leftPlace : (ℕ → Type 0) → ℕ → Type 0

@@ -1,7 +1,7 @@
 -- `arith::digits::at_most` meets its contract, by the words of the two numbers. Assumes nothing.
 use native.Mathlib.Omega.{arith}
 use borrow.Author.Needs.{needs}
-use Rattle.arith.specs.Value.{val}
+use Rattle.arith.specs.inner.Value.{val}
 use Rattle.arith.proofs.Order.{Words, in-words, less-2, more-2, less-1, more-1, less-0, more-0}
 use Rattle.arith.proofs.digits.at_most.Statement.{statement}
 use Rattle.arith.proofs.digits.at_most.Tie as tie

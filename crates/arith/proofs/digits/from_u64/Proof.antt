@@ -1,7 +1,7 @@
 -- `arith::digits::from_u64` meets its contract. Assumes nothing.
 use native.Mathlib.Omega.{arith}
 use borrow.Author.Needs.{needs}
-use Rattle.arith.specs.Value.{val}
+use Rattle.arith.specs.inner.Value.{val}
 use Rattle.arith.proofs.digits.from_u64.Statement.{statement}
 use Rattle.arith.proofs.digits.from_u64.Tie as tie
 

@@ -1,5 +1,5 @@
 -- `arith::digits::moved_up` meets its contract. Assumes nothing.
-use Rattle.arith.specs.Value.{val}
+use Rattle.arith.specs.inner.Value.{val}
 use Rattle.arith.proofs.Carry.{digits-move}
 use Rattle.arith.proofs.digits.moved_up.Statement.{statement}
 use Rattle.arith.proofs.digits.moved_up.Tie as tie

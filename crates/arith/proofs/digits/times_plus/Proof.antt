@@ -1,6 +1,6 @@
 -- `arith::digits::times_plus` meets its contract: six steps, of which the last carries nothing. Assumes nothing.
 use borrow.Author.Needs.{needs}
-use Rattle.arith.specs.Value.{val}
+use Rattle.arith.specs.inner.Value.{val}
 use Rattle.arith.proofs.Carry.{six-steps}
 use Rattle.arith.proofs.digits.times_plus.Statement.{statement}
 use Rattle.arith.proofs.digits.times_plus.Tie as tie

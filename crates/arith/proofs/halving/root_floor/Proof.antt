@@ -4,7 +4,7 @@ use mathlib.Core.Path.{refl}
 use native.Mathlib.Nat.{lt-of-lt-of-le}
 use borrow.Author.Needs.{needs}
 use native.Mathlib.Omega.{arith}
-use Rattle.arith.specs.Value.{val}
+use Rattle.arith.specs.inner.Value.{val}
 use Rattle.arith.proofs.Root.{root-low-is}
 use Rattle.arith.proofs.Bisection.{Parted, middle-left, middle-right, neighbours, test-true, test-false}
 use Rattle.arith.proofs.halving.root_floor.Statement.{statement}

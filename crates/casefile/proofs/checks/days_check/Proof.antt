@@ -6,7 +6,7 @@ use lib.ListN.{length}
 use Rattle.model.specs.Numbers.{entry, every, twosComplement}
 use Rattle.model.specs.Reading.{daysAt, dayCount, pensionAt}
 use Rattle.model.specs.Refusals.{daysChecks}
-use Rattle.numbers.specs.Rates.{rateWithin}
+use Rattle.numbers.specs.inner.Rates.{rateWithin}
 use Rattle.casefile.proofs.FirstOf.{first, none, pass, fail, pass-le, fail-le, pass-within, fail-below, fail-above}
 use borrow.Author.Needs.{needs}
 use Rattle.casefile.proofs.checks.days_check.Statement.{statement}

@@ -6,7 +6,7 @@ use lib.ListN.{length}
 use Rattle.model.specs.Numbers.{every}
 use Rattle.model.specs.Reading.{daysOf, endAt}
 use Rattle.model.specs.Refusals.{endChecks}
-use Rattle.numbers.specs.Rates.{daysFrom, forwardWithin}
+use Rattle.numbers.specs.inner.Rates.{daysFrom, forwardWithin}
 use Rattle.casefile.proofs.FirstOf.{first, none, pass, fail, pass-le, fail-le}
 use borrow.Author.Needs.{needs}
 use Rattle.casefile.proofs.checks.end_check.Statement.{statement}

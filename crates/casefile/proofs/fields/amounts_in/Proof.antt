@@ -1,7 +1,7 @@
 -- `casefile::fields::amounts_in` meets its contract. Assumes nothing.
 use mathlib.Core.Path.{ap, _∙_}
 use Rattle.model.specs.Reading.{amountsAt, hasAmounts, caseOf}
-use Rattle.casefile.specs.Fields.{amountsFrom}
+use Rattle.casefile.specs.inner.Fields.{amountsFrom}
 use Rattle.casefile.proofs.HeldCase.{run-at, amounts-are}
 use borrow.Author.Needs.{needs}
 use Rattle.casefile.proofs.fields.amounts_in.Statement.{statement}

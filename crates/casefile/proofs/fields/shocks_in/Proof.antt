@@ -1,7 +1,7 @@
 -- `casefile::fields::shocks_in` meets its contract. Assumes nothing.
 use mathlib.Core.Path.{refl, ap, _∙_}
 use Rattle.model.specs.Reading.{shocksAt, caseOf}
-use Rattle.casefile.specs.Fields.{shocksFrom}
+use Rattle.casefile.specs.inner.Fields.{shocksFrom}
 use Rattle.casefile.proofs.HeldCase.{run-at, shocks-are}
 use borrow.Author.Needs.{needs}
 use Rattle.casefile.proofs.fields.shocks_in.Statement.{statement}

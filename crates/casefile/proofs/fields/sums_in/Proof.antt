@@ -3,7 +3,7 @@ use mathlib.Core.Path.{ap₂, _∙_}
 use Prim.Native.Nat.{_+_}
 use Rattle.model.specs.Numbers.{table}
 use Rattle.model.specs.Curve.{natural}
-use Rattle.numbers.specs.Rates.{sumWith}
+use Rattle.numbers.specs.inner.Rates.{sumWith}
 use Rattle.casefile.proofs.HeldCase.{sums-are}
 use borrow.Author.Needs.{needs}
 use Rattle.casefile.proofs.fields.sums_in.Statement.{statement}

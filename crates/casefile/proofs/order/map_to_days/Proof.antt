@@ -1,6 +1,6 @@
 -- `casefile::order::map_to_days` meets its contract. Assumes nothing.
 use mathlib.Core.Path.{sym, _∙_}
-use Rattle.casefile.specs.Order.{mapToDays}
+use Rattle.casefile.specs.inner.Order.{mapToDays}
 use Rattle.casefile.proofs.FirstOf.{first-stops, second-stops, third-decides, map-numbered, ufr-numbered}
 use borrow.Author.Needs.{needs}
 use Rattle.casefile.proofs.order.map_to_days.Statement.{statement}

@@ -1,7 +1,7 @@
 -- `casefile::order::pension_to_amounts` meets its contract. Assumes nothing.
 use mathlib.Core.Path.{ap, sym, _∙_}
 use Rattle.model.specs.Refusals.{firstOf, flowsChecks}
-use Rattle.casefile.specs.Order.{pensionToAmounts}
+use Rattle.casefile.specs.inner.Order.{pensionToAmounts}
 use Rattle.casefile.proofs.FirstOf.{first-stops, second-stops, third-decides, pension-numbered, bonds-numbered}
 use borrow.Author.Needs.{needs}
 use Rattle.casefile.proofs.order.pension_to_amounts.Statement.{statement}

@@ -1,7 +1,7 @@
 -- `casefile::order::shocks_to_end` meets its contract. Assumes nothing.
 use mathlib.Core.Path.{ap, sym, _∙_}
 use Rattle.model.specs.Refusals.{firstOf, shocksChecks, peopleChecks}
-use Rattle.casefile.specs.Order.{shocksToEnd}
+use Rattle.casefile.specs.inner.Order.{shocksToEnd}
 use Rattle.casefile.proofs.FirstOf.{first-stops, second-stops, third-decides, shocks-numbered, people-numbered}
 use borrow.Author.Needs.{needs}
 use Rattle.casefile.proofs.order.shocks_to_end.Statement.{statement}

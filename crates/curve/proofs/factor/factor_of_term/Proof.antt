@@ -1,6 +1,6 @@
 -- `curve::factor::factor_of_term` meets its contract. Assumes nothing.
 use borrow.Author.Needs.{needs}
-use Rattle.curve.proofs.Discounts.{first-within, first-is, cross-within, next-is}
+use Rattle.curve.proofs.factor.Discounts.{first-within, first-is, cross-within, next-is}
 use Rattle.curve.proofs.factor.factor_of_term.Statement.{statement}
 use Rattle.curve.proofs.factor.factor_of_term.Tie as tie
 

@@ -5,9 +5,9 @@ use native.Mathlib.Omega.{arith}
 use mathlib.Core.List.{_++_}
 use lib.ListN.{length, drop, length-set}
 use Rattle.model.specs.Numbers.{table}
-use Rattle.curve.specs.Shifted.{shiftedSum}
-use Rattle.theory.proofs.Lists.{table-filled, all-filled}
-use Rattle.curve.proofs.Shifting.{sum-at, all-sums, added-most, taken-most}
+use Rattle.curve.specs.inner.Shifted.{shiftedSum}
+use Rattle.theory.proofs.general.Lists.{table-filled, all-filled}
+use Rattle.curve.proofs.shift.Shifting.{sum-at, all-sums, added-most, taken-most}
 use Rattle.curve.proofs.shift.shifted_curve.Statement.{statement}
 use Rattle.curve.proofs.shift.shifted_curve.Tie as tie
 

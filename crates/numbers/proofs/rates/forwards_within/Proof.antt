@@ -9,7 +9,7 @@ use native.Mathlib.Nat.{mul-le-mul}
 use native.Mathlib.Numerals.{add-one}
 use native.Mathlib.Omega.{arith}
 use Rattle.model.specs.Numbers.{every}
-use Rattle.numbers.specs.Rates.{daysFrom, forwardWithin}
+use Rattle.numbers.specs.inner.Rates.{daysFrom, forwardWithin}
 use Rattle.numbers.proofs.Loops.{every-fails, every-more}
 use Rattle.numbers.proofs.TermSums.{Weighted, none-weighted, sum-weighted, forward-limits}
 use Rattle.numbers.proofs.rates.forwards_within.Statement.{statement}

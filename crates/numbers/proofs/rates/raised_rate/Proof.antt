@@ -3,7 +3,7 @@ use Prim.Native.Nat.{_+_, _-_}
 use borrow.Author.Needs.{needs}
 use native.Mathlib.Omega.{arith}
 use Rattle.model.specs.Numbers.{twosComplement}
-use Rattle.theory.proofs.Differences.{again}
+use Rattle.theory.proofs.general.Differences.{again}
 use Rattle.numbers.proofs.Integers.{diff-raised, lower-half, upper-half}
 use Rattle.numbers.proofs.rates.raised_rate.Statement.{statement}
 use Rattle.numbers.proofs.rates.raised_rate.Tie as tie

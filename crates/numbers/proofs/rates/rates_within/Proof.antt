@@ -5,7 +5,7 @@ use Prim.Native.Nat.{_≤_, _-_}
 use borrow.Author.Needs.{needs}
 use native.Mathlib.Omega.{arith}
 use Rattle.model.specs.Numbers.{entry, every, twosComplement}
-use Rattle.numbers.specs.Rates.{rateWithin}
+use Rattle.numbers.specs.inner.Rates.{rateWithin}
 use Rattle.numbers.proofs.Loops.{every-fails, every-more}
 use Rattle.numbers.proofs.rates.rates_within.Statement.{statement}
 use Rattle.numbers.proofs.rates.rates_within.Tie as tie

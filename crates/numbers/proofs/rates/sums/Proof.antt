@@ -7,8 +7,8 @@ use mathlib.Core.List.{_++_}
 use lib.ListN.{length, drop, length-set}
 use Rattle.model.specs.Numbers.{table}
 use Rattle.model.specs.Curve.{natural}
-use Rattle.numbers.specs.Rates.{sumWith}
-use Rattle.theory.proofs.Lists.{table-filled, all-filled}
+use Rattle.numbers.specs.inner.Rates.{sumWith}
+use Rattle.theory.proofs.general.Lists.{table-filled, all-filled}
 use Rattle.numbers.proofs.rates.sums.Statement.{statement}
 use Rattle.numbers.proofs.rates.sums.Tie as tie
 

@@ -3,7 +3,7 @@ use mathlib.Core.Path.{sym, _∙_}
 use borrow.Author.Needs.{needs}
 use lib.Dec.{lit<}
 use lib.ListN.{List·getD-eq-default}
-use Rattle.theory.proofs.Encoding.{number-one}
+use Rattle.theory.proofs.acceptance.Encoding.{number-one}
 use Rattle.numbers.proofs.runs.byte_at.Statement.{statement}
 use Rattle.numbers.proofs.runs.byte_at.Tie as tie
 

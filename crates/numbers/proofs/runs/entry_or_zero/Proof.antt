@@ -1,7 +1,7 @@
 -- `numbers::runs::entry_or_zero` meets its contract. Assumes nothing.
 use mathlib.Core.Path.{sym, _∙_}
 use native.Mathlib.Omega.{arith}
-use Rattle.theory.proofs.Lists.{getD-table}
+use Rattle.theory.proofs.general.Lists.{getD-table}
 use Rattle.numbers.proofs.Loops.{run-most, table-behind}
 use Rattle.numbers.proofs.runs.entry_or_zero.Statement.{statement}
 use Rattle.numbers.proofs.runs.entry_or_zero.Tie as tie

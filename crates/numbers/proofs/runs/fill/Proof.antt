@@ -6,7 +6,7 @@ use native.Mathlib.Omega.{arith}
 use mathlib.Core.List.{_++_}
 use lib.ListN.{length, drop, getD, length-set}
 use Rattle.model.specs.Numbers.{entry, table}
-use Rattle.theory.proofs.Lists.{table-filled, all-filled}
+use Rattle.theory.proofs.general.Lists.{table-filled, all-filled}
 use Rattle.numbers.proofs.runs.fill.Statement.{statement}
 use Rattle.numbers.proofs.runs.fill.Tie as tie
 

@@ -1,7 +1,7 @@
 -- `solvency::interest::fall` meets its contract. Assumes nothing.
 use Rattle.model.specs.Rounded.{fallOf}
 use Rattle.model.specs.Brackets.{endOf}
-use Rattle.theory.proofs.ByEnds.{bracket-by}
+use Rattle.theory.proofs.general.ByEnds.{bracket-by}
 use borrow.Author.Needs.{needs}
 use Rattle.solvency.proofs.interest.fall.Statement.{statement}
 use Rattle.solvency.proofs.interest.fall.Tie as tie

@@ -3,9 +3,9 @@ use Prim.Native.Nat.{_*_, _^_}
 use Rattle.arith.specs.Rounding.{low, high}
 use Rattle.model.specs.Curve.{base, up, down}
 use Rattle.model.specs.Rounded.{fallOf, interestLoss}
-use Rattle.solvency.specs.OnCurves.{on}
+use Rattle.solvency.specs.inner.OnCurves.{on}
 use Rattle.solvency.proofs.Products.{larger-end, larger-most, fall-most}
-use Rattle.theory.proofs.ByEnds.{bracket-by, end-is}
+use Rattle.theory.proofs.general.ByEnds.{bracket-by, end-is}
 use borrow.Author.Needs.{needs}
 use Rattle.solvency.proofs.interest.s1.Statement.{statement}
 use Rattle.solvency.proofs.interest.s1.Tie as tie

@@ -4,7 +4,7 @@ use native.Mathlib.Omega.{arith}
 use Rattle.arith.specs.Rounding.{low, high}
 use Rattle.model.specs.Rounded.{creditLoss}
 use Rattle.solvency.proofs.Products.{years-most, widened-most, credit-range, credit-is, credit-most, up-to}
-use Rattle.theory.proofs.ByEnds.{bracket-by}
+use Rattle.theory.proofs.general.ByEnds.{bracket-by}
 use Rattle.solvency.proofs.losses.s5.Statement.{statement}
 use Rattle.solvency.proofs.losses.s5.Tie as tie
 

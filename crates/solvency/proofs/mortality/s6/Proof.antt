@@ -6,7 +6,7 @@ use Rattle.model.specs.Case.{ageGap}
 use Rattle.model.specs.Rounded.{mortalityLoss}
 use Rattle.model.specs.Brackets.{endOf}
 use Rattle.solvency.proofs.Products.{gap-square, heads-square, margin-fits, margin-end}
-use Rattle.theory.proofs.ByEnds.{bracket-by}
+use Rattle.theory.proofs.general.ByEnds.{bracket-by}
 use borrow.Author.Needs.{needs}
 use Rattle.solvency.proofs.mortality.s6.Statement.{statement}
 use Rattle.solvency.proofs.mortality.s6.Tie as tie

@@ -2,7 +2,7 @@
 use Rattle.model.specs.Brackets.{endOf}
 use mathlib.Core.Path.{sym}
 use native.Mathlib.Omega.{arith}
-use Rattle.theory.proofs.Verdicts.{judge-d, judge-first, judge-r, judge-v, judge-second}
+use Rattle.theory.proofs.money.Verdicts.{judge-d, judge-first, judge-r, judge-v, judge-second}
 use borrow.Author.Needs.{needs}
 use Rattle.solvency.proofs.verdict.verdict_of.Statement.{statement}
 use Rattle.solvency.proofs.verdict.verdict_of.Tie as tie

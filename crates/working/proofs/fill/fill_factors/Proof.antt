@@ -6,7 +6,7 @@ use native.Mathlib.Omega.{arith}
 use lib.ListN.{length, getD, drop, length-set}
 use borrow.Author.Needs.{needs}
 use Rattle.model.specs.Numbers.{table}
-use Rattle.theory.proofs.Lists.{table-filled, table-of}
+use Rattle.theory.proofs.general.Lists.{table-filled, table-of}
 use Rattle.working.proofs.fill.fill_factors.Statement.{statement}
 use Rattle.working.proofs.fill.fill_factors.Tie as tie
 

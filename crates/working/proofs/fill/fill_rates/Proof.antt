@@ -9,7 +9,7 @@ use mir.Val.{toZ, ofZ}
 use lib.ListN.{length, getD, drop, length-set}
 use borrow.Author.Needs.{needs}
 use Rattle.model.specs.Numbers.{table}
-use Rattle.theory.proofs.Lists.{table-filled, table-of}
+use Rattle.theory.proofs.general.Lists.{table-filled, table-of}
 use Rattle.working.proofs.fill.fill_rates.Statement.{statement}
 use Rattle.working.proofs.fill.fill_rates.Tie as tie
 

@@ -2,7 +2,7 @@
 use native.Mathlib.Omega.{arith}
 use borrow.Author.Needs.{needs}
 use Rattle.arith.specs.Rounding.{low}
-use Rattle.theory.proofs.RateTests.{tested-small}
+use Rattle.theory.proofs.curve.RateTests.{tested-small}
 use Rattle.zerorates.proofs.Tested.{above-fails, near-passes}
 use Rattle.zerorates.proofs.memo.upper_passes.Statement.{statement}
 use Rattle.zerorates.proofs.memo.upper_passes.Tie as tie

@@ -1,0 +1,2 @@
+-- Laws of the sums of a shifted curve.
+pub mod Shifting

@@ -1,0 +1,2 @@
+-- Wrote: what one write into a buffer leaves.
+pub mod Wrote

@@ -1,0 +1,139 @@
+-- The zero rate of every term from 1 to 120 lies in its bracket, which is at most two steps wide. It lies there because a test compares
+-- the power of a step, rounded to one end, with the factor at the other end: where the rounded numbers pass, the exact ones are in that
+-- order. Two steps suffice because, were the upper rate further above the lower, the step after the lower rate would fail the lower test
+-- and the one after that the upper test, which no two neighbouring steps do (`one-passes`).
+-- Assumes nothing.
+use Prim.Native.Nat.{ℕ, _+_, _*_, _^_, _≤_, _<_}
+use mathlib.Core.Path.{_≡_, refl}
+use lib.Dec.{T, leb→le, le→leb, lit<, lit≤}
+use native.Mathlib.Omega.{arith}
+use native.Mathlib.Nat.{le-trans, lt-of-not-le}
+use native.Mathlib.Decide.{decLe}
+use lib.IntN.{ℤ, pos, negℤ, _+ℤ_}
+use lib.Signed.{_≤ℤ_, _<ℤ_}
+use Rattle.arith.specs.Rounding.{End, low, high, other, divide}
+use Rattle.arith.proofs.Ends.{_≤⟨_⟩_, _and_, _times_, from, cancel, reverse}
+use Rattle.model.specs.Curve.{Curve, natural, weight, weights}
+use Rattle.model.specs.Exact as Exact
+use Rattle.model.specs.Constants.{unit, stepsPerOne}
+use Rattle.model.specs.Rounded as Rounded
+use Rattle.model.specs.Rounded.{scaled, tested, stepAt, lowerTest, upperTest}
+use Rattle.model.specs.Brackets.{largest, smallest}
+use Rattle.model.specs.Fraction.{Fraction}
+use Rattle.model.specs.inner.CurveWithin.{BaseWithin}
+use Rattle.model.specs.Limits.{Between}
+use Rattle.model.specs.Demand3.{RateOrdered, RateBounds}
+use Rattle.theory.proofs.general.Differences.{Diff, again, diff-pos, diff-sum, diff-neg, diff-minus, le-diff, lt-diff, natural-is}
+use Rattle.model.specs.Numbers.{every}
+use Rattle.theory.proofs.curve.Steps.{scaled-in}
+use Rattle.theory.proofs.curve.Factor.{factor-in, product-pos}
+use Rattle.theory.proofs.curve.Width.{factor-width}
+use Rattle.theory.proofs.general.Lists.{every-le}
+use Rattle.theory.proofs.general.Search.{largest-found, smallest-found, past-largest, before-smallest}
+use Rattle.theory.proofs.curve.BaseCurve.{weighedBound, factorBound, factor-bound}
+use Rattle.theory.proofs.curve.RateTests.{one-passes}
+
+-- ---- step i as an integer
+step-diff : (i : ℕ) → Diff (stepAt i) i 2000
+step-diff i = again (stepAt i) (i + 0) (0 + 2000) i 2000 (diff-minus (pos i) (pos 2000) i 0 2000 0 (diff-pos i) (diff-pos 2000)) (omega arith)
+
+step-natural : (i : ℕ) → natural (pos stepsPerOne +ℤ stepAt i) ≡ 98000 + i
+step-natural i =
+    natural-is (pos stepsPerOne +ℤ stepAt i) (100000 + i) (0 + 2000) (98000 + i)
+    (diff-sum (pos stepsPerOne) (stepAt i) 100000 0 i 2000 (diff-pos 100000) (step-diff i)) (omega arith)
+
+above-minus-one : (n : ℕ) → negℤ (pos stepsPerOne) <ℤ stepAt n
+above-minus-one n =
+    lt-diff (negℤ (pos stepsPerOne)) (stepAt n) 0 100000 n 2000 (diff-neg (pos 100000) 100000 0 (diff-pos 100000)) (step-diff n) (omega arith)
+
+step-within : (n : ℕ) → n ≤ 22000 → Between (negℤ (pos 2000)) (pos 20000) (stepAt n)
+step-within n h = record {
+  least = le-diff (negℤ (pos 2000)) (stepAt n) 0 2000 n 2000 (diff-neg (pos 2000) 2000 0 (diff-pos 2000)) (step-diff n) (omega arith);
+  most = le-diff (stepAt n) (pos 20000) n 2000 20000 0 (step-diff n) (diff-pos 20000) (omega arith);
+}
+
+-- ---- a test that passes, as the order of the exact product and the power of the step
+power-order : {e : End} {f x : ℕ} (p q pn pd : ℕ) → f * (1 * pn) ≤⟨ other e ⟩ unit * (1 * pd) → f ≤⟨ e ⟩ x → x * p ≤⟨ e ⟩ unit * q → p * pd ≤⟨ e ⟩ pn * q
+power-order p q pn pd h k l = cancel {c = unit} (omega arith) (from (reverse h times p and k times (pn * p) and l times pn) (omega arith))
+
+rate-order : (e : End) (z : ℤ) (t : ℕ) (x : Fraction) → natural (pos stepsPerOne +ℤ z) ^ t * x .den ≤⟨ e ⟩ x .num * stepsPerOne ^ t → RateOrdered e z t x
+rate-order low z t x h = h .le
+rate-order high z t x h = h .le
+
+-- ---- the first step passes the lower test and the last one the upper test, whatever the file: computed of the factors' bounds
+starts : (t : ℕ) → t < 121 → factorBound high t ≤ tested low t 0
+unfolding every factorBound weighedBound divide scaled weight weights
+starts t = every-le (factorBound high) (λ t. tested low t 0) 121 t refl
+
+stops : (t : ℕ) → t < 121 → tested high t 22000 ≤ factorBound low t
+unfolding every factorBound weighedBound divide scaled weight weights
+stops t = every-le (λ t. tested high t 22000) (factorBound low) 121 t refl
+
+-- ---- the rates of a base curve: the steps found, in their bounds and at most two apart
+module _ (c : Curve) (b : BaseWithin c) (t : ℕ) (within : t ≤ 120) where
+  pub first-passes : T (lowerTest (Rounded.factor c) t 0)
+  first-passes =
+      le→leb (Rounded.factor c high t) (tested low t 0)
+      (le-trans (factor-bound c b high t .le) (starts t (omega arith)))
+
+  pub last-passes : T (upperTest (Rounded.factor c) t 22000)
+  last-passes =
+      le→leb (tested high t 22000) (Rounded.factor c low t)
+      (le-trans (stops t (omega arith)) (factor-bound c b low t .le))
+
+  -- the index of the step found
+  found : End → ℕ
+  found low = largest (lowerTest (Rounded.factor c) t) 22001 22001
+  found high = smallest (upperTest (Rounded.factor c) t) 0 22001 22001
+
+  rate-is : (e : End) → Rounded.zeroRate c e t ≡ stepAt (found e)
+  unfolding Rounded.rateOf found
+  rate-is low = refl
+  rate-is high = refl
+
+  found-passes : (e : End) → (found e ≤ 22000) × (Rounded.factor c (other e) t ≤⟨ e ⟩ tested e t (found e))
+  unfolding found
+  found-passes low =
+      let r = largest-found (lowerTest (Rounded.factor c) t) 22001 22001 0 (lit< tt) first-passes in
+      (omega (arith, r .1), record { le = leb→le (Rounded.factor c high t) (tested low t (found low)) (r .0) })
+  found-passes high =
+      let r = smallest-found (upperTest (Rounded.factor c) t) 0 22001 22001 22000 (lit≤ tt) (lit< tt) last-passes in
+      (r .1, record { le = leb→le (tested high t (found high)) (Rounded.factor c low t) (r .0) })
+
+  pub rate-found : (e : End) → Between (negℤ (pos 2000)) (pos 20000) (Rounded.zeroRate c e t)
+  rate-found e = rw (rate-is e) (step-within (found e) (found-passes e .0))
+
+  pub rate-in : (e : End) → RateBounds e (Rounded.zeroRate c e t) t (Exact.product c t)
+  unfolding Exact.factor
+  rate-in e =
+      let x = Exact.product c t in
+      let v : ℕ = 98000 + found e in
+      rw (rate-is e) record {
+        real = product-pos c (b .within) t .1;
+        aboveMinusOne = above-minus-one (found e);
+        order = rate-order e (stepAt (found e)) t x
+            (rw (step-natural (found e))
+            (power-order (v ^ t) (stepsPerOne ^ t) (x .num) (x .den) (factor-in c (b .within) (other e) t .is) (found-passes e .1)
+            (scaled-in e stepsPerOne v t (omega arith) .is)));
+      }
+
+  narrow : 1 ≤ t → found high ≤ found low + 2
+  unfolding found
+  narrow h = go (decLe (found high) (found low + 2))
+    where
+      i : ℕ
+      i = found low + 1
+
+      go : Dec (found high ≤ found low + 2) → found high ≤ found low + 2
+      go (yes k) = k
+      go (no k) =
+          let few : i + 1 < 22001 = omega (arith, found-passes high .0) in
+          absurd (one-passes t i (Rounded.factor c low t) (Rounded.factor c high t) h within (omega arith) (factor-bound c b low t .le) (factor-width c (b .within) t)
+          (lt-of-not-le (λ q. past-largest (lowerTest (Rounded.factor c) t) 22001 22001 i (omega arith) (omega arith) (le→leb (Rounded.factor c high t) (tested low t i) q)))
+          (lt-of-not-le (λ q. before-smallest (upperTest (Rounded.factor c) t) 22001 22001 (i + 1) (omega arith) few (le→leb (tested high t (i + 1)) (Rounded.factor c low t) q))))
+
+  pub rate-width : 1 ≤ t → Rounded.zeroRate c high t ≤ℤ (Rounded.zeroRate c low t +ℤ pos 2)
+  rate-width h =
+      rw (rate-is low, rate-is high)
+      (le-diff (stepAt (found high)) (stepAt (found low) +ℤ pos 2) (found high) 2000 (found low + 2) (2000 + 0) (step-diff (found high))
+      (diff-sum (stepAt (found low)) (pos 2) (found low) 2000 2 0 (step-diff (found low)) (diff-pos 2)) (omega (arith, narrow h)))

@@ -1,0 +1,18 @@
+-- The range in which a case that the engine holds is worked out: what the reader leaves true of every case that it accepts.
+use Prim.Native.Nat.{_≤_}
+use Rattle.model.specs.Limits.{AmountsWithin, ShocksWithin, PeopleWithin}
+use Rattle.model.specs.Curve.{Move, base}
+use Rattle.model.specs.inner.CurveWithin.{CurveWithin, BaseWithin}
+use Rattle.model.specs.declared.case.Case.{Case}
+use Rattle.curve.specs.inner.Shifted.{curveHeld}
+use Rattle.solvency.specs.inner.Ranges.{FlowsFit}
+
+pub record CaseFits (c : Case) : Type 0 where
+  pub perStep : c .«per_step» ≤ 7000
+  pub base : BaseWithin (curveHeld c base)
+  pub curves : (m : Move) → CurveWithin (curveHeld c m)
+  pub pension : FlowsFit (c .pension) (c .«pension_count»)
+  pub bonds : FlowsFit (c .bonds) (c .«bond_count»)
+  pub amounts : AmountsWithin (c .amounts)
+  pub shocks : ShocksWithin (c .shocks)
+  pub people : PeopleWithin (c .people)

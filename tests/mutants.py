@@ -62,7 +62,7 @@ DEFINITIONS = {
     "host": "Flat",
 }
 PROGRAMS = {"valuation", "batch", "readings", "vectors", "buffers"}
-APART = ("theory", "pinned")  # crates with no code: theorems, and statements that take long to compute. Their refusals are counted apart
+APART = ("theory", "pinned", "refusals")  # crates with no code: theorems, and statements that take long to compute. Their refusals are counted apart
 TIMEOUT = 180  # seconds for one stage
 
 ILL_FORMED, REFUSED, TIME, SURVIVES = "ill-formed", "refused", "time", "survives"

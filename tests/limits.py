@@ -1,7 +1,7 @@
 """Files at each limit, on both sides, and in each place of the order of checks: groups of rows (what, file), from the paper's own limits.
 
 The refusal of a row is that of tests/reference.py. tests/pinned.py writes the rows down as computed statements about the definitions,
-all of them for the crate `pinned` and the quick ones (QUICK) for `model`, and tests/compare_reader.py puts them to the engine. A number
+all of them for the crate `refusals` and the quick ones (QUICK) for `model`, and tests/compare_reader.py puts them to the engine. A number
 that passes its check is mostly shown by a file that ends behind the field, which is refused with 1: such a file is short.
 """
 

@@ -52,17 +52,17 @@ from mutant_edits import where
 ROOT = os.path.dirname(os.path.dirname(os.path.abspath(__file__)))
 SAME = os.path.join(ROOT, "tests", "mutants_same.txt")
 
-# The files of definitions that a reader must believe, by crate.
+# The files of definitions that a reader must believe, by crate. Part of `host` is not here: no token of its one definition has a wrong edit.
 DEFINITIONS = {
     "arith": "Rounding Root",
     "model": "Constants Numbers Case Limits Layout Reading Refusals Fraction Brackets Curve Held Exact Rounded Margins Demand3 Buffers Window Listing",
     "casefile": "Answers",
     "window": "Holds Shown",
     "engine": "Guarantee",
-    "host": "Flat",
+    "flat": "Flat",
 }
 PROGRAMS = {"valuation", "batch", "readings", "vectors", "buffers"}
-APART = ("theory", "pinned")  # crates with no code: theorems, and statements that take long to compute. Their refusals are counted apart
+APART = ("theory", "pinned", "refusals")  # crates with no code: theorems, and statements that take long to compute. Their refusals are counted apart
 TIMEOUT = 180  # seconds for one stage
 
 ILL_FORMED, REFUSED, TIME, SURVIVES = "ill-formed", "refused", "time", "survives"

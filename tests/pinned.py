@@ -1,4 +1,4 @@
-"""Writes numbers of tests/reference.py as computed statements about the definitions, in four files (PATHS below).
+"""Writes numbers of tests/reference.py as computed statements about the definitions, in five files (PATHS below).
 
 Command line: python3 tests/pinned.py           writes the files
               python3 tests/pinned.py --check   ends with 1 if one of them is another
@@ -27,7 +27,7 @@ WRITTEN = """\
 
 PINNED_HEAD = """\
 -- Numbers of case files and cases as computed statements about the definitions: what an edit of a definition is held against. What takes
--- longer to compute is in the crate `pinned`.
+-- longer to compute is in the crates `pinned` and `refusals`.
 """ + WRITTEN + """\
 use Prim.Native.Nat.{ℕ}
 use mathlib.Core.Path.{_≡_, refl}
@@ -70,7 +70,7 @@ use mathlib.Core.List.{List, [], _∷_, _++_, map}
 
 QUICK_HEAD = """\
 -- The refusals of files at the limits and in the order of checks: those rows of the table that are quick to compute. The whole table is in
--- the crate `pinned`.
+-- the crate `refusals`.
 """ + WRITTEN + REFUSED_USES + """\
 use Rattle.model.specs.Refusals.{refusal, ratesPart}
 use Rattle.model.proofs.Computing.{pairs, all}
@@ -84,23 +84,32 @@ use Rattle.model.specs.Refusals.{refusal, ratesPart}
 use Rattle.model.proofs.Computing.{pairs, all}
 """
 
+ACCEPTED_HEAD = """\
+-- Case files that are accepted, and the cases that they hold, as computed statements about the definitions.
+""" + WRITTEN + """\
+use Prim.Native.Nat.{ℕ}
+use mathlib.Core.Path.{_≡_, refl}
+use mathlib.Core.List.{List, [], _∷_, _++_}
+use Rattle.model.specs.Reading.{caseOf}
+use Rattle.model.specs.Refusals.{refusal}
+use Rattle.model.proofs.Computing.{pairs, all}
+use Rattle.model.proofs.Pinned.{bentFile, bentCase, upFile, downFile, downCase, long}
+"""
+
 FILES_HEAD = """\
--- What whole case files give, and what takes longer to compute of a curve, as computed statements about the definitions.
+-- The listings of whole case files, and what takes longer to compute of a curve, as computed statements about the definitions.
 """ + WRITTEN + """\
 use Prim.Native.String.{String}
 use mathlib.Core.Path.{_≡_, refl}
-use mathlib.Core.List.{List, [], _∷_, _++_}
+use mathlib.Core.List.{List, [], _∷_}
 use lib.IntN.{pos, negℤ}
-use Prim.Native.Nat.{ℕ}
 use Rattle.arith.specs.Rounding.{low, high}
-use Rattle.model.specs.Reading.{caseOf}
-use Rattle.model.specs.Refusals.{refusal}
 use Rattle.model.specs.Curve.{up, down}
 use Rattle.model.specs.Rounded as Rounded
 use Rattle.model.specs.Buffers.{valuationOf}
 use Rattle.model.specs.Listing.{listing}
-use Rattle.model.proofs.Computing.{pairs, text, all}
-use Rattle.model.proofs.Pinned.{bentFile, bentCase, bentCurve, upFile, downFile, downCase, long}
+use Rattle.model.proofs.Computing.{text, all}
+use Rattle.model.proofs.Pinned.{bentCurve, upFile, downFile, long}
 """
 
 TITLES = {
@@ -320,6 +329,18 @@ def refused():
     return "\n".join([TABLE_HEAD, *(group_statement(*group) for group in limits.groups()), part_statement([RISING, [300] * 60])])
 
 
+# ---------------------------------------------------------------- crates/refusals/proofs/Accepted.antt
+
+def accepted():
+    out = [ACCEPTED_HEAD]
+    for name in ("bent", "up", "down"):
+        out.append(computed(f"{name}-accepted", f"refusal {name}File ≡ 0"))
+    out += [case_statement("bent"), case_statement("down")]
+    out.append(definition("longFile", "List ℕ", file_term(encode(examples.long(), True, True, True)), "the long fund as a file"))
+    out.append(computed("long-case", "caseOf longFile ≡ long"))
+    return "\n".join(out)
+
+
 # ---------------------------------------------------------------- crates/pinned/proofs/Files.antt
 
 def rate_statement(rounded, t, of=("low", "high")):
@@ -346,21 +367,17 @@ def shifted_figures():
 def files():
     bent = Rounded(examples.bent())
     out = [FILES_HEAD]
-    for name in ("bent", "up", "down"):
-        out.append(computed(f"{name}-accepted", f"refusal {name}File ≡ 0"))
-    out += [case_statement("bent"), case_statement("down")]
     for name, case in (("up", examples.up()), ("down", examples.down())):
         out += listing_statement(name, encode(case, True, True, True))
     for t in (40, 60, 61, 120):
         out.append(computed(f"bent-factor-{t}", *both_ends(f"Rounded.factor bentCurve {{e}} {t}", bent.factors[t])))
     out += [rate_statement(bent, 1), rate_statement(bent, 2), rate_statement(bent, 3), rate_statement(bent, 21, ("high",))]
-    out.append(definition("longFile", "List ℕ", file_term(encode(examples.long(), True, True, True)), "the long fund as a file"))
-    out.append(computed("long-case", "caseOf longFile ≡ long"))
     return "\n".join(out + shifted_figures())
 
 
 PATHS = {"crates/model/proofs/Pinned.antt": pinned, "crates/model/proofs/Refused.antt": refused_quickly,
-         "crates/pinned/proofs/Files.antt": files, "crates/pinned/proofs/Refused.antt": refused}
+         "crates/pinned/proofs/Files.antt": files, "crates/refusals/proofs/Accepted.antt": accepted,
+         "crates/refusals/proofs/Refused.antt": refused}
 
 
 def others():

@@ -221,10 +221,10 @@ class Reported(unittest.TestCase):
     def test_the_table_counts_each_once(self):
         made = small()
         outcomes = {m.key: o for m, o in zip(made, [Outcome(ILL_FORMED, "model"), Outcome(REFUSED, "model"), Outcome(REFUSED, "theory"),
-                                                    Outcome(REFUSED, "pinned"), Outcome(REFUSED, "engine"), Outcome(TIME, "model"), Outcome(SURVIVES), Outcome(SURVIVES)])}
-        head, row, total = mutants.table(made, outcomes, {made[7].key: "of a reason"})
-        self.assertEqual(" ".join(head.split()), "made ill-formed own crate theory pinned above time same SURVIVES not tried")
-        self.assertEqual(row.split()[1:], ["13", "1", "1", "1", "1", "1", "1", "1", "1", "5"])
+                                                    Outcome(REFUSED, "pinned"), Outcome(REFUSED, "refusals"), Outcome(REFUSED, "engine"), Outcome(TIME, "model"), Outcome(SURVIVES), Outcome(SURVIVES)])}
+        head, row, total = mutants.table(made, outcomes, {made[8].key: "of a reason"})
+        self.assertEqual(" ".join(head.split()), "made ill-formed own crate theory pinned refusals above time same SURVIVES not tried")
+        self.assertEqual(row.split()[1:], ["13", "1", "1", "1", "1", "1", "1", "1", "1", "1", "4"])
         self.assertEqual(total.split()[1:], row.split()[1:])
 
     def test_rows_of_the_same(self):

@@ -1,3 +1,2 @@
--- What the proofs of `host` share, and what a host may rely on.
-pub mod Said
+-- What the proofs of `host` share.
 pub mod Part

@@ -7,8 +7,8 @@ use Rattle.model.specs.Reading.{daysAt, dayCount}
 use Rattle.model.specs.Refusals.{refusal, ratesPartAfter, ratesPart}
 use Rattle.casefile.specs.Answers.{ratesFrom}
 use Rattle.casefile.proofs.Parts.{refused-rates as none-of}
-use Rattle.host.specs.Flat.{hostPart}
-use Rattle.host.specs.declared.flat.HostPart.{HostPart}
+use Rattle.host.specs.Part.{hostPart}
+use Rattle.host.specs.declared.HostPart.{HostPart}
 
 taken-again : (n : ℕ) (xs : List ℕ) → take (length (take n xs)) xs ≡ take n xs
 taken-again zero xs = refl

@@ -1,2 +1,2 @@
--- Flat has to be believed: what hosts are given, by the definitions of `model`.
-pub mod Flat
+-- Part has to be believed: where hosts are told that the rates are, by the definitions of `model`.
+pub mod Part

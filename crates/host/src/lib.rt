@@ -1,12 +1,9 @@
 // The functions that hosts in C, Rust and Python call. Each takes any bytes, any lengths and any
 // numbers: none has a `requires`. include/ginghamowl.h declares them.
-mod flat;
-
 use casefile::rates_part;
 use casefile::refusal_of;
 use engine::value;
 use flat::HostFigures;
-use flat::HostPart;
 use flat::HostPoint;
 use flat::HostValuation;
 use flat::figures_from;
@@ -22,7 +19,15 @@ ghost use Rattle.model.specs.Buffers.{valuationOf, factorsAfter, ratesAfter};
 ghost use Rattle.model.specs.Refusals.{refusal, ratesPart};
 ghost use Rattle.model.specs.Window.{windowPoint};
 ghost use Rattle.model.specs.Listing.{listingAfter, listingLength};
-ghost use Rattle.host.specs.Flat.{hostValuation, hostPart, hostPoint, figuresFrom, valuationFrom};
+ghost use Rattle.flat.specs.Flat.{hostValuation, hostPoint, figuresFrom, valuationFrom};
+ghost use Rattle.host.specs.Part.{hostPart};
+
+// `length` bytes of the file, from `offset` on.
+#[repr(C)]
+pub struct HostPart {
+    pub offset: usize,
+    pub length: usize,
+}
 
 // Values a case file into two lent buffers, as `engine::value` does.
 #[no_mangle]

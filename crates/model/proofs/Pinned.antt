@@ -1,5 +1,5 @@
 -- Numbers of case files and cases as computed statements about the definitions: what an edit of a definition is held against. What takes
--- longer to compute is in the crate `pinned`.
+-- longer to compute is in the crates `pinned` and `refusals`.
 -- tests/pinned.py wrote this file, from an implementation in Python that was written from the paper alone (tests/reference.py): change
 -- that, not this. Assumes nothing.
 use Prim.Native.Nat.{ℕ}

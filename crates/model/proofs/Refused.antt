@@ -1,5 +1,5 @@
 -- The refusals of files at the limits and in the order of checks: those rows of the table that are quick to compute. The whole table is in
--- the crate `pinned`.
+-- the crate `refusals`.
 -- tests/pinned.py wrote this file, from an implementation in Python that was written from the paper alone (tests/reference.py): change
 -- that, not this. Assumes nothing.
 use Prim.Native.Nat.{ℕ}

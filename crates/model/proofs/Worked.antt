@@ -188,7 +188,7 @@ pub c12-refusal : refusal [] ≡ 1
 unfolding all
 c12-refusal = refl
 
--- "Order: 13; then the map"; the rest of the order is in Refused.antt of the crate `pinned`
+-- "Order: 13; then the map"; the rest of the order is in Refused.antt of the crate `refusals`
 order-13 : (valuationRefusal 239 240 [] ≡ 13) × (valuationRefusal 240 239 [] ≡ 13) × (valuationRefusal 240 240 [] ≡ 1)
 unfolding all
 order-13 = (refl, refl, refl)

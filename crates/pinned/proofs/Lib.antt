@@ -1,5 +1,4 @@
--- Computed statements that take longer: the twelve cases, whole case files, all refusals. tests/pinned.py writes Files and Refused.
+-- Computed statements that take longer: the twelve cases, listings, numbers of curves. tests/pinned.py writes Files.
 pub mod TwelveCases
 pub mod LikeC1
-pub mod Refused
 pub mod Files

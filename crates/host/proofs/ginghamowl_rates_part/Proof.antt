@@ -2,7 +2,7 @@
 use mathlib.Core.Path.{_≡_, sym, ap, _∙_}
 use lib.ListN.{take, drop}
 use Rattle.model.specs.Refusals.{refusal}
-use Rattle.host.specs.declared.flat.HostPart.{HostPart}
+use Rattle.host.specs.declared.HostPart.{HostPart}
 use Rattle.host.proofs.Part.{part-placed, refused-part, refused-rates, accepted-part}
 use borrow.Author.Needs.{needs}
 use Rattle.host.proofs.ginghamowl_rates_part.Statement.{statement}

@@ -1,6 +1,6 @@
 -- `host::ginghamowl_value` meets its contract. Assumes nothing.
 use mathlib.Core.Path.{ap, _∙_}
-use Rattle.host.specs.Flat.{hostValuation}
+use Rattle.flat.specs.Flat.{hostValuation}
 use borrow.Author.Needs.{needs}
 use Rattle.host.proofs.ginghamowl_value.Statement.{statement}
 use Rattle.host.proofs.ginghamowl_value.Tie as tie

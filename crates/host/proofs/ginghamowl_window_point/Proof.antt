@@ -1,7 +1,7 @@
 -- `host::ginghamowl_window_point` meets its contract. Assumes nothing.
 use mathlib.Core.Path.{ap, _∙_}
 use Rattle.model.specs.Window.{windowPoint}
-use Rattle.host.specs.Flat.{hostPoint}
+use Rattle.flat.specs.Flat.{hostPoint}
 use borrow.Author.Needs.{needs}
 use Rattle.host.proofs.ginghamowl_window_point.Statement.{statement}
 use Rattle.host.proofs.ginghamowl_window_point.Tie as tie

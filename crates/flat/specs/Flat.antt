@@ -1,11 +1,8 @@
 -- The answers of the engine as structs that C knows, and what such a struct says. Assumes nothing.
 use Prim.Native.Nat.{ℕ, zero, suc}
 use mathlib.Core.Bool.{cond}
-use mathlib.Core.List.{List}
 use lib.Dec.{eqb}
 use lib.Ieee.{binary64, ofBits}
-use lib.ListN.{length}
-use Rattle.model.specs.Refusals.{refusal, ratesPart}
 use Rattle.model.specs.declared.figures.Bracket.{Bracket}
 use Rattle.model.specs.declared.figures.Figures.{Figures}
 use Rattle.model.specs.declared.figures.Verdict.{Verdict}
@@ -14,12 +11,10 @@ use Rattle.model.specs.declared.figures.Valuation.{Valuation}
 use Rattle.model.specs.declared.figures.Valuation.the-variants.{Refused, Valued}
 use Rattle.model.specs.declared.window.Point.{Point}
 use Rattle.model.specs.declared.window.Point.the-variants.{Factor, Money, Blank}
-use Rattle.casefile.specs.Answers.{ratesFrom}
-use Rattle.host.specs.declared.flat.HostBracket.{HostBracket}
-use Rattle.host.specs.declared.flat.HostFigures.{HostFigures}
-use Rattle.host.specs.declared.flat.HostValuation.{HostValuation}
-use Rattle.host.specs.declared.flat.HostPart.{HostPart}
-use Rattle.host.specs.declared.flat.HostPoint.{HostPoint}
+use Rattle.flat.specs.declared.HostBracket.{HostBracket}
+use Rattle.flat.specs.declared.HostFigures.{HostFigures}
+use Rattle.flat.specs.declared.HostValuation.{HostValuation}
+use Rattle.flat.specs.declared.HostPoint.{HostPoint}
 
 -- figures to a host, and back
 abbrev pub hostBracket : Bracket → HostBracket
@@ -97,10 +92,6 @@ numbered (suc r) verdict figures = Refused (suc r)
 
 abbrev pub valuationFrom : HostValuation → Valuation
 valuationFrom v = numbered (v .refusal) (v .verdict) (v .figures)
-
--- where the part of the file stands that holds the rates, and how many bytes it has
-abbrev pub hostPart : List ℕ → HostPart
-hostPart file = record { offset = ratesFrom (refusal file) file; length = length (ratesPart file) }
 
 -- "a factor .., a money figure .. or blank"
 abbrev pub hostPoint : Point → HostPoint

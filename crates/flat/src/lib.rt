@@ -6,7 +6,7 @@ use model::figures::Valuation;
 use model::figures::Verdict;
 use model::window::Point;
 ghost use mathlib.Core.Path.{_≡_};
-ghost use Rattle.host.specs.Flat.{hostBracket, bracketFrom, hostFigures, figuresFrom, noFigures, verdictNumber, verdictFrom, hostValuation, valuationFrom, hostPoint};
+ghost use Rattle.flat.specs.Flat.{hostBracket, bracketFrom, hostFigures, figuresFrom, noFigures, verdictNumber, verdictFrom, hostValuation, valuationFrom, hostPoint};
 
 // Cents.
 #[repr(C)]
@@ -35,13 +35,6 @@ pub struct HostValuation {
     pub refusal: u8,
     pub verdict: u8,
     pub figures: HostFigures,
-}
-
-// `length` bytes of the file, from `offset` on.
-#[repr(C)]
-pub struct HostPart {
-    pub offset: usize,
-    pub length: usize,
 }
 
 // `kind` is 0 for blank, 1 for a factor, 2 for a money figure. The doubles of a blank point are 0.

@@ -1,8 +1,8 @@
--- `host::flat::valuation_from` meets its contract. Assumes nothing.
-use Rattle.host.proofs.Said.{refused, valued}
+-- `flat::valuation_from` meets its contract. Assumes nothing.
+use Rattle.flat.proofs.Said.{refused, valued}
 use borrow.Author.Needs.{needs}
-use Rattle.host.proofs.flat.valuation_from.Statement.{statement}
-use Rattle.host.proofs.flat.valuation_from.Tie as tie
+use Rattle.flat.proofs.valuation_from.Statement.{statement}
+use Rattle.flat.proofs.valuation_from.Tie as tie
 
 returns : tie.Need-returns
 returns c = let v = c .before .args .v in refused (v .refusal) (v .verdict) (v .figures) (c .if1 .taken)

@@ -1,7 +1,7 @@
--- `host::flat::flat_figures` meets its contract. Assumes nothing.
+-- `flat::flat_figures` meets its contract. Assumes nothing.
 use borrow.Author.Needs.{needs}
-use Rattle.host.proofs.flat.flat_figures.Statement.{statement}
-use Rattle.host.proofs.flat.flat_figures.Tie as tie
+use Rattle.flat.proofs.flat_figures.Statement.{statement}
+use Rattle.flat.proofs.flat_figures.Tie as tie
 
 flat-bracket-requires : tie.Need-flat-bracket-requires
 flat-bracket-requires c κs = search needs

@@ -1,7 +1,7 @@
--- `host::flat::flat_point` meets its contract. Assumes nothing.
+-- `flat::flat_point` meets its contract. Assumes nothing.
 use borrow.Author.Needs.{needs}
-use Rattle.host.proofs.flat.flat_point.Statement.{statement}
-use Rattle.host.proofs.flat.flat_point.Tie as tie
+use Rattle.flat.proofs.flat_point.Statement.{statement}
+use Rattle.flat.proofs.flat_point.Tie as tie
 
 enum-told : tie.Need-enum-told
 enum-told c = search needs

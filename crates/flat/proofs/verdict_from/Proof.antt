@@ -1,7 +1,7 @@
--- `host::flat::verdict_from` meets its contract. Assumes nothing.
-use Rattle.host.proofs.Said.{undecided}
-use Rattle.host.proofs.flat.verdict_from.Statement.{statement}
-use Rattle.host.proofs.flat.verdict_from.Tie as tie
+-- `flat::verdict_from` meets its contract. Assumes nothing.
+use Rattle.flat.proofs.Said.{undecided}
+use Rattle.flat.proofs.verdict_from.Statement.{statement}
+use Rattle.flat.proofs.verdict_from.Tie as tie
 
 returns : tie.Need-returns
 returns c = rw (c .match .keys1)

@@ -11,8 +11,8 @@ use Rattle.model.specs.declared.figures.Figures.{Figures}
 use Rattle.model.specs.declared.figures.Verdict.{Verdict}
 use Rattle.model.specs.declared.figures.Verdict.the-variants.{Dekkingstekort, Reservetekort, VrijVermogen, Onbeslist}
 use Rattle.model.specs.declared.figures.Valuation.the-variants.{Refused, Valued}
-use Rattle.host.specs.Flat.{figuresFrom, verdictNumber, verdictFrom, hostValuation, valuationFrom, numbered}
-use Rattle.host.specs.declared.flat.HostFigures.{HostFigures}
+use Rattle.flat.specs.Flat.{figuresFrom, verdictNumber, verdictFrom, hostValuation, valuationFrom, numbered}
+use Rattle.flat.specs.declared.HostFigures.{HostFigures}
 
 pub refused : (r v : ℕ) (f : HostFigures) → (r ≡ 0 → ⊥) → Refused r ≡ numbered r v f
 refused zero v f n = absurd (n refl)

@@ -1,7 +1,7 @@
--- `host::flat::figures_from` meets its contract. Assumes nothing.
+-- `flat::figures_from` meets its contract. Assumes nothing.
 use borrow.Author.Needs.{needs}
-use Rattle.host.proofs.flat.figures_from.Statement.{statement}
-use Rattle.host.proofs.flat.figures_from.Tie as tie
+use Rattle.flat.proofs.figures_from.Statement.{statement}
+use Rattle.flat.proofs.figures_from.Tie as tie
 
 bracket-from-requires : tie.Need-bracket-from-requires
 bracket-from-requires c κs = search needs

@@ -1,7 +1,7 @@
--- `host::flat::flat_valuation` meets its contract. Assumes nothing.
+-- `flat::flat_valuation` meets its contract. Assumes nothing.
 use borrow.Author.Needs.{needs}
-use Rattle.host.proofs.flat.flat_valuation.Statement.{statement}
-use Rattle.host.proofs.flat.flat_valuation.Tie as tie
+use Rattle.flat.proofs.flat_valuation.Statement.{statement}
+use Rattle.flat.proofs.flat_valuation.Tie as tie
 
 enum-known-v : tie.Need-enum-known-v
 enum-known-v c = search needs

@@ -1,0 +1,2 @@
+-- What the proofs of `flat` share, and what a host may rely on.
+pub mod Said

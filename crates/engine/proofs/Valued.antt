@@ -16,6 +16,7 @@ use Rattle.model.specs.Rounded as Rounded
 use Rattle.model.specs.Buffers.{valuationRefusal, factorEntries, rateEntries, factorsAfter, ratesAfter, answered, valuationOf}
 use Rattle.model.specs.declared.figures.Valuation.{Valuation}
 use Rattle.model.specs.declared.figures.Valuation.the-variants.{Refused, Valued}
+use Rattle.theory.proofs.general.Lists.{and-false}
 use Rattle.casefile.specs.Answers.{numberOf, answerOf, readingOf}
 use Rattle.casefile.specs.declared.Answer.the-variants.{Accepted, Refused as RefusedFile}
 use Rattle.casefile.specs.declared.Reading.{Reading}
@@ -34,10 +35,6 @@ fails b rest e = rw e
 pub passes : (b : Bool) (rest : List Check) → b ≡ true → firstOf ((b, 13) ∷ rest) ≡ firstOf rest
 unfolding firstOf
 passes b rest e = rw e
-
-second-false : (a b : Bool) → b ≡ false → (a && b) ≡ false
-second-false true b e = e
-second-false false b e = refl
 
 zero-answer : (file : List ℕ) → refusal file ≡ 0 → readingOf file .answer ≡ Accepted
 unfolding readingOf
@@ -100,7 +97,7 @@ module _ (file : List ℕ) (f₀ : List ℕ) (z₀ : List ℤ) (call : Call file
   unfolding valuationRefusal
   short-rates h =
       meets-refused 12
-      (fails (leb 240 (length f₀) && leb 240 (length z₀)) (checks file) (second-false (leb 240 (length f₀)) (leb 240 (length z₀)) (lt-leb 240 (length z₀) h)))
+      (fails (leb 240 (length f₀) && leb 240 (length z₀)) (checks file) (and-false (leb 240 (length f₀)) (leb 240 (length z₀)) (lt-leb 240 (length z₀) h)))
 
   module _ (hf : 240 ≤ length f₀) (hz : 240 ≤ length z₀) (r : Reading) (e : r ≡ readingOf file) where
     own : valuationRefusal (length f₀) (length z₀) file ≡ refusal file

@@ -3,7 +3,7 @@
 -- that, not this. Assumes nothing.
 use Prim.Native.String.{String}
 use mathlib.Core.Path.{_≡_, refl}
-use mathlib.Core.List.{List, [], _∷_, _++_}
+use mathlib.Core.List.{List, [], _∷_}
 use lib.IntN.{pos, negℤ}
 use Prim.Native.Nat.{ℕ}
 use Rattle.arith.specs.Rounding.{low, high}
@@ -13,7 +13,7 @@ use Rattle.model.specs.Curve.{up, down}
 use Rattle.model.specs.Rounded as Rounded
 use Rattle.model.specs.Buffers.{valuationOf}
 use Rattle.model.specs.Listing.{listing}
-use Rattle.model.proofs.Computing.{pairs, text, all}
+use Rattle.model.proofs.Computing.{text, all}
 use Rattle.model.proofs.Pinned.{bentFile, bentCase, bentCurve, upFile, downFile, downCase, long}
 
 bent-accepted : refusal bentFile ≡ 0

@@ -1,6 +1,6 @@
 -- `solvency::worth::worth_of` meets its contract. Assumes nothing.
 use Rattle.model.specs.Buffers.{entryOf}
-use Prim.Native.Nat.{_≤_, _<_, _+_, _*_, _-_, _^_}
+use Prim.Native.Nat.{_≤_, _<_, _*_, _-_, _^_}
 use mathlib.Core.Path.{_≡_, sym}
 use native.Mathlib.Omega.{arith}
 use lib.ListN.{length, take}

@@ -2,7 +2,7 @@
 
 The refusal of a row is that of tests/reference.py. tests/pinned.py writes the rows down as computed statements about the definitions,
 all of them for the crate `refusals` and the quick ones (QUICK) for `model`, and tests/compare_reader.py puts them to the engine. A number
-that passes its check is mostly shown by a file that ends behind the field, which is refused with 1: such a file is short.
+that passes its check is mostly shown by a file that ends after the field, which is refused with 1: such a file is short.
 """
 
 from reference import SHOCK_LIMITS, SHOCKS

@@ -78,7 +78,7 @@ use Rattle.model.proofs.Computing.{pairs, all}
 
 TABLE_HEAD = """\
 -- The refusals of files at each limit, on both sides, and in each place of the order of checks. A number that passes its check is mostly
--- shown by a file that ends behind the field, which is refused with 1.
+-- shown by a file that ends after the field, which is refused with 1.
 """ + WRITTEN + REFUSED_USES + """\
 use Rattle.model.specs.Refusals.{refusal, ratesPart}
 use Rattle.model.proofs.Computing.{pairs, all}

@@ -4,7 +4,7 @@ ghost use Prim.Native.Nat.{_+_, _*_, _^_, _<_};
 ghost use lib.Dec.{leb};
 ghost use Rattle.arith.specs.inner.Value.{val};
 
-// Six digits, the least first. Every value of the type is a number: val in specs/Value.antt says which.
+// Six digits, the least first. Every value of the type is a number: val in specs/inner/Value.antt says which.
 pub struct Wide {
     pub d0: u32,
     pub d1: u32,

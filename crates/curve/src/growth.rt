@@ -9,8 +9,7 @@ use super::times::times_both;
 use model::case::Case;
 use model::figures::Bracket;
 
-// The growth over j years is that over j - 1 years taken once more: one times p / q, where p is
-// P(t) and q is P(t - 1).
+// The growth over j years is that over j - 1 years times p / q, where p is P(t) and q is P(t - 1).
 pub fn growth_over(p: u64, q: u64, j: usize) -> Bracket
     requires { ⌜ ScaledWithin p q j ⌝ }
     ensures { λ r. ⌜ r ≡ bracket (λ e. scaled e p q j) ⌝ }

@@ -5,10 +5,10 @@ use mathlib.Core.Path.{_≡_, refl, ap, sym, _∙_}
 use mathlib.Core.Bool.{Bool, true, false, _&&_}
 use mathlib.Core.List.{List, _∷_, _++_}
 use native.Mathlib.Omega.{arith}
-use borrow.Author.Tests.{le-leb, leb-true}
+use borrow.Author.Tests.{leb-true}
 use lib.Dec.{leb}
 use lib.IntN.{ℤ, pos}
-use lib.ListN.{length, getD, drop, List·getD-append}
+use lib.ListN.{length, getD, drop}
 use lib.Seq.{drop-at}
 use mir.Syntax.{w8}
 use mir.Val.{Fits}
@@ -26,25 +26,18 @@ use Rattle.model.specs.declared.figures.Valuation.{Valuation}
 use Rattle.model.specs.declared.figures.Valuation.the-variants.{Refused, Valued}
 use Rattle.theory.proofs.acceptance.Acceptance.{accepted-keeps, keeps-accepted}
 use Rattle.theory.proofs.demand3.Demand3Proved.{IsRounded}
-use Rattle.theory.proofs.general.Entries.{length-byTerm, lower-entry, upper-entry, by-term}
+use Rattle.theory.proofs.general.Entries.{length-byTerm, lower-in, upper-in, by-term}
 use Rattle.theory.proofs.demand3.Files.{demand3-of-files}
 use Rattle.theory.proofs.general.Lists.{and-first, and-second}
 use Rattle.casefile.proofs.AcceptedReading.{slice-bytes}
 use Rattle.engine.specs.Guarantee.{given, RefusedCall, AcceptedCall, AcceptedExactly, Call}
-use Rattle.engine.proofs.Valued.{passes, fails}
+use Rattle.engine.proofs.Valued.{passes, fails, own-refusal}
 
--- entries with something behind them
-module _ {A : Type 0} (f : End → ℕ → A) (rest : List A) (d : A) where
-  low-in : (t : ℕ) → t < 120 → getD (byTerm f 120 ++ rest) (2 * t) d ≡ f low (suc t)
-  low-in t h = List·getD-append (byTerm f 120) rest d (2 * t) (let e = length-byTerm f 120 in omega arith) ∙ lower-entry f 120 t d h
+-- what follows the entries of the terms
+later : {A : Type 0} (f : End → ℕ → A) (rest : List A) → drop 240 (byTerm f 120 ++ rest) ≡ rest
+later f rest = drop-at (byTerm f 120) rest 240 (length-byTerm f 120)
 
-  high-in : (t : ℕ) → t < 120 → getD (byTerm f 120 ++ rest) (2 * t + 1) d ≡ f high (suc t)
-  high-in t h = List·getD-append (byTerm f 120) rest d (2 * t + 1) (let e = length-byTerm f 120 in omega arith) ∙ upper-entry f 120 t d h
-
-  behind : drop 240 (byTerm f 120 ++ rest) ≡ rest
-  behind = drop-at (byTerm f 120) rest 240 (length-byTerm f 120)
-
--- a first check in front of the file's own
+-- one check before the file's own
 split : (b : Bool) (rest : List Check) → firstOf ((b, 13) ∷ rest) ≡ 0 → (b ≡ true) × (firstOf rest ≡ 0)
 split true rest h = (refl, sym (passes true rest refl) ∙ h)
 split false rest h = absurd (never (sym (fails false rest refl) ∙ h))
@@ -75,10 +68,6 @@ module _ (file : List ℕ) (factors : List ℕ) (rates : List ℤ) where
         p .1,
       )
 
-  own : 240 ≤ length factors → 240 ≤ length rates → valuationRefusal (length factors) (length rates) file ≡ refusal file
-  unfolding valuationRefusal refusal
-  own hf hz = passes (leb 240 (length factors) && leb 240 (length rates)) (checks file) (rw (le-leb 240 (length factors) hf, le-leb 240 (length rates) hz))
-
   refused-call : (n : ℕ) → valuationRefusal (length factors) (length rates) file ≡ suc n → RefusedCall file factors rates
   unfolding valuationOf factorsAfter ratesAfter
   refused-call n e = record { answer = rw e; factorsKept = rw e; ratesKept = rw e }
@@ -97,16 +86,16 @@ module _ (file : List ℕ) (factors : List ℕ) (rates : List ℤ) where
     rates-are = rw h
 
     lower-factor : (t : ℕ) → t < 120 → getD (factorsAfter file factors rates) (2 * t) 0 ≡ Rounded.factor (curve (caseOf file) base) low (suc t)
-    lower-factor t l = rw factors-are (low-in (Rounded.factor (curve (caseOf file) base)) (drop 240 factors) 0 t l)
+    lower-factor t l = rw factors-are (lower-in (Rounded.factor (curve (caseOf file) base)) 120 (drop 240 factors) 0 t l)
 
     upper-factor : (t : ℕ) → t < 120 → getD (factorsAfter file factors rates) (2 * t + 1) 0 ≡ Rounded.factor (curve (caseOf file) base) high (suc t)
-    upper-factor t l = rw factors-are (high-in (Rounded.factor (curve (caseOf file) base)) (drop 240 factors) 0 t l)
+    upper-factor t l = rw factors-are (upper-in (Rounded.factor (curve (caseOf file) base)) 120 (drop 240 factors) 0 t l)
 
     lower-rate : (t : ℕ) → t < 120 → getD (ratesAfter file factors rates) (2 * t) (pos 0) ≡ Rounded.zeroRate (curve (caseOf file) base) low (suc t)
-    lower-rate t l = rw rates-are (low-in (Rounded.zeroRate (curve (caseOf file) base)) (drop 240 rates) (pos 0) t l)
+    lower-rate t l = rw rates-are (lower-in (Rounded.zeroRate (curve (caseOf file) base)) 120 (drop 240 rates) (pos 0) t l)
 
     upper-rate : (t : ℕ) → t < 120 → getD (ratesAfter file factors rates) (2 * t + 1) (pos 0) ≡ Rounded.zeroRate (curve (caseOf file) base) high (suc t)
-    upper-rate t l = rw rates-are (high-in (Rounded.zeroRate (curve (caseOf file) base)) (drop 240 rates) (pos 0) t l)
+    upper-rate t l = rw rates-are (upper-in (Rounded.zeroRate (curve (caseOf file) base)) 120 (drop 240 rates) (pos 0) t l)
 
     -- what the call gives is that of the rounded working
     is-rounded : (figures : Figures) (verdict : Verdict) → valuationOf (length factors) (length rates) file ≡ Valued figures verdict
@@ -132,14 +121,14 @@ module _ (file : List ℕ) (factors : List ℕ) (rates : List ℤ) where
           upperFactor = upper-factor;
           lowerRate = lower-rate;
           upperRate = upper-rate;
-          laterFactors = rw factors-are (behind (Rounded.factor (curve (caseOf file) base)) (drop 240 factors) 0);
-          laterRates = rw rates-are (behind (Rounded.zeroRate (curve (caseOf file) base)) (drop 240 rates) (pos 0));
+          laterFactors = rw factors-are (later (Rounded.factor (curve (caseOf file) base)) (drop 240 factors));
+          laterRates = rw rates-are (later (Rounded.zeroRate (curve (caseOf file) base)) (drop 240 rates));
           demand3 = λ f v e. demand3-of-files file (p .2) (given f v (factorsAfter file factors rates) (ratesAfter file factors rates)) (is-rounded f v e);
         }
 
   accepted-exactly : Bytes file → AcceptedExactly file factors rates
   accepted-exactly b = record {
-    keepsAccepted = λ hf hz x. own hf hz ∙ keeps-accepted file x .0;
+    keepsAccepted = λ hf hz x. own-refusal file factors rates hf hz ∙ keeps-accepted file x .0;
     acceptedKeeps = λ h. accepted-keeps file b (enough h .2) .0;
   }
 

@@ -16,6 +16,7 @@ use Rattle.model.specs.Rounded as Rounded
 use Rattle.model.specs.Buffers.{valuationRefusal, factorEntries, rateEntries, factorsAfter, ratesAfter, answered, valuationOf}
 use Rattle.model.specs.declared.figures.Valuation.{Valuation}
 use Rattle.model.specs.declared.figures.Valuation.the-variants.{Refused, Valued}
+use Rattle.theory.proofs.general.Lists.{and-false}
 use Rattle.casefile.specs.Answers.{numberOf, answerOf, readingOf}
 use Rattle.casefile.specs.declared.Answer.the-variants.{Accepted, Refused as RefusedFile}
 use Rattle.casefile.specs.declared.Reading.{Reading}
@@ -26,7 +27,7 @@ use Rattle.working.specs.inner.Ranges.{CaseFits}
 use Rattle.working.specs.inner.Working.{factorsOn, ratesOn, moneyOn}
 use Rattle.working.proofs.HeldCase.{held-fits, held-factors, held-rates, held-money}
 
--- one check in front of others
+-- one check before others
 pub fails : (b : Bool) (rest : List Check) → b ≡ false → firstOf ((b, 13) ∷ rest) ≡ 13
 unfolding firstOf
 fails b rest e = rw e
@@ -35,9 +36,11 @@ pub passes : (b : Bool) (rest : List Check) → b ≡ true → firstOf ((b, 13) 
 unfolding firstOf
 passes b rest e = rw e
 
-second-false : (a b : Bool) → b ≡ false → (a && b) ≡ false
-second-false true b e = e
-second-false false b e = refl
+-- with both buffers long enough, a valuation has the refusal of its file
+pub own-refusal : (file f₀ : List ℕ) (z₀ : List ℤ) → 240 ≤ length f₀ → 240 ≤ length z₀ → valuationRefusal (length f₀) (length z₀) file ≡ refusal file
+unfolding valuationRefusal refusal
+own-refusal file f₀ z₀ hf hz =
+    passes (leb 240 (length f₀) && leb 240 (length z₀)) (checks file) (rw (le-leb 240 (length f₀) hf, le-leb 240 (length z₀) hz))
 
 zero-answer : (file : List ℕ) → refusal file ≡ 0 → readingOf file .answer ≡ Accepted
 unfolding readingOf
@@ -100,20 +103,16 @@ module _ (file : List ℕ) (f₀ : List ℕ) (z₀ : List ℤ) (call : Call file
   unfolding valuationRefusal
   short-rates h =
       meets-refused 12
-      (fails (leb 240 (length f₀) && leb 240 (length z₀)) (checks file) (second-false (leb 240 (length f₀)) (leb 240 (length z₀)) (lt-leb 240 (length z₀) h)))
+      (fails (leb 240 (length f₀) && leb 240 (length z₀)) (checks file) (and-false (leb 240 (length f₀)) (leb 240 (length z₀)) (lt-leb 240 (length z₀) h)))
 
   module _ (hf : 240 ≤ length f₀) (hz : 240 ≤ length z₀) (r : Reading) (e : r ≡ readingOf file) where
-    own : valuationRefusal (length f₀) (length z₀) file ≡ refusal file
-    unfolding valuationRefusal refusal
-    own = passes (leb 240 (length f₀) && leb 240 (length z₀)) (checks file) (rw (le-leb 240 (length f₀) hf, le-leb 240 (length z₀) hz))
-
     -- a refused file: its number is not 0
     pub refused-file : (n : ℕ) → r .answer ≡ RefusedFile n → Meets (Refused n) f₀ z₀
     refused-file n a = let x = refused-number file r e n a in go n (x .0) (x .1)
       where
         go : (n : ℕ) → refusal file ≡ n → ((n ≡ 0) → ⊥) → Meets (Refused n) f₀ z₀
         go zero z h = absurd (h refl)
-        go (suc m) z h = meets-refused m (own ∙ z)
+        go (suc m) z h = meets-refused m (own-refusal file f₀ z₀ hf hz ∙ z)
 
     -- an accepted file
     pub accepted-file : r .answer ≡ Accepted → (v : Valuation) (f : List ℕ) (z : List ℤ)
@@ -123,7 +122,7 @@ module _ (file : List ℕ) (f₀ : List ℕ) (z₀ : List ℤ) (call : Call file
         → Meets v f z
     unfolding valuationOf factorsAfter ratesAfter
     accepted-file a v f z p q t =
-        let o : valuationRefusal (length f₀) (length z₀) file ≡ 0 = own ∙ accepted-reading file r e a .noRefusal in
+        let o : valuationRefusal (length f₀) (length z₀) file ≡ 0 = own-refusal file f₀ z₀ hf hz ∙ accepted-reading file r e a .noRefusal in
         let x = p ∙ ap (λ (y : Money). Valued (y .figures) (y .verdict)) (reading-money file r e a) in
         let y = q ∙ ap (λ (y : List ℕ). y ++ drop 240 f₀) (reading-factors file r e a) in
         let u = t ∙ ap (λ (y : List ℤ). y ++ drop 240 z₀) (reading-rates file r e a) in

@@ -1,9 +1,6 @@
 -- What it means to change one field of a case: the field is then the new one; a case that is given its own field is itself; and of two
 -- changes the last one counts. Together these leave no other field to change. Assumes nothing.
-use Prim.Native.Nat.{ℕ}
 use mathlib.Core.Path.{_≡_, refl}
-use mathlib.Core.List.{List}
-use lib.IntN.{ℤ}
 use Rattle.model.specs.Case.{FileCase, withUfr, withDays, withPension}
 
 -- a field of a case with the function that changes it

@@ -46,7 +46,7 @@ use Rattle.model.specs.Buffers.{valuationRefusal, byTerm, factorEntries,
 use Rattle.model.specs.Window.{windowPoint}
 use Rattle.model.specs.Listing.{ascii, digits, decimal, word, line, listing}
 
--- so many times the same two bytes
+-- the same two bytes, n times
 abbrev pub pairs : ℕ → ℕ → ℕ → List ℕ
 pairs zero a b = []
 pairs (suc n) a b = a ∷ b ∷ pairs n a b

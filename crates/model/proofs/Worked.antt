@@ -27,7 +27,7 @@ use Rattle.model.specs.declared.figures.Verdict.the-variants.{Reservetek
 use Rattle.model.specs.declared.window.Point.the-variants.{Factor, Money, Blank}
 use Rattle.model.proofs.Computing.{pairs, text, all}
 
--- so many zeros
+-- n zeros
 abbrev pub zeros : ℕ → List ℕ
 zeros n = replicate n 0
 

@@ -1,4 +1,4 @@
--- The case as the engine holds it: the struct of src/case.rt that stands for a case of document 01.
+-- The case as the engine holds it: the struct of src/case.rt that represents a case of document 01.
 use Prim.Native.Nat.{ℕ, suc}
 use mathlib.Core.List.{List}
 use lib.ListN.{length, getD, replicate}
@@ -8,7 +8,7 @@ use Rattle.model.specs.Case.{FileCase, noAmounts}
 use Rattle.model.specs.Curve.{base, curve, P}
 use Rattle.model.specs.declared.case.Case.{Case}
 
--- the n first of a list, with zeros behind its last
+-- the first n entries of a list, with zeros after its last
 abbrev pub padded : ℕ → List ℕ → List ℕ
 padded n xs = table (λ i. getD xs i 0) n
 

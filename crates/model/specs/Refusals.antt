@@ -35,7 +35,7 @@ unfoldable pub firstOf : List Check → ℕ
 firstOf [] = 0
 firstOf (check ∷ checks) = let rest = firstOf checks in cond (check .0) rest (check .1)
 
--- the file has so many bytes: else "it ends inside the map or inside a field whose bit stands"
+-- the file has at least `end` bytes: else "it ends inside the map or inside a field whose bit stands"
 abbrev pub reaches : List ℕ → ℕ → Bool
 reaches file end = leb end (length file)
 

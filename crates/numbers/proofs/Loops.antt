@@ -1,7 +1,6 @@
 -- What one more turn of a loop adds to a test, positions in a run of numbers, and entries past the last.
-use mathlib.Core.Path.{_≡_, refl, subst}
-use mathlib.Core.List.{List}
-use mathlib.Core.Bool.{Bool, true, false, _&&_}
+use mathlib.Core.Path.{_≡_, subst}
+use mathlib.Core.Bool.{Bool, true, false}
 use mathlib.Core.Logic.{⊎-elim}
 use Prim.Native.Nat.{ℕ, zero, suc, _+_, _*_, _<_, _≤_}
 use native.Mathlib.Nat.{mul-le-mul, not-suc-le-zero, le-of-suc-le-suc, eq-or-lt-of-le}
@@ -9,7 +8,7 @@ use native.Mathlib.Numerals.{add-one}
 use native.Mathlib.Omega.{arith}
 use lib.ListN.{getD, List·getD-eq-default}
 use Rattle.model.specs.Numbers.{every, table}
-use Rattle.theory.proofs.general.Lists.{length-table}
+use Rattle.theory.proofs.general.Lists.{and-false, length-table}
 
 -- a position in a run of numbers: up to eight bytes each, up to 5,000 of them
 pub run-most : (w i : ℕ) → w ≤ 8 → i ≤ 5000 → w * i ≤ 40000
@@ -19,10 +18,6 @@ run-most w i h k = mul-le-mul h k
 pub every-more : (test : ℕ → Bool) (i : ℕ) → every test i ≡ true → test i ≡ true → every test (i + 1) ≡ true
 unfolding every
 every-more test i h k = rw (add-one, h, k)
-
-and-false : (a b : Bool) → b ≡ false → (a && b) ≡ false
-and-false true b h = h
-and-false false b h = refl
 
 -- a test that fails at some i below n
 pub every-fails : (test : ℕ → Bool) (i n : ℕ) → i < n → test i ≡ false → every test n ≡ false

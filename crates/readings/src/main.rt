@@ -1,5 +1,5 @@
 // Reads many files (crate batch), and prints one line for each: R and the number of its refusal; or C and every field of its case in
-// the order of the struct, the arrays whole; and behind them where the part that holds the rates begins, its length and a hash of
+// the order of the struct, the arrays whole; after them, where the part that holds the rates begins, its length and a hash of
 // its bytes.
 use casefile::Answer;
 use libc::STDOUT_FILENO;

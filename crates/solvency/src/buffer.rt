@@ -21,7 +21,7 @@ fn two_squares(a: u64, b: u64) -> Wide
     sum(first, second)
 }
 
-// What stands under the root of the buffer, times 1,000: the six squares, and twice the correlation times the first two losses.
+// What is under the root of the buffer, times 1,000: the six squares, and twice the correlation times the first two losses.
 fn squares(c: u64, s1: u64, s2: u64, s3: u64, s4: u64, s5: u64, s6: u64) -> Wide
     requires { ⌜ SixFit c s1 s2 s3 s4 s5 s6 ⌝ }
     ensures { λ r. ⌜

@@ -6,7 +6,6 @@ ghost use Rattle.model.specs.Limits.{AmountsWithin, ShocksWithin};
 ghost use Rattle.model.specs.Rounded.{equityLoss, currencyLoss, commodityLoss, creditLoss};
 ghost use Rattle.model.specs.Brackets.{bracket};
 ghost use Rattle.solvency.specs.inner.Ranges.{LossFits};
-use arith::digits::product;
 use arith::scale::mul_div_ceil;
 use arith::scale::mul_div_floor;
 use model::case::Amounts;
@@ -66,7 +65,8 @@ pub fn s4(a: Amounts, x: Shocks) -> Bracket
     from_thousandths(100 * commodities)
 }
 
-// S5: credit × duration × spread × spread rise, by 100 ÷ 10^9, which is 1 ÷ 10^7. The product passes 64 bits.
+// S5: credit × duration × spread × spread rise, by 100 ÷ 10^9, which is 1 ÷ 10^7. The product of all four can pass
+// 64 bits, so the credit is multiplied and divided in one step.
 pub fn s5(a: Amounts, x: Shocks) -> Bracket
     requires { ⌜ AmountsWithin a × ShocksWithin x ⌝ }
     ensures { λ r. ⌜ r ≡ bracket (creditLoss a x) ⌝ }

@@ -1,5 +1,4 @@
 // The root of a fraction at both ends of a bracket.
-ghost use mathlib.Core.Path.{_≡_};
 ghost use Prim.Native.Nat.{_*_, _^_, _<_};
 ghost use Rattle.arith.specs.inner.Value.{val};
 ghost use Rattle.solvency.specs.inner.Ranges.{Roots};

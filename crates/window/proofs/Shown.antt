@@ -3,12 +3,12 @@
 use mathlib.Core.Path.{_≡_, refl, ap, _∙_}
 use mathlib.Core.Bool.{Bool, true, false, _&&_, cond}
 use mathlib.Core.List.{List, _++_}
-use Prim.Native.Nat.{ℕ, zero, suc, _+_, _*_, _-_, _^_, _≤_, _<_}
+use Prim.Native.Nat.{ℕ, zero, suc, _*_, _-_, _^_, _≤_, _<_}
 use native.Mathlib.Nat.{le-trans}
 use native.Mathlib.Omega.{arith}
 use lib.Dec.{leb, lit≤}
 use lib.IntN.{ℤ}
-use lib.ListN.{length, drop, getD, length-append, List·getD-append}
+use lib.ListN.{length, drop, getD, length-append}
 use Rattle.arith.specs.Rounding.{End, low, high}
 use Rattle.model.specs.Case.{FileCase}
 use Rattle.model.specs.Limits.{WithinLimits}
@@ -29,7 +29,7 @@ use Rattle.window.specs.Shown.{FactorShown, MoneyShown, Shown}
 use Rattle.window.proofs.Whole.{holds}
 use Rattle.window.proofs.Points as Points
 use Rattle.window.proofs.Points.{noBracket, none-shown, later-shown, factor-shown, money-shown}
-use Rattle.theory.proofs.general.Entries.{length-byTerm, lower-entry, upper-entry}
+use Rattle.theory.proofs.general.Entries.{length-byTerm, lower-in, upper-in}
 
 figure-shown : (f : Figures) (figure : End → ℕ) (p : ℕ) → 120 < p → p ≤ 130
     → bracket figure ≡ getD (figuresInOrder f) (p - 121) noBracket → ((e : End) → figure e ≤ 2 ^ 53) → MoneyShown p f figure
@@ -40,21 +40,15 @@ figure-shown f figure p least most is small = record {
   whole = λ e. holds (figure e) (small e);
 }
 
--- the factors' entries, with anything behind them
+-- the factors' entries, whatever follows them
 module _ (f : End → ℕ → ℕ) (rest : List ℕ) where
   entries-lent : (t : ℕ) → t ≤ 120 → 2 * t ≤ length (byTerm f 120 ++ rest)
   entries-lent t h = omega (arith, length-append (byTerm f 120) rest, length-byTerm f 120)
 
-  entry-low : (t : ℕ) → t < 120 → getD (byTerm f 120 ++ rest) (2 * t) 0 ≡ f low (suc t)
-  entry-low t h = List·getD-append (byTerm f 120) rest 0 (2 * t) (omega (arith, length-byTerm f 120)) ∙ lower-entry f 120 t 0 h
-
-  entry-high : (t : ℕ) → t < 120 → getD (byTerm f 120 ++ rest) (2 * t + 1) 0 ≡ f high (suc t)
-  entry-high t h = List·getD-append (byTerm f 120) rest 0 (2 * t + 1) (omega (arith, length-byTerm f 120)) ∙ upper-entry f 120 t 0 h
-
   entry-bracket : (t : ℕ) → t < 120 → factorBracket (byTerm f 120 ++ rest) (suc t) ≡ bracket (λ e. f e (suc t))
   entry-bracket t h =
       let e : suc t - 1 ≡ t = omega arith in
-      rw (e, entry-low t h, entry-high t h)
+      rw (e, lower-in f 120 rest 0 t h, upper-in f 120 rest 0 t h)
 
   term-shown : (figures : Figures) (t : ℕ) → 1 ≤ t → t ≤ 120 → ((e : End) → f e t ≤ 2 ^ 53) → FactorShown t (byTerm f 120 ++ rest) figures (λ e. f e t)
   term-shown figures zero least most small = absurd (let z : ⊥ = omega arith in z)

@@ -1,7 +1,7 @@
 -- The bridge from document 01's case to the engine's: the struct that holds a case within the limits is in range, and what is worked
 -- out of it is the rounded working of that case. Assumes nothing.
 use Prim.Native.Nat.{ℕ, _≤_, _<_}
-use mathlib.Core.Path.{_≡_, refl, ap, _∙_, fun-ext}
+use mathlib.Core.Path.{_≡_, ap, _∙_, fun-ext}
 use mathlib.Core.List.{List}
 use native.Mathlib.Omega.{arith}
 use lib.ListN.{length, getD, take}

@@ -143,5 +143,6 @@ on-worths f = fun-ext (λ m. fun-ext (λ e. at m e))
 pub money-at : (c : Case) (s : Curves) (l b : Worths) (r : Money) → l ≡ worths (owed (λ m. entryOf (entriesOn s m)) c) → b ≡ worths (bonds (λ m. entryOf (entriesOn s m)) c)
     → r ≡ moneyOf (on l) (on b) (c .amounts) (c .shocks) (c .people) → r ≡ moneyBy (λ m. entryOf (entriesOn s m)) c
 money-at c s l b r i j e =
-    e ∙ ap (λ (y : Move → End → ℕ). moneyOf y (on b) (c .amounts) (c .shocks) (c .people)) (ap on i ∙ on-worths (owed (λ m. entryOf (entriesOn s m)) c))
-    ∙ ap (λ (y : Move → End → ℕ). moneyOf (owed (λ m. entryOf (entriesOn s m)) c) y (c .amounts) (c .shocks) (c .people)) (ap on j ∙ on-worths (bonds (λ m. entryOf (entriesOn s m)) c))
+    let f : Move → End → ℕ → ℕ = λ m. entryOf (entriesOn s m) in
+    e ∙ ap (λ (y : Move → End → ℕ). moneyOf y (on b) (c .amounts) (c .shocks) (c .people)) (ap on i ∙ on-worths (owed f c))
+    ∙ ap (λ (y : Move → End → ℕ). moneyOf (owed f c) y (c .amounts) (c .shocks) (c .people)) (ap on j ∙ on-worths (bonds f c))

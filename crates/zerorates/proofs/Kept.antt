@@ -27,12 +27,22 @@ keep t d i r steps results terms l e k = record {
     term j h (no n) = rw (getD-set-other terms d j t 0 n) (k .term j h)
 
     result : (j : ℕ) → j < 15 → Dec (j ≡ d) → getD (set results d r) j 0 ≡ tested low (getD (set terms d t) j 0) (getD (set steps d i) j 0)
-    result j h (yes q) = rw (q, getD-set-same results d r 0 (omega (arith, k .resultsLength)), getD-set-same terms d t 0 (omega (arith, k .termsLength)), getD-set-same steps d i 0 (omega (arith, k .stepsLength))) e
+    result j h (yes q) =
+        let at-results = getD-set-same results d r 0 (omega (arith, k .resultsLength)) in
+        let at-terms = getD-set-same terms d t 0 (omega (arith, k .termsLength)) in
+        let at-steps = getD-set-same steps d i 0 (omega (arith, k .stepsLength)) in
+        rw (q, at-results, at-terms, at-steps) e
     result j h (no n) = rw (getD-set-other results d j r 0 n, getD-set-other terms d j t 0 n, getD-set-other steps d j i 0 n) (k .result j h)
 
 -- what is of a term up to t is of one up to t + 1
 pub keep-on : (t : ℕ) (steps results terms : List ℕ) → Kept t steps results terms → Kept (t + 1) steps results terms
-keep-on t steps results terms k = record { stepsLength = k .stepsLength; resultsLength = k .resultsLength; termsLength = k .termsLength; term = λ d h. omega (arith, k .term d h); result = k .result }
+keep-on t steps results terms k = record {
+  stepsLength = k .stepsLength;
+  resultsLength = k .resultsLength;
+  termsLength = k .termsLength;
+  term = λ d h. omega (arith, k .term d h);
+  result = k .result;
+}
 
 -- before the first term: of each test 10^12, over no years
 pub none-kept : (t : ℕ) → Kept t (replicate 15 0) (replicate 15 unit) (replicate 15 0)

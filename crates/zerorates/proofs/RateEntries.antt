@@ -1,4 +1,4 @@
--- The zero rates of factors that stand in entries, term by term. Assumes nothing.
+-- The zero rates of factors that are held as entries, term by term. Assumes nothing.
 use Prim.Native.Nat.{ℕ, zero, suc, _≤_}
 use mathlib.Core.Path.{_≡_, refl, ap}
 use native.Mathlib.Omega.{arith}

@@ -1,6 +1,6 @@
 // The results that the tests of a zero rate compare with a factor, and the memo of the lower ones.
-// A result is 10^12 taken t times × 100,000 ÷ (100,000 + z). A step i stands for the rate
-// z = i - 2,000; there are the steps 0 to 22,000.
+// A result is 10^12, multiplied t times by 100,000 ÷ (100,000 + z) and rounded each time. Step i is the rate z = i - 2,000; the
+// steps are 0 to 22,000.
 ghost use mathlib.Core.Path.{_≡_};
 ghost use Prim.Native.Nat.{_≤_, _<_};
 ghost use lib.Dec.{leb};

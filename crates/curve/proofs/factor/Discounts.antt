@@ -51,7 +51,8 @@ first-end : (c : CurveSums) (e : End) (t : ℕ) → 1 ≤ t → t ≤ 20 → sca
 first-end c e zero h l = absurd (let z : ⊥ = omega arith in z)
 first-end c e (suc j) h l = rw (rounded-factor-first (curveOf c) e j l, P-of c (suc j), N-of c)
 
-pub first-is : (c : CurveSums) (r : Bracket) (t : ℕ) → 1 ≤ t → t ≤ 20 → r ≡ bracket (λ e. scaled e (c .n) (getD (c .sums) t 0) t) → r ≡ bracket (λ e. Rounded.factor (curveOf c) e t)
+pub first-is : (c : CurveSums) (r : Bracket) (t : ℕ) → 1 ≤ t → t ≤ 20 → r ≡ bracket (λ e. scaled e (c .n) (getD (c .sums) t 0) t)
+    → r ≡ bracket (λ e. Rounded.factor (curveOf c) e t)
 first-is c r t h l k = k ∙ by-ends (λ e. scaled e (c .n) (getD (c .sums) t 0) t) (λ e. Rounded.factor (curveOf c) e t) (λ e. first-end c e t h l)
 
 -- from 21

@@ -87,7 +87,8 @@ module _ (c : CurveSums) (w : FactorsWithin c) where
   growth-is r zero h l = absurd (let z : ⊥ = omega arith in z)
   growth-is r (suc j) h l =
       let k : suc j - 1 ≡ j = omega arith in
-      rw k at l ∙ by-ends (λ e. divide e (scaled e (getD (c .sums) (suc j) 0) (getD (c .sums) j 0) j * getD (c .sums) (suc j) 0) (c .n)) (λ e. Rounded.growth (curveOf c) e (suc j)) (λ e. growth-end e j)
+      let p = getD (c .sums) (suc j) 0 in
+      rw k at l ∙ by-ends (λ e. divide e (scaled e p (getD (c .sums) j 0) j * p) (c .n)) (λ e. Rounded.growth (curveOf c) e (suc j)) (λ e. growth-end e j)
 
   pub weigh-within : (r : Bracket) (t v : ℕ) → 20 < t → t ≤ 60 → r ≡ bracket (λ e. Rounded.growth (curveOf c) e t) → v ≤ 1000 → WeighWithin r v (unit + c .ufr * 10 ^ 7)
   weigh-within r zero v h l k m = absurd (let z : ⊥ = omega arith in z)

@@ -11,16 +11,23 @@ enum-known-answer : tie.Need-enum-known-answer
 enum-known-answer c = search needs
 
 returns : tie.Need-returns
-returns c = figures-refused (c .before .before .before .before .before .args .file .now) _ (c .before .before .before .read .ensures .0) _ (c .before .answer .given .1)
+returns c =
+    let made = c .before .before .before in
+    figures-refused (made .before .before .args .file .now) _ (made .read .ensures .0) _ (c .before .answer .given .1)
 
 enum-told : tie.Need-enum-told
 enum-told c = search needs
 
 money-of-requires : tie.Need-money-of-requires
-money-of-requires c κs = reading-fits (c .before .before .before .before .before .args .file .now) _ (c .before .before .before .read .ensures .0) (c .before .enum-told .given .1)
+money-of-requires c κs =
+    let made = c .before .before .before in
+    reading-fits (made .before .before .args .file .now) _ (made .read .ensures .0) (c .before .enum-told .given .1)
 
 returns-2 : tie.Need-returns-2
-returns-2 c = figures-accepted (c .before .before .before .before .before .before .before .args .file .now) _ (c .before .before .before .before .before .read .ensures .0) (c .before .before .before .enum-told .given .1) _ (c .before .money-of .ensures)
+returns-2 c =
+    let told = c .before .before .before in
+    let made = told .before .before in
+    figures-accepted (made .before .before .args .file .now) _ (made .read .ensures .0) (told .enum-told .given .1) _ (c .before .money-of .ensures)
 
 pub figures-of-spec : {M : Type 1} → statement M
 figures-of-spec =

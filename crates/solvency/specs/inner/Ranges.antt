@@ -26,7 +26,7 @@ pub record CurvesFit (c : Curves) : Type 0 where
   pub up : FactorsFit (c .up)
   pub down : FactorsFit (c .down)
 
--- a bracket whose ends are at most so many cents
+-- a bracket whose ends are at most `most` cents
 pub record UpTo (most : ℕ) (b : Bracket) : Type 0 where
   pub lower : b .lower ≤ most
   pub upper : b .upper ≤ most

@@ -17,7 +17,7 @@ use Rattle.theory.proofs.general.Lists.{and-first, and-second, every-at
 abbrev pub shown : ℕ → Present
 shown map = record { ufr = stands 0 map; bonds = stands 3 map; amounts = stands 4 map }
 
--- where the n bits from bit i on do not stand and no bit behind them does, no bit from i on does
+-- where the n bits from bit i on do not stand and no bit above them does, no bit from i on does
 pub none-from : (m i n : ℕ) → every (λ j. not (stands (i + j) m)) n ≡ true → m / 2 ^ (i + n) ≡ 0 → m / 2 ^ i ≡ 0
 unfolding every
 none-from m i zero h z = ap (λ k. m / 2 ^ k) (sym (add-zero i)) ∙ z

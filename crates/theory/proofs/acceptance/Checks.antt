@@ -50,7 +50,7 @@ one false r rest t h = absurd (bad (ltb-true 0 r t) h)
     bad : 0 < r → r ≡ 0 → ⊥
     bad l e = omega arith
 
--- where none of the checks fails, those in front hold and none of those behind fails; and conversely
+-- where none of the checks fails, the first ones hold and none of the later ones fails; and conversely
 none-hold : (cs ds : List Check) → numbered cs ≡ true → firstOf (cs ++ ds) ≡ 0 → Hold cs × (firstOf ds ≡ 0)
 unfolding firstOf
 none-hold [] ds t h = (tt, h)

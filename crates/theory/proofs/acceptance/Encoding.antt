@@ -1,5 +1,5 @@
 -- Numbers as bytes, and bytes as numbers: what is read from a file is written back as the same bytes, and what was written is read. A
--- place in a file is known by what stands from there on, `drop at file`.
+-- position in a file is known by the bytes from there on, `drop at file`.
 use mathlib.Core.Path.{_≡_, refl, ap, ap₂, sym, _∙_}
 use mathlib.Core.Bool.{Bool, true, false, cond}
 use mathlib.Core.List.{List, [], _∷_, _++_, map, append-assoc, append-nil}

@@ -85,7 +85,7 @@ use Rattle.theory.proofs.acceptance.Parts.{fromPeople, fromShocks, from
 
 -- ---- one field
 
--- flows behind a count byte are read, and what follows them stands behind them
+-- the flows after a count byte are read, and `rest` follows them
 record FlowsRead (file : List ℕ) (at : ℕ) (flows rest : List ℕ) : Type 0 where
   count : getD file at 0 ≡ length flows
   read : flowsOf file at (getD file at 0) ≡ flows

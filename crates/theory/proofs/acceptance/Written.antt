@@ -1,5 +1,5 @@
 -- An accepted file is the bytes of the case that is read from it. From the last field to the first: the bytes of a field as it is read,
--- and behind them the bytes of the later fields, are what the file has from that field on, because the checks say that every field ends
+-- followed by the bytes of the later fields, are what the file has from that field on, because the checks say that every field ends
 -- within the file and that nothing follows the last.
 use mathlib.Core.Path.{_≡_, refl, ap, sym, _∙_}
 use mathlib.Core.Bool.{Bool, true, false, cond}
@@ -42,7 +42,7 @@ use Rattle.theory.proofs.acceptance.Encoding.{number-small, number-writ
 use Rattle.theory.proofs.acceptance.Parts.{fromPeople, fromShocks, fromAmounts, fromBonds, fromPension, fromDays, fromUfr, in-order}
 use Rattle.theory.proofs.acceptance.Bitmap.{shown, map-shown}
 
--- two parts that stand one behind the other
+-- two parts, one after the other
 then : (file xs ys : List ℕ) (at next end : ℕ) → xs ++ drop next file ≡ drop at file → ys ++ drop end file ≡ drop next file
     → (xs ++ ys) ++ drop end file ≡ drop at file
 then file xs ys at next end h k = append-assoc xs ys (drop end file) ∙ ap (λ l. xs ++ l) k ∙ h

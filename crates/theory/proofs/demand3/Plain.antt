@@ -18,7 +18,7 @@ use Rattle.model.specs.Margins.{WL, WB, NearFirst, NearSecond}
 use Rattle.model.specs.Demand3.{In, Given, Demand3}
 use Rattle.model.specs.declared.figures.Verdict.the-variants.{Onbeslist}
 
--- a fraction between two numbers that count it, in so many to 1
+-- a fraction between two numbers that count it, `scale` to 1
 abbrev Held : ℕ → ℕ → ℕ → Fraction → Type 0
 Held scale l u x = (0 < x .den) × (l * x .den ≤ scale * x .num) × (scale * x .num ≤ u * x .den)
 

@@ -1,4 +1,4 @@
--- What stands where in entries lower, upper, term by term.
+-- Which entry is which end of which term, in entries lower, upper, term by term.
 -- Assumes nothing.
 use Prim.Native.Nat.{ℕ, zero, suc, _+_, _*_, _-_, _≤_, _<_}
 use mathlib.Core.Path.{_≡_, refl, ap, sym, _∙_}
@@ -56,6 +56,14 @@ module _ {A : Type 0} (f : End → ℕ → A) where
   pub upper-entry : (n t : ℕ) (d : A) → t < n → getD (byTerm f n) (2 * t + 1) d ≡ f high (suc t)
   unfolding offset
   upper-entry = entry-at high
+
+-- the same where other entries follow
+module _ {A : Type 0} (f : End → ℕ → A) (n : ℕ) (rest : List A) (d : A) where
+  pub lower-in : (t : ℕ) → t < n → getD (byTerm f n ++ rest) (2 * t) d ≡ f low (suc t)
+  lower-in t h = List·getD-append (byTerm f n) rest d (2 * t) (omega (arith, length-byTerm f n)) ∙ lower-entry f n t d h
+
+  pub upper-in : (t : ℕ) → t < n → getD (byTerm f n ++ rest) (2 * t + 1) d ≡ f high (suc t)
+  upper-in t h = List·getD-append (byTerm f n) rest d (2 * t + 1) (omega (arith, length-byTerm f n)) ∙ upper-entry f n t d h
 
 -- entries that are known by their index, as `entryOr` reads them by their term
 pub by-term : {A : Type 0} (d : A) (entries : List A) (f : End → ℕ → A) (n : ℕ)

@@ -29,6 +29,10 @@ and-second false b h = absurd (subst T (sym h) tt)
 pub and-both : (a b : Bool) → a ≡ true → b ≡ true → (a && b) ≡ true
 and-both a b h k = rw h k
 
+pub and-false : (a b : Bool) → b ≡ false → (a && b) ≡ false
+and-false true b h = h
+and-false false b h = refl
+
 -- a test of each index below n holds of one of them, and conversely
 pub every-at : (test : ℕ → Bool) (n i : ℕ) → every test n ≡ true → i < n → test i ≡ true
 unfolding every

@@ -19,7 +19,7 @@ use Rattle.model.specs.Margins.{WL, WB}
 use Rattle.theory.proofs.curve.CaseCurves.{curve-within}
 use Rattle.theory.proofs.money.Money.{worth-width}
 
--- what stands under the root of the buffer, times 1,000
+-- what is under the root of the buffer, times 1,000
 abbrev squares : ℕ → ℕ → ℕ → ℕ → ℕ → ℕ → ℕ → ℕ
 squares c a b x y z v = 1000 * (a * a + b * b + x * x + y * y + z * z + v * v) + 2 * c * (a * b)
 

@@ -1,4 +1,4 @@
--- `curve::shift::shifted_curve` meets its contract. Before each turn the sums of the terms below t stand. Assumes nothing.
+-- `curve::shift::shifted_curve` meets its contract. Before each turn the sums of the terms below t are written. Assumes nothing.
 use Prim.Native.Nat.{_-_, _≤_}
 use mathlib.Core.Path.{_≡_, refl, ap, _∙_}
 use native.Mathlib.Omega.{arith}

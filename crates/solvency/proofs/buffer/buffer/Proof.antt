@@ -19,7 +19,9 @@ returns : tie.Need-returns
 returns c =
     let a = c .before .before .before .args in
     let r = c .roots .ensures in (
-      bracket-by _ _ (λ e. Rounded.buffer e (a .c) (endOf (a .s1) e) (endOf (a .s2) e) (endOf (a .s3) e) (endOf (a .s4) e) (endOf (a .s5) e) (endOf (a .s6) e)) (rw (c .before .before .squares .ensures .0) at (r .lower)) (rw (c .before .squares2 .ensures .0) at (r .upper)),
+      bracket-by _ _
+          (λ e. Rounded.buffer e (a .c) (endOf (a .s1) e) (endOf (a .s2) e) (endOf (a .s3) e) (endOf (a .s4) e) (endOf (a .s5) e) (endOf (a .s6) e))
+          (rw (c .before .before .squares .ensures .0) at (r .lower)) (rw (c .before .squares2 .ensures .0) at (r .upper)),
       record { lower = r .lowerMost; upper = r .upperMost },
     )
 

@@ -26,14 +26,23 @@ s6-requires : tie.Need-s6-requires
 s6-requires c κs = search needs
 
 buffer-requires : tie.Need-buffer-requires
-buffer-requires c κs = (c .before .before .before .before .before .before .before .before .before .pre .3 .correlation, c .before .before .before .before .before .s1 .ensures .1, c .before .before .before .before .s2 .ensures .1, c .before .before .before .s3 .ensures .1, c .before .before .s4 .ensures .1, c .before .s5 .ensures .1, c .s6 .ensures .1)
+buffer-requires c κs =
+    let fourth = c .before .before in
+    let second = fourth .before .before in
+    let first = second .before in
+    let start = first .before .before .before .before in
+    (start .pre .3 .correlation, first .s1 .ensures .1, second .s2 .ensures .1, fourth .before .s3 .ensures .1, fourth .s4 .ensures .1, c .before .s5 .ensures .1, c .s6 .ensures .1)
 
 returns : tie.Need-returns
 returns c =
-    let i = c .before .before .before .before .before .before .before .before .before .before in
-    let v = i .args in
-    let assets = c .before .before .before .before .before .before .before .assets .ensures in (
-      figures-are (v .l) (v .b) (v .a) (v .x) (v .p) _ _ _ _ _ _ _ _ assets (c .before .before .before .before .before .before .s1 .ensures .0) (c .before .before .before .before .before .s2 .ensures .0) (c .before .before .before .before .s3 .ensures .0) (c .before .before .before .s4 .ensures .0)
+    let fourth = c .before .before .before in
+    let second = fourth .before .before in
+    let first = second .before in
+    let assets = first .before .assets .ensures in
+    let i = first .before .before .before .before in
+    let v = i .args in (
+      figures-are (v .l) (v .b) (v .a) (v .x) (v .p) _ _ _ _ _ _ _ _ assets
+          (first .s1 .ensures .0) (second .s2 .ensures .0) (fourth .before .s3 .ensures .0) (fourth .s4 .ensures .0)
           (c .before .before .s5 .ensures .0) (c .before .s6 .ensures .0) (c .buffer .ensures .0),
       record { assets = assets-fit _ _ _ (i .pre .1 .base) (i .pre .2) assets; liabilities = worth-fits _ (i .pre .0 .base); buffer = c .buffer .ensures .1 },
     )

@@ -1,4 +1,5 @@
 -- `solvency::mortality::s6` meets its contract. Assumes nothing.
+use Prim.Native.Nat.{_≤_}
 use mathlib.Core.Path.{_≡_, refl}
 use native.Mathlib.Omega.{arith}
 use Rattle.arith.specs.Rounding.{low, high}
@@ -21,13 +22,24 @@ add-g : tie.Need-add-g
 add-g c = search needs
 
 mul-k : tie.Need-mul-k
-mul-k c = omega (arith, gap-square (c .before .args .p .heads) (c .age-gap .result) (c .before .pre .1 .some) (c .before .pre .1 .most) (omega (arith, c .age-gap .ensures, c .before .pre .1 .pensionAge)))
+mul-k c =
+    let s = c .before in
+    let old : c .age-gap .result ≤ 1200 = omega (arith, c .age-gap .ensures, s .pre .1 .pensionAge) in
+    omega (arith, gap-square (s .args .p .heads) (c .age-gap .result) (s .pre .1 .some) (s .pre .1 .most) old)
 
 mul-k-2 : tie.Need-mul-k-2
-mul-k-2 c = omega (arith, heads-square (c .before .before .args .p .heads) (c .before .age-gap .result) (c .before .before .pre .1 .some) (c .before .before .pre .1 .most) (omega (arith, c .before .age-gap .ensures, c .before .before .pre .1 .pensionAge)))
+mul-k-2 c =
+    let made = c .before in
+    let s = made .before in
+    let old : made .age-gap .result ≤ 1200 = omega (arith, made .age-gap .ensures, s .pre .1 .pensionAge) in
+    omega (arith, heads-square (s .args .p .heads) (made .age-gap .result) (s .pre .1 .some) (s .pre .1 .most) old)
 
 add-k : tie.Need-add-k
-add-k c = omega (arith, heads-square (c .before .before .args .p .heads) (c .before .age-gap .result) (c .before .before .pre .1 .some) (c .before .before .pre .1 .most) (omega (arith, c .before .age-gap .ensures, c .before .before .pre .1 .pensionAge)))
+add-k c =
+    let made = c .before in
+    let s = made .before in
+    let old : made .age-gap .result ≤ 1200 = omega (arith, made .age-gap .ensures, s .pre .1 .pensionAge) in
+    omega (arith, heads-square (s .args .p .heads) (made .age-gap .result) (s .pre .1 .some) (s .pre .1 .most) old)
 
 mul-d : tie.Need-mul-d
 mul-d c = search needs
@@ -39,20 +51,25 @@ product-requires-2 : tie.Need-product-requires-2
 product-requires-2 c κs = search needs
 
 roots-requires : tie.Need-roots-requires
-roots-requires c κs = (
-  margin-fits (c .before .before .before .before .before .args .p .heads) (c .before .before .before .before .age-gap .result) (c .before .before .before .before .before .pre .1 .some) (c .before .before .before .before .before .pre .1 .most) (omega (arith, c .before .before .before .before .age-gap .ensures, c .before .before .before .before .before .pre .1 .pensionAge)) _ _ _ (c .before .before .before .before .before .pre .0 .lower) refl (c .before .product .ensures),
-  margin-fits (c .before .before .before .before .before .args .p .heads) (c .before .before .before .before .age-gap .result) (c .before .before .before .before .before .pre .1 .some) (c .before .before .before .before .before .pre .1 .most) (omega (arith, c .before .before .before .before .age-gap .ensures, c .before .before .before .before .before .pre .1 .pensionAge)) _ _ _ (c .before .before .before .before .before .pre .0 .upper) refl (c .product2 .ensures),
-)
+roots-requires c κs =
+    let made = c .before .before .before .before in
+    let s = made .before in
+    let old : made .age-gap .result ≤ 1200 = omega (arith, made .age-gap .ensures, s .pre .1 .pensionAge) in (
+      margin-fits (s .args .p .heads) (made .age-gap .result) (s .pre .1 .some) (s .pre .1 .most) old _ _ _ (s .pre .0 .lower) refl (c .before .product .ensures),
+      margin-fits (s .args .p .heads) (made .age-gap .result) (s .pre .1 .some) (s .pre .1 .most) old _ _ _ (s .pre .0 .upper) refl (c .product2 .ensures),
+    )
 
 returns : tie.Need-returns
 returns c =
-    let s = c .before .before .before .before .before .before in
-    let gap : c .before .before .before .before .before .age-gap .result ≡ ageGap (s .args .p) = c .before .before .before .before .before .age-gap .ensures in
+    let made = c .before .before .before .before .before in
+    let s = made .before in
+    let old : made .age-gap .result ≤ 1200 = omega (arith, made .age-gap .ensures, s .pre .1 .pensionAge) in
+    let gap : made .age-gap .result ≡ ageGap (s .args .p) = made .age-gap .ensures in
     let r = c .roots .ensures in (
       bracket-by _ _ (mortalityLoss (endOf (s .args .l)) (s .args .p)) (rw (c .before .before .product .ensures, gap) at (r .lower)) (rw (c .before .product2 .ensures, gap) at (r .upper)),
       record {
-        lower = margin-end (c .before .before .before .before .before .before .args .p .heads) (c .before .before .before .before .before .age-gap .result) (c .before .before .before .before .before .before .pre .1 .some) (c .before .before .before .before .before .before .pre .1 .most) (omega (arith, c .before .before .before .before .before .age-gap .ensures, c .before .before .before .before .before .before .pre .1 .pensionAge)) _ _ _ (s .pre .0 .lower) refl (c .before .before .product .ensures) low _ (r .lower);
-        upper = margin-end (c .before .before .before .before .before .before .args .p .heads) (c .before .before .before .before .before .age-gap .result) (c .before .before .before .before .before .before .pre .1 .some) (c .before .before .before .before .before .before .pre .1 .most) (omega (arith, c .before .before .before .before .before .age-gap .ensures, c .before .before .before .before .before .before .pre .1 .pensionAge)) _ _ _ (s .pre .0 .upper) refl (c .before .product2 .ensures) high _ (r .upper);
+        lower = margin-end (s .args .p .heads) (made .age-gap .result) (s .pre .1 .some) (s .pre .1 .most) old _ _ _ (s .pre .0 .lower) refl (c .before .before .product .ensures) low _ (r .lower);
+        upper = margin-end (s .args .p .heads) (made .age-gap .result) (s .pre .1 .some) (s .pre .1 .most) old _ _ _ (s .pre .0 .upper) refl (c .before .product2 .ensures) high _ (r .upper);
       },
     )
 

@@ -23,22 +23,30 @@ mul-if2-2 : tie.Need-mul-if2-2
 mul-if2-2 c = search needs
 
 returns-2 : tie.Need-returns-2
-returns-2 c = sym (judge-first (endOf (c .before .before .before .before .before .before .args .a)) (endOf (c .before .before .before .before .before .before .args .l)) (endOf (c .before .before .before .before .before .before .args .s)) (omega arith) (omega arith))
+returns-2 c =
+    let v = c .before .before .before .before .before .before .args in
+    sym (judge-first (endOf (v .a)) (endOf (v .l)) (endOf (v .s)) (omega arith) (omega arith))
 
 add-if3 : tie.Need-add-if3
 add-if3 c = search needs
 
 returns-3 : tie.Need-returns-3
-returns-3 c = sym (judge-r (endOf (c .before .before .before .before .before .before .before .before .before .before .args .a)) (endOf (c .before .before .before .before .before .before .before .before .before .before .args .l)) (endOf (c .before .before .before .before .before .before .before .before .before .before .args .s)) (omega arith) (omega arith) (omega arith))
+returns-3 c =
+    let v = c .before .before .before .before .before .before .before .before .before .before .args in
+    sym (judge-r (endOf (v .a)) (endOf (v .l)) (endOf (v .s)) (omega arith) (omega arith) (omega arith))
 
 add-if4 : tie.Need-add-if4
 add-if4 c = search needs
 
 returns-4 : tie.Need-returns-4
-returns-4 c = sym (judge-v (endOf (c .before .before .before .before .before .before .before .before .before .before .before .before .before .before .args .a)) (endOf (c .before .before .before .before .before .before .before .before .before .before .before .before .before .before .args .l)) (endOf (c .before .before .before .before .before .before .before .before .before .before .before .before .before .before .args .s)) (omega arith) (omega arith) (omega arith) (omega arith))
+returns-4 c =
+    let v = c .before .before .before .before .before .before .before .before .before .before .before .before .before .before .args in
+    sym (judge-v (endOf (v .a)) (endOf (v .l)) (endOf (v .s)) (omega arith) (omega arith) (omega arith) (omega arith))
 
 returns-5 : tie.Need-returns-5
-returns-5 c = sym (judge-second (endOf (c .before .before .before .before .before .before .before .before .before .before .before .before .before .before .args .a)) (endOf (c .before .before .before .before .before .before .before .before .before .before .before .before .before .before .args .l)) (endOf (c .before .before .before .before .before .before .before .before .before .before .before .before .before .before .args .s)) (omega arith) (omega arith) (omega arith) (omega arith))
+returns-5 c =
+    let v = c .before .before .before .before .before .before .before .before .before .before .before .before .before .before .args in
+    sym (judge-second (endOf (v .a)) (endOf (v .l)) (endOf (v .s)) (omega arith) (omega arith) (omega arith) (omega arith))
 
 pub verdict-of-spec : {M : Type 1} → statement M
 verdict-of-spec =

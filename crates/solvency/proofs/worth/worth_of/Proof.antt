@@ -1,6 +1,6 @@
 -- `solvency::worth::worth_of` meets its contract. Assumes nothing.
 use Rattle.model.specs.Buffers.{entryOf}
-use Prim.Native.Nat.{_≤_, _<_, _+_, _*_, _-_, _^_}
+use Prim.Native.Nat.{_≤_, _<_, _*_, _-_, _^_}
 use mathlib.Core.Path.{_≡_, sym}
 use native.Mathlib.Omega.{arith}
 use lib.ListN.{length, take}
@@ -52,10 +52,16 @@ shared-slice-read-high-factor : tie.Need-shared-slice-read-high-factor Inv-loop 
 shared-slice-read-high-factor c = let p = c .before .before .before .before .before .before .before .pre in omega (arith, p .0 .few, p .1 .terms)
 
 mul-div-floor-requires : tie.Need-mul-div-floor-requires Inv-loop μ-loop
-mul-div-floor-requires c κs = let p = c .before .before .before .before .before .before .before .pre in let l = c .before .before .before .before .loop in flow-range _ _ (p .0 .flow (l .i) (omega arith)) (low-most _ (l .i) (p .1) (omega (arith, p .0 .few)))
+mul-div-floor-requires c κs =
+    let p = c .before .before .before .before .before .before .before .pre in
+    let l = c .before .before .before .before .loop in
+    flow-range _ _ (p .0 .flow (l .i) (omega arith)) (low-most _ (l .i) (p .1) (omega (arith, p .0 .few)))
 
 mul-div-ceil-requires : tie.Need-mul-div-ceil-requires Inv-loop μ-loop
-mul-div-ceil-requires c κs = let p = c .before .before .before .before .before .before .before .before .pre in let l = c .before .before .before .before .before .loop in flow-range _ _ (p .0 .flow (l .i) (omega arith)) (high-most _ (l .i) (p .1) (omega (arith, p .0 .few)))
+mul-div-ceil-requires c κs =
+    let p = c .before .before .before .before .before .before .before .before .pre in
+    let l = c .before .before .before .before .before .loop in
+    flow-range _ _ (p .0 .flow (l .i) (omega arith)) (high-most _ (l .i) (p .1) (omega (arith, p .0 .few)))
 
 add-lower : tie.Need-add-lower Inv-loop μ-loop
 add-lower c =

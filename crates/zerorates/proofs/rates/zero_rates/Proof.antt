@@ -1,4 +1,4 @@
--- `zerorates::rates::zero_rates` meets its contract. After t turns the entries of the terms 1 to t stand. Assumes nothing.
+-- `zerorates::rates::zero_rates` meets its contract. After t turns the entries of the terms 1 to t are written. Assumes nothing.
 use Prim.Native.Nat.{ℕ, _*_, _-_, _≤_}
 use mathlib.Core.Path.{_≡_, refl, ap, _∙_}
 use native.Mathlib.Omega.{arith}
@@ -41,7 +41,9 @@ array-read-search-lower-rate : tie.Need-array-read-search-lower-rate Inv-loop μ
 array-read-search-lower-rate c = omega arith
 
 search-lower-rate-requires : tie.Need-search-lower-rate-requires Inv-loop μ-loop
-search-lower-rate-requires c κs = (lower-within _ _ (c .before .before .before .before .before .pre) (omega arith), keep-on _ _ _ _ (c .before .before .before .before .loop .inv .3))
+search-lower-rate-requires c κs =
+    let turn = c .before .before .before .before in
+    (lower-within _ _ (turn .before .pre) (omega arith), keep-on _ _ _ _ (turn .loop .inv .3))
 
 add-search-upper-rate : tie.Need-add-search-upper-rate Inv-loop μ-loop
 add-search-upper-rate c = omega arith
@@ -56,7 +58,9 @@ array-read-search-upper-rate : tie.Need-array-read-search-upper-rate Inv-loop μ
 array-read-search-upper-rate c = omega arith
 
 search-upper-rate-requires : tie.Need-search-upper-rate-requires Inv-loop μ-loop
-search-upper-rate-requires c κs = (upper-within _ _ (c .before .before .before .before .before .before .before .before .before .pre) (omega arith), c .before .before .before .search-lower-rate .ensures .1 .1)
+search-upper-rate-requires c κs =
+    let searched = c .before .before .before in
+    (upper-within _ _ (searched .before .before .before .before .before .before .pre) (omega arith), searched .search-lower-rate .ensures .1 .1)
 
 rate-at-requires : tie.Need-rate-at-requires Inv-loop μ-loop
 rate-at-requires c κs = c .before .before .before .before .search-lower-rate .ensures .1 .0

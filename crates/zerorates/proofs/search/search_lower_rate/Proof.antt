@@ -26,9 +26,10 @@ sub-step c = omega arith
 
 lower-result-requires : tie.Need-lower-result-requires Inv-loop μ-loop
 lower-result-requires c κs =
-    let halved = c .before .before .before .before .loop .inv .0 in
+    let turn = c .before .before .before .before in
+    let halved = turn .loop .inv .0 in
     let test = c .before .before .before .loop-test .taken in
-    (record { term = c .before .before .before .before .before .pre .0 .term; step = omega (arith, halved .places .most) }, tests-most halved test, c .before .before .before .before .loop .inv .1)
+    (record { term = turn .before .pre .0 .term; step = omega (arith, halved .places .most) }, tests-most halved test, turn .loop .inv .1)
 
 add-d : tie.Need-add-d Inv-loop μ-loop
 add-d c = omega (arith, tests-most (c .before .before .before .before .before .loop .inv .0) (c .before .before .before .before .loop-test .taken))
@@ -39,7 +40,8 @@ loop-less c = omega arith
 loop-again : tie.Need-loop-again Inv-loop μ-loop
 loop-again c =
     let learnt = c .before .lower-result .ensures in
-    (step-left (c .before .before .before .before .before .before .loop .inv .0) (c .before .before .before .before .before .loop-test .taken) (omega (arith, learnt .0)), learnt .1)
+    let tested = c .before .before .before .before .before in
+    (step-left (tested .before .loop .inv .0) (tested .loop-test .taken) (omega (arith, learnt .0)), learnt .1)
 
 loop-less-2 : tie.Need-loop-less-2 Inv-loop μ-loop
 loop-less-2 c = omega arith
@@ -47,7 +49,8 @@ loop-less-2 c = omega arith
 loop-again-2 : tie.Need-loop-again-2 Inv-loop μ-loop
 loop-again-2 c =
     let learnt = c .before .lower-result .ensures in
-    (step-right (c .before .before .before .before .before .before .loop .inv .0) (c .before .before .before .before .before .loop-test .taken) (omega (arith, learnt .0)), learnt .1)
+    let tested = c .before .before .before .before .before in
+    (step-right (tested .before .loop .inv .0) (tested .loop-test .taken) (omega (arith, learnt .0)), learnt .1)
 
 sub-result : tie.Need-sub-result Inv-loop μ-loop
 sub-result c = lower-some _ _ _ _ _ (c .before .loop .inv .0) (c .before .before .pre .0 .passes) (c .loop-test .left)

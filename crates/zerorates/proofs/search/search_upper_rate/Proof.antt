@@ -28,17 +28,19 @@ sub-step c = omega arith
 
 lower-result-requires : tie.Need-lower-result-requires Inv-loop μ-loop
 lower-result-requires c κs =
-    let halved = c .before .before .before .before .loop .inv .0 in
+    let turn = c .before .before .before .before in
+    let halved = turn .loop .inv .0 in
     let test = c .before .before .before .loop-test .taken in
-    (record { term = c .before .before .before .before .before .pre .0 .term; step = omega (arith, halved .places .most) }, tests-most halved test, c .before .before .before .before .loop .inv .1)
+    (record { term = turn .before .pre .0 .term; step = omega (arith, halved .places .most) }, tests-most halved test, turn .loop .inv .1)
 
 add-d : tie.Need-add-d Inv-loop μ-loop
 add-d c = omega (arith, tests-most (c .before .before .before .before .before .loop .inv .0) (c .before .before .before .before .loop-test .taken))
 
 upper-passes-requires : tie.Need-upper-passes-requires Inv-loop μ-loop
 upper-passes-requires c κs =
-    let halved = c .before .before .before .before .before .loop .inv .0 in
-    (record { term = c .before .before .before .before .before .before .pre .0 .term; step = omega (arith, halved .places .most) }, c .lower-result .ensures .0)
+    let turn = c .before .before .before .before .before in
+    let halved = turn .loop .inv .0 in
+    (record { term = turn .before .pre .0 .term; step = omega (arith, halved .places .most) }, c .lower-result .ensures .0)
 
 loop-less : tie.Need-loop-less Inv-loop μ-loop
 loop-less c = omega arith
@@ -47,7 +49,8 @@ loop-again : tie.Need-loop-again Inv-loop μ-loop
 loop-again c =
     let learnt = c .before .before .lower-result .ensures in
     let test = c .before .upper-passes .ensures in
-    (step-right (c .before .before .before .before .before .before .before .loop .inv .0) (c .before .before .before .before .before .before .loop-test .taken) (leb-true _ _ (sym test ∙ c .if1 .taken)), learnt .1)
+    let tested = c .before .before .before .before .before .before in
+    (step-right (tested .before .loop .inv .0) (tested .loop-test .taken) (leb-true _ _ (sym test ∙ c .if1 .taken)), learnt .1)
 
 loop-less-2 : tie.Need-loop-less-2 Inv-loop μ-loop
 loop-less-2 c = omega arith
@@ -56,7 +59,8 @@ loop-again-2 : tie.Need-loop-again-2 Inv-loop μ-loop
 loop-again-2 c =
     let learnt = c .before .before .lower-result .ensures in
     let test = c .before .upper-passes .ensures in
-    (step-left (c .before .before .before .before .before .before .before .loop .inv .0) (c .before .before .before .before .before .before .loop-test .taken) (leb-false _ _ (sym test ∙ c .if1 .left)), learnt .1)
+    let tested = c .before .before .before .before .before .before in
+    (step-left (tested .before .loop .inv .0) (tested .loop-test .taken) (leb-false _ _ (sym test ∙ c .if1 .left)), learnt .1)
 
 sub-result : tie.Need-sub-result Inv-loop μ-loop
 sub-result c = omega (arith, c .before .loop .inv .0 .places .order)

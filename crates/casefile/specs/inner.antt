@@ -1,4 +1,2 @@
--- Nobody has to believe these: that they are the definitions of `model` is proved. Order: the checks, cut into the parts in which the code
--- goes through them. Fields: amounts and shocks by their numbers in a file.
-pub mod Order
+-- Nobody has to believe this: that it is the definition of `model` is proved. Fields: amounts and shocks by their numbers in a file.
 pub mod Fields

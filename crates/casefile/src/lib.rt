@@ -1,15 +1,13 @@
 // The reader of case files: what a host calls. Each function is defined for every list of bytes.
-mod checks;
 mod fields;
-mod order;
 
+use checks::order::map_to_days;
+use checks::order::pension_to_amounts;
+use checks::order::shocks_to_end;
 use fields::case_in;
 use model::case::Case;
-use numbers::positions::days_at;
-use numbers::positions::pension_at;
-use order::map_to_days;
-use order::pension_to_amounts;
-use order::shocks_to_end;
+use positions::days_at;
+use positions::pension_at;
 ghost use mathlib.Core.Path.{_≡_};
 ghost use Rattle.model.specs.Refusals.{refusal};
 ghost use Rattle.casefile.specs.Answers.{readingOf, ReadExactly, RatesPart};

@@ -14,7 +14,7 @@ use flat::flat_point;
 use flat::flat_valuation;
 use flat::valuation_from;
 use listing::write_listing;
-use numbers::positions::days_at;
+use positions::days_at;
 use window::window_point;
 ghost use mathlib.Core.Path.{_≡_};
 ghost use lib.ListN.{length, take, drop};

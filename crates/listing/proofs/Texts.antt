@@ -10,7 +10,8 @@ use Rattle.model.specs.declared.figures.Figures.{Figures}
 use Rattle.model.specs.declared.figures.Verdict.{Verdict}
 use Rattle.model.specs.declared.figures.Valuation.the-variants.{Valued}
 use Rattle.output.specs.inner.Wrote.{Wrote}
-use Rattle.listing.specs.inner.Parts.{spaced, named, values, firstLosses, lastLosses, judged}
+use Rattle.output.specs.inner.Lines.{spaced, named}
+use Rattle.listing.specs.inner.Parts.{values, firstLosses, lastLosses, judged}
 use Rattle.output.proofs.Stores.{as-text}
 
 line-named : (name : String) (b : Bracket) → named (ascii name) b ≡ line name b

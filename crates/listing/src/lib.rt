@@ -1,36 +1,16 @@
 // The listing of a valuation: fixed byte strings and numbers in base ten, written into a lent buffer.
-use model::figures::Bracket;
 use model::figures::Figures;
 use model::figures::Valuation;
 use model::figures::Verdict;
 use output::put;
 use output::put_digits;
+use output::put_line;
 ghost use mathlib.Core.Path.{_≡_};
 ghost use Prim.Native.Nat.{_+_, _≤_};
 ghost use lib.ListN.{length, take};
 ghost use Rattle.model.specs.Listing.{word, listing, listingAfter, listingLength};
 ghost use Rattle.output.specs.inner.Wrote.{Wrote};
-ghost use Rattle.listing.specs.inner.Parts.{spaced, named, values, firstLosses, lastLosses, judged};
-
-// A space and a number.
-fn put_number(buf: &mut [u8], at: usize, n: u64) -> usize
-    requires { ⌜ at + 21 ≤ length (now buf) ⌝ }
-    ensures { λ r. ⌜ Wrote (now (buf .entry)) at (spaced n) 21 r (now (buf .exit)) ⌝ }
-{
-    let at_first = put(buf, at, b" ");
-    put_digits(buf, at_first, 20, n)
-}
-
-// One line: name, lower, upper.
-fn put_line(buf: &mut [u8], at: usize, name: &[u8], b: Bracket) -> usize
-    requires { ⌜ (length (now name) ≤ 2) × (at + 45 ≤ length (now buf)) ⌝ }
-    ensures { λ r. ⌜ Wrote (now (buf .entry)) at (named (now (name .entry)) b) 45 r (now (buf .exit)) ⌝ }
-{
-    let at_lower = put(buf, at, name);
-    let at_upper = put_number(buf, at_lower, b.lower);
-    let at_end = put_number(buf, at_upper, b.upper);
-    put(buf, at_end, b"\n")
-}
+ghost use Rattle.listing.specs.inner.Parts.{values, firstLosses, lastLosses, judged};
 
 // The lines of L, B and A.
 fn put_values(buf: &mut [u8], at: usize, f: Figures) -> usize

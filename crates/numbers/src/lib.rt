@@ -1,5 +1,3 @@
-// The numbers of a case file as its bytes hold them: runs of numbers, the rates, and where the
-// fields stand.
-pub mod positions;
+// The numbers of a case file as its bytes hold them: runs of numbers, and the rates.
 pub mod rates;
 pub mod runs;

@@ -1,8 +1,10 @@
-// Bytes and numbers in base ten, written into a lent buffer.
+// Bytes, numbers in base ten and lines of a bracket, written into a lent buffer.
 ghost use Prim.Native.Nat.{_+_, _^_, _≤_, _<_};
 ghost use lib.ListN.{length};
 ghost use Rattle.model.specs.Listing.{digits};
+ghost use Rattle.output.specs.inner.Lines.{spaced, named};
 ghost use Rattle.output.specs.inner.Wrote.{Wrote};
+use model::figures::Bracket;
 
 // Stores text from at on, and answers the offset after it.
 pub fn put(buf: &mut [u8], at: usize, text: &[u8]) -> usize
@@ -29,4 +31,24 @@ pub fn put_digits(buf: &mut [u8], at: usize, k: u64, n: u64) -> usize
     let at_last = put_digits(buf, at, k - 1, n / 10);
     buf[at_last] = 48 + (n % 10) as u8;
     at_last + 1
+}
+
+// A space and a number.
+fn put_number(buf: &mut [u8], at: usize, n: u64) -> usize
+    requires { ⌜ at + 21 ≤ length (now buf) ⌝ }
+    ensures { λ r. ⌜ Wrote (now (buf .entry)) at (spaced n) 21 r (now (buf .exit)) ⌝ }
+{
+    let at_first = put(buf, at, b" ");
+    put_digits(buf, at_first, 20, n)
+}
+
+// One line: name, lower, upper.
+pub fn put_line(buf: &mut [u8], at: usize, name: &[u8], b: Bracket) -> usize
+    requires { ⌜ (length (now name) ≤ 2) × (at + 45 ≤ length (now buf)) ⌝ }
+    ensures { λ r. ⌜ Wrote (now (buf .entry)) at (named (now (name .entry)) b) 45 r (now (buf .exit)) ⌝ }
+{
+    let at_lower = put(buf, at, name);
+    let at_upper = put_number(buf, at_lower, b.lower);
+    let at_end = put_number(buf, at_upper, b.upper);
+    put(buf, at_end, b"\n")
 }

@@ -1,3 +1,2 @@
-pub mod Flows
+-- Products: laws that several modules cite. What serves one module is in the folder of that module.
 pub mod Products
-pub mod Same

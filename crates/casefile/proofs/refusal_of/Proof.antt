@@ -1,6 +1,6 @@
 -- `casefile::refusal_of` meets its contract. Assumes nothing.
 use mathlib.Core.Path.{sym, _∙_}
-use Rattle.casefile.proofs.FirstOf.{first-stops, second-stops, third-decides, to-days-numbered, to-amounts-numbered, in-parts}
+use Rattle.checks.proofs.FirstOf.{first-stops, second-stops, third-decides, to-days-numbered, to-amounts-numbered, in-parts}
 use borrow.Author.Needs.{needs}
 use Rattle.casefile.proofs.refusal_of.Statement.{statement}
 use Rattle.casefile.proofs.refusal_of.Tie as tie

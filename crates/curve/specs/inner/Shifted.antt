@@ -1,5 +1,6 @@
 -- A curve as the code holds it, and the three curves of a case that the engine holds.
 use Prim.Native.Nat.{ℕ, zero, suc, _+_, _*_, _-_}
+use mathlib.Core.List.{List}
 use lib.ListN.{getD}
 use lib.IntN.{pos, _-ℤ_}
 use Rattle.model.specs.Constants.{stepsPerOne}
@@ -8,6 +9,10 @@ use Rattle.model.specs.Curve.{Curve, Move}
 use Rattle.model.specs.inner.Shifts.{added, taken}
 use Rattle.model.specs.declared.case.Case.{Case}
 use Rattle.curve.specs.declared.shift.CurveSums.{CurveSums}
+
+-- the same by its parts
+abbrev pub sumsOf : ℕ → List ℕ → ℕ → CurveSums
+sumsOf n sums ufr = record { n = n; sums = sums; ufr = ufr }
 
 -- s(t) is P(t) - N
 unfoldable pub curveOf : CurveSums → Curve

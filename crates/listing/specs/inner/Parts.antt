@@ -1,18 +1,9 @@
 -- The parts in which the listing of `model` is written. Assumes nothing: that they join to it is proved.
 use Prim.Native.Nat.{ℕ}
 use mathlib.Core.List.{List, _++_}
-use Rattle.model.specs.Listing.{ascii, decimal, line, word}
-use Rattle.model.specs.declared.figures.Bracket.{Bracket}
+use Rattle.model.specs.Listing.{ascii, line, word}
 use Rattle.model.specs.declared.figures.Figures.{Figures}
 use Rattle.model.specs.declared.figures.Verdict.{Verdict}
-
--- a number with a space before it
-unfoldable pub spaced : ℕ → List ℕ
-spaced n = ascii " " ++ decimal n
-
--- a line by the bytes of its name
-unfoldable pub named : List ℕ → Bracket → List ℕ
-named name b = name ++ spaced (b .lower) ++ spaced (b .upper) ++ ascii "\n"
 
 -- L B A, S1 S2 S3, S4 S5 S6 S, and V with the verdict
 unfoldable pub values : Figures → List ℕ

@@ -1,5 +1,5 @@
 -- `solvency::figures::figures` meets its contract. Assumes nothing.
-use Rattle.solvency.proofs.Same.{figures-are, assets-fit, worth-fits}
+use Rattle.solvency.proofs.figures.Joined.{figures-are, assets-fit, worth-fits}
 use borrow.Author.Needs.{needs}
 use Rattle.solvency.proofs.figures.figures.Statement.{statement}
 use Rattle.solvency.proofs.figures.figures.Tie as tie

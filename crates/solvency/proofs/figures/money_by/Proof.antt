@@ -1,5 +1,5 @@
 -- `solvency::figures::money_by` meets its contract. Assumes nothing.
-use Rattle.solvency.proofs.Same.{money-is}
+use Rattle.solvency.proofs.figures.Joined.{money-is}
 use borrow.Author.Needs.{needs}
 use Rattle.solvency.proofs.figures.money_by.Statement.{statement}
 use Rattle.solvency.proofs.figures.money_by.Tie as tie

@@ -6,7 +6,7 @@ use native.Mathlib.Omega.{arith}
 use lib.ListN.{length, take}
 use Rattle.arith.specs.Rounding.{low, high}
 use Rattle.model.specs.Rounded.{worth}
-use Rattle.solvency.proofs.Flows.{no-worth, worth-next, factor-low, factor-high, low-most, high-most, flow-range, flow-most, worth-done}
+use Rattle.solvency.proofs.worth.Flows.{no-worth, worth-next, factor-low, factor-high, low-most, high-most, flow-range, flow-most, worth-done}
 use Rattle.solvency.proofs.worth.worth_of.Statement.{statement}
 use Rattle.solvency.proofs.worth.worth_of.Tie as tie
 

@@ -1,0 +1,2 @@
+-- The figures, put together from their parts.
+pub mod Joined

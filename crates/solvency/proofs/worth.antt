@@ -1,0 +1,2 @@
+-- Laws of the sum of flows times factors.
+pub mod Flows

@@ -1,8 +1,7 @@
 -- The parts in which the listing of `model` is written. Assumes nothing: that they join to it is proved.
 use Prim.Native.Nat.{ℕ}
 use mathlib.Core.List.{List, _++_}
-use Rattle.model.specs.Listing.{ascii, decimal, line, word}
-use Rattle.model.specs.declared.figures.Bracket.{Bracket}
+use Rattle.model.specs.Listing.{ascii, line, word}
 use Rattle.model.specs.declared.figures.Figures.{Figures}
 use Rattle.model.specs.declared.figures.Verdict.{Verdict}
 

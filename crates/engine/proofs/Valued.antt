@@ -24,7 +24,7 @@ use Rattle.casefile.proofs.AcceptedReading.{accepted-reading, reading-number}
 use Rattle.engine.specs.Guarantee.{Call}
 use Rattle.solvency.specs.declared.figures.Money.{Money}
 use Rattle.working.specs.inner.Ranges.{CaseFits}
-use Rattle.working.specs.inner.Working.{factorsOn, ratesOn, moneyOn}
+use Rattle.working.specs.inner.Working.{factorsOn, ratesOn, moneyOf}
 use Rattle.working.proofs.HeldCase.{held-fits, held-factors, held-rates, held-money}
 
 -- one check before others
@@ -57,8 +57,8 @@ module _ (file : List ℕ) (r : Reading) (e : r ≡ readingOf file) (a : r .answ
   reading-rates : ratesOn (r .«case») ≡ rateEntries (caseOf file)
   reading-rates = let x = accepted-reading file r e a in rw (x .holds) (held-rates (caseOf file) (x .within))
 
-  reading-money : moneyOn (r .«case») ≡ record { figures = Rounded.figures (caseOf file); verdict = Rounded.verdict (caseOf file) }
-  reading-money = let x = accepted-reading file r e a in ap moneyOn (x .holds) ∙ held-money (caseOf file) (x .within)
+  reading-money : moneyOf (r .«case») ≡ record { figures = Rounded.figures (caseOf file); verdict = Rounded.verdict (caseOf file) }
+  reading-money = let x = accepted-reading file r e a in ap moneyOf (x .holds) ∙ held-money (caseOf file) (x .within)
 
 -- the number of a refused file is not 0
 refused-number : (file : List ℕ) (r : Reading) → r ≡ readingOf file → (n : ℕ) → r .answer ≡ RefusedFile n → (refusal file ≡ n) × ((n ≡ 0) → ⊥)
@@ -79,7 +79,7 @@ module _ (file : List ℕ) (r : Reading) (e : r ≡ readingOf file) where
       go zero h = absurd (h refl)
       go (suc n) h = refl
 
-  pub figures-accepted : r .answer ≡ Accepted → (m : Money) → m ≡ moneyOn (r .«case») → Valued (m .figures) (m .verdict) ≡ answered (refusal file) (caseOf file)
+  pub figures-accepted : r .answer ≡ Accepted → (m : Money) → m ≡ moneyOf (r .«case») → Valued (m .figures) (m .verdict) ≡ answered (refusal file) (caseOf file)
   figures-accepted a m g =
       rw (accepted-reading file r e a .noRefusal) (ap (λ (x : Money). Valued (x .figures) (x .verdict)) (g ∙ reading-money file r e a))
 
@@ -116,7 +116,7 @@ module _ (file : List ℕ) (f₀ : List ℕ) (z₀ : List ℤ) (call : Call file
 
     -- an accepted file
     pub accepted-file : r .answer ≡ Accepted → (v : Valuation) (f : List ℕ) (z : List ℤ)
-        → v ≡ Valued (moneyOn (r .«case») .figures) (moneyOn (r .«case») .verdict)
+        → v ≡ Valued (moneyOf (r .«case») .figures) (moneyOf (r .«case») .verdict)
         → f ≡ factorsOn (r .«case») base ++ drop 240 f₀
         → z ≡ ratesOn (r .«case») ++ drop 240 z₀
         → Meets v f z

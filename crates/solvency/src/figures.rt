@@ -4,7 +4,7 @@ ghost use Rattle.model.specs.Limits.{AmountsWithin, ShocksWithin, PeopleWithin}
 ghost use Rattle.model.specs.Brackets.{bracket, endOf};
 ghost use Rattle.model.specs.Rounded as Rounded;
 ghost use Rattle.model.specs.Rounded.{figuresOf};
-ghost use Rattle.solvency.specs.inner.OnCurves.{on, moneyOf};
+ghost use Rattle.solvency.specs.inner.OnCurves.{on, moneyBy};
 ghost use Rattle.solvency.specs.inner.Ranges.{WorthFits, WorthsFit, Judgeable};
 use super::buffer::buffer;
 use super::interest::s1;
@@ -75,7 +75,7 @@ pub fn figures(l: Worths, b: Worths, a: Amounts, x: Shocks, p: People) -> Figure
 // The figures and the verdict by them.
 pub fn money_by(l: Worths, b: Worths, a: Amounts, x: Shocks, p: People) -> Money
     requires { ⌜ WorthsFit l × WorthsFit b × AmountsWithin a × ShocksWithin x × PeopleWithin p ⌝ }
-    ensures { λ r. ⌜ r ≡ moneyOf (on l) (on b) a x p ⌝ }
+    ensures { λ r. ⌜ r ≡ moneyBy (on l) (on b) a x p ⌝ }
 {
     let all = figures(l, b, a, x, p);
     let verdict = verdict_of(all.a, all.l, all.s);

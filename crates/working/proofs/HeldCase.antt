@@ -18,11 +18,11 @@ use Rattle.model.specs.Rounded.{rateOf}
 use Rattle.theory.proofs.general.Lists.{length-table, getD-table}
 use Rattle.curve.specs.inner.Shifted.{curveHeld}
 use Rattle.working.proofs.HeldCurves.{held-per-step-most, held-curve-within, held-base-within, held-factor}
-use Rattle.solvency.specs.inner.OnCurves.{moneyOf}
+use Rattle.solvency.specs.inner.OnCurves.{moneyBy}
 use Rattle.solvency.specs.inner.Ranges.{FlowsFit}
 use Rattle.solvency.specs.declared.figures.Money.{Money}
 use Rattle.working.specs.inner.Ranges.{CaseFits}
-use Rattle.working.specs.inner.Working.{factorsOn, ratesOn, moneyOn}
+use Rattle.working.specs.inner.Working.{factorsOn, ratesOn, moneyOf}
 
 -- the flows of a padded list
 take-padded : (n : ℕ) (xs : List ℕ) → length xs ≤ n → take (length xs) (padded n xs) ≡ xs
@@ -66,9 +66,9 @@ module _ (k : FileCase) (w : WithinLimits k) where
 
   abbrev parts : (Move → End → ℕ → ℕ) → List ℕ → List ℕ → Money
   parts f pension bonds =
-      moneyOf (λ m e. Rounded.worth e (f m e) 1 pension) (λ m e. Rounded.worth e (f m e) 1 bonds) (k .amounts) (k .shocks) (k .people)
+      moneyBy (λ m e. Rounded.worth e (f m e) 1 pension) (λ m e. Rounded.worth e (f m e) 1 bonds) (k .amounts) (k .shocks) (k .people)
 
-  pub held-money : moneyOn (held k) ≡ record { figures = Rounded.figures k; verdict = Rounded.verdict k }
+  pub held-money : moneyOf (held k) ≡ record { figures = Rounded.figures k; verdict = Rounded.verdict k }
   unfolding held
   held-money =
       ap (λ (f : Move → End → ℕ → ℕ). parts f (take (held k .«pension_count») (held k .pension)) (take (held k .«bond_count») (held k .bonds))) factors

@@ -25,13 +25,13 @@ use Rattle.curve.specs.inner.Ranges.{ShiftWithin, FactorsWithin}
 use Rattle.curve.proofs.Curves.{N-of, P-of}
 use Rattle.zerorates.specs.inner.Ranges.{RatesWithin}
 use Rattle.zerorates.proofs.RateEntries.{rates-of-entries, entries-within}
-use Rattle.solvency.specs.inner.OnCurves.{on, worths, entriesOn, moneyOf}
+use Rattle.solvency.specs.inner.OnCurves.{on, worths, entriesOn, factorsIn, moneyBy}
 use Rattle.solvency.specs.inner.Ranges.{FlowsFit, FactorsFit, CurvesFit}
 use Rattle.solvency.specs.declared.figures.Money.{Money}
 use Rattle.solvency.specs.declared.worth.Worths.{Worths}
 use Rattle.solvency.specs.declared.worth.Curves.{Curves}
 use Rattle.working.specs.inner.Ranges.{CaseFits}
-use Rattle.working.specs.inner.Working.{factorsOn, curvesOn, ratesOn, owed, bonds, moneyBy, moneyOn}
+use Rattle.working.specs.inner.Working.{factorsOn, curvesOn, ratesOn, owed, bonds, moneyOn, moneyOf}
 
 -- ---- the curves
 -- the base curve's sums are the case's own
@@ -109,20 +109,20 @@ module _ {c : Case} (h : CaseFits c) where
       at up e = worth-entries (Rounded.factor (curveHeld c up)) e xs l
       at down e = worth-entries (Rounded.factor (curveHeld c down)) e xs l
 
-  own-money : moneyBy (λ m. entryOf (entriesOn (curvesOn c) m)) c ≡ moneyOn c
+  own-money : moneyOn (factorsIn (curvesOn c)) c ≡ moneyOf c
   own-money =
-      ap (λ (l : Move → End → ℕ). moneyOf l (bonds (λ m. entryOf (entriesOn (curvesOn c) m)) c) (c .amounts) (c .shocks) (c .people))
+      ap (λ (l : Move → End → ℕ). moneyBy l (bonds (factorsIn (curvesOn c)) c) (c .amounts) (c .shocks) (c .people))
       (flows-by (take (c .«pension_count») (c .pension)) (few (c .pension) (c .«pension_count») (h .pension)))
-      ∙ ap (λ (b : Move → End → ℕ). moneyOf (owed (λ m. Rounded.factor (curveHeld c m)) c) b (c .amounts) (c .shocks) (c .people))
+      ∙ ap (λ (b : Move → End → ℕ). moneyBy (owed (λ m. Rounded.factor (curveHeld c m)) c) b (c .amounts) (c .shocks) (c .people))
       (flows-by (take (c .«bond_count») (c .bonds)) (few (c .bonds) (c .«bond_count») (h .bonds)))
 
-  module _ (s : Curves) (e : s ≡ curvesOn c) (r : Money) (g : r ≡ moneyBy (λ m. entryOf (entriesOn s m)) c) where
-    pub money-is : r ≡ moneyOn c
-    money-is = g ∙ ap (λ (x : Curves). moneyBy (λ m. entryOf (entriesOn x m)) c) e ∙ own-money
+  module _ (s : Curves) (e : s ≡ curvesOn c) (r : Money) (g : r ≡ moneyOn (factorsIn s) c) where
+    pub money-is : r ≡ moneyOf c
+    money-is = g ∙ ap (λ (x : Curves). moneyOn (factorsIn x) c) e ∙ own-money
 
     -- `value_case`: the answer, and both buffers at the end
     pub valued : (b f f₀ : List ℕ) (z y y₀ : List ℤ) → b ≡ s .base → z ≡ byTerm (rateOf (entryOf b)) 120 → f ≡ b ++ drop 240 f₀ → y ≡ z ++ drop 240 y₀
-        → (Valued (r .figures) (r .verdict) ≡ Valued (moneyOn c .figures) (moneyOn c .verdict)) × ((f ≡ factorsOn c base ++ drop 240 f₀) × (y ≡ ratesOn c ++ drop 240 y₀))
+        → (Valued (r .figures) (r .verdict) ≡ Valued (moneyOf c .figures) (moneyOf c .verdict)) × ((f ≡ factorsOn c base ++ drop 240 f₀) × (y ≡ ratesOn c ++ drop 240 y₀))
     valued b f f₀ z y y₀ i j k l =
         let x : b ≡ factorsOn c base = i ∙ ap (λ (w : Curves). w .base) e in
         let q : z ≡ ratesOn c = j ∙ ap (λ (w : List ℕ). byTerm (rateOf (entryOf w)) 120) x ∙ rates-of-entries (Rounded.factor (curveHeld c base)) in
@@ -140,9 +140,9 @@ on-worths f = fun-ext (λ m. fun-ext (λ e. at m e))
     at down low = refl
     at down high = refl
 
-pub money-at : (c : Case) (s : Curves) (l b : Worths) (r : Money) → l ≡ worths (owed (λ m. entryOf (entriesOn s m)) c) → b ≡ worths (bonds (λ m. entryOf (entriesOn s m)) c)
-    → r ≡ moneyOf (on l) (on b) (c .amounts) (c .shocks) (c .people) → r ≡ moneyBy (λ m. entryOf (entriesOn s m)) c
+pub money-at : (c : Case) (s : Curves) (l b : Worths) (r : Money) → l ≡ worths (owed (factorsIn s) c) → b ≡ worths (bonds (factorsIn s) c)
+    → r ≡ moneyBy (on l) (on b) (c .amounts) (c .shocks) (c .people) → r ≡ moneyOn (factorsIn s) c
 money-at c s l b r i j e =
-    let f : Move → End → ℕ → ℕ = λ m. entryOf (entriesOn s m) in
-    e ∙ ap (λ (y : Move → End → ℕ). moneyOf y (on b) (c .amounts) (c .shocks) (c .people)) (ap on i ∙ on-worths (owed f c))
-    ∙ ap (λ (y : Move → End → ℕ). moneyOf (owed f c) y (c .amounts) (c .shocks) (c .people)) (ap on j ∙ on-worths (bonds f c))
+    let f : Move → End → ℕ → ℕ = factorsIn s in
+    e ∙ ap (λ (y : Move → End → ℕ). moneyBy y (on b) (c .amounts) (c .shocks) (c .people)) (ap on i ∙ on-worths (owed f c))
+    ∙ ap (λ (y : Move → End → ℕ). moneyBy (owed f c) y (c .amounts) (c .shocks) (c .people)) (ap on j ∙ on-worths (bonds f c))

@@ -6,11 +6,10 @@ ghost use Prim.Native.Nat.{_≤_};
 ghost use mathlib.Core.List.{_++_};
 ghost use lib.ListN.{length, drop};
 ghost use Rattle.model.specs.Curve.{base};
-ghost use Rattle.model.specs.Buffers.{entryOf};
 ghost use Rattle.model.specs.declared.figures.Valuation.the-variants.{Valued};
-ghost use Rattle.solvency.specs.inner.OnCurves.{entriesOn};
+ghost use Rattle.solvency.specs.inner.OnCurves.{factorsIn};
 ghost use Rattle.solvency.specs.inner.Ranges.{CurvesFit};
-ghost use Rattle.working.specs.inner.Working.{factorsOn, curvesOn, ratesOn, moneyBy, moneyOn};
+ghost use Rattle.working.specs.inner.Working.{factorsOn, curvesOn, ratesOn, moneyOn, moneyOf};
 ghost use Rattle.working.specs.inner.Ranges.{CaseFits};
 use curve::factor::factors;
 use curve::shift::shifted_curve;
@@ -50,7 +49,7 @@ pub fn curves_of(case: Case) -> Curves
 // The figures and the verdict of a case at given factors of the three curves, its own or others.
 pub fn money_on(case: Case, c: Curves) -> Money
     requires { ⌜ CaseFits case × CurvesFit c ⌝ }
-    ensures { λ r. ⌜ r ≡ moneyBy (λ m. entryOf (entriesOn c m)) case ⌝ }
+    ensures { λ r. ⌜ r ≡ moneyOn (factorsIn c) case ⌝ }
 {
     let owed = worths_of(&case.pension, case.pension_count, c);
     let bonds = worths_of(&case.bonds, case.bond_count, c);
@@ -60,7 +59,7 @@ pub fn money_on(case: Case, c: Curves) -> Money
 // The figures and the verdict of a case. No zero rate is worked out.
 pub fn money_of(case: Case) -> Money
     requires { ⌜ CaseFits case ⌝ }
-    ensures { λ r. ⌜ r ≡ moneyOn case ⌝ }
+    ensures { λ r. ⌜ r ≡ moneyOf case ⌝ }
 {
     let curves = curves_of(case);
     money_on(case, curves)
@@ -69,7 +68,7 @@ pub fn money_of(case: Case) -> Money
 // Values a case: writes the entries 0 to 239 of both lent buffers, and answers the figures and the verdict.
 pub fn value_case(case: Case, factors: &mut [u64], rates: &mut [i64]) -> Valuation
     requires { ⌜ CaseFits case × (240 ≤ length (now factors)) × (240 ≤ length (now rates)) ⌝ }
-    ensures { λ r. ⌜ r ≡ Valued (moneyOn case .figures) (moneyOn case .verdict) ⌝ }
+    ensures { λ r. ⌜ r ≡ Valued (moneyOf case .figures) (moneyOf case .verdict) ⌝ }
     ensures factors { λ r. ⌜ now (factors .exit) ≡ factorsOn case base ++ drop 240 (now (factors .entry)) ⌝ }
     ensures rates { λ r. ⌜ now (rates .exit) ≡ ratesOn case ++ drop 240 (now (rates .entry)) ⌝ }
 {

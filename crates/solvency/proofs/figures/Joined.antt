@@ -14,7 +14,7 @@ use Rattle.model.specs.declared.case.People.{People}
 use Rattle.model.specs.declared.figures.Bracket.{Bracket}
 use Rattle.model.specs.declared.figures.Figures.{Figures}
 use Rattle.model.specs.declared.figures.Verdict.{Verdict}
-use Rattle.solvency.specs.inner.OnCurves.{on, moneyOf}
+use Rattle.solvency.specs.inner.OnCurves.{on, moneyBy}
 use Rattle.solvency.specs.inner.Ranges.{UpTo, WorthFits}
 use Rattle.solvency.specs.declared.worth.Worths.{Worths}
 use Rattle.solvency.specs.declared.figures.Money.{Money}
@@ -48,7 +48,7 @@ judge-ends a l s = refl
 
 pub money-is : (l b : Worths) (a : Amounts) (x : Shocks) (p : People) (f : Figures) (v : Verdict)
     → f ≡ figuresOf (on l) (on b) a x p → v ≡ judge (endOf (f .a)) (endOf (f .l)) (endOf (f .s))
-    → _≡_ {A = Money} (record { figures = f; verdict = v }) (moneyOf (on l) (on b) a x p)
+    → _≡_ {A = Money} (record { figures = f; verdict = v }) (moneyBy (on l) (on b) a x p)
 money-is l b a x p f v e g =
     let j : v ≡ verdictOf (on l) (on b) a x p =
     g ∙ ap (λ (y : Figures). judge (endOf (y .a)) (endOf (y .l)) (endOf (y .s))) e

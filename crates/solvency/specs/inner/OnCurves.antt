@@ -2,6 +2,7 @@
 use Prim.Native.Nat.{ℕ}
 use mathlib.Core.List.{List}
 use Rattle.arith.specs.Rounding.{End}
+use Rattle.model.specs.Buffers.{entryOf}
 use Rattle.model.specs.Curve.{Move, base, up, down}
 use Rattle.model.specs.Rounded.{figuresOf, verdictOf}
 use Rattle.model.specs.Brackets.{bracket, endOf}
@@ -12,6 +13,7 @@ use Rattle.solvency.specs.declared.worth.Curves.{Curves}
 use Rattle.solvency.specs.declared.worth.Worths.{Worths}
 use Rattle.solvency.specs.declared.figures.Money.{Money}
 
+-- what the code holds, by curve and end; and back
 abbrev pub on : Worths → Move → End → ℕ
 on w base = endOf (w .base)
 on w up = endOf (w .up)
@@ -26,5 +28,9 @@ entriesOn c base = c .base
 entriesOn c up = c .up
 entriesOn c down = c .down
 
-abbrev pub moneyOf : (Move → End → ℕ) → (Move → End → ℕ) → Amounts → Shocks → People → Money
-moneyOf l b a x p = record { figures = figuresOf l b a x p; verdict = verdictOf l b a x p }
+-- the same by end and term
+abbrev pub factorsIn : Curves → Move → End → ℕ → ℕ
+factorsIn c m = entryOf (entriesOn c m)
+
+abbrev pub moneyBy : (Move → End → ℕ) → (Move → End → ℕ) → Amounts → Shocks → People → Money
+moneyBy l b a x p = record { figures = figuresOf l b a x p; verdict = verdictOf l b a x p }

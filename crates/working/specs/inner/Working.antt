@@ -11,7 +11,7 @@ use Rattle.model.specs.Rounded as Rounded
 use Rattle.model.specs.Rounded.{worth}
 use Rattle.model.specs.declared.case.Case.{Case}
 use Rattle.curve.specs.inner.Shifted.{curveHeld}
-use Rattle.solvency.specs.inner.OnCurves.{moneyOf}
+use Rattle.solvency.specs.inner.OnCurves.{moneyBy}
 use Rattle.solvency.specs.declared.figures.Money.{Money}
 use Rattle.solvency.specs.declared.worth.Curves.{Curves}
 
@@ -32,9 +32,9 @@ owed f c m e = worth e (f m e) 1 (take (c .«pension_count») (c .pension))
 abbrev pub bonds : (Move → End → ℕ → ℕ) → Case → Move → End → ℕ
 bonds f c m e = worth e (f m e) 1 (take (c .«bond_count») (c .bonds))
 
-abbrev pub moneyBy : (Move → End → ℕ → ℕ) → Case → Money
-moneyBy f c = moneyOf (owed f c) (bonds f c) (c .amounts) (c .shocks) (c .people)
+abbrev pub moneyOn : (Move → End → ℕ → ℕ) → Case → Money
+moneyOn f c = moneyBy (owed f c) (bonds f c) (c .amounts) (c .shocks) (c .people)
 
 -- its figures and verdict, at the factors of its own curves
-abbrev pub moneyOn : Case → Money
-moneyOn c = moneyBy (λ m. Rounded.factor (curveHeld c m)) c
+abbrev pub moneyOf : Case → Money
+moneyOf c = moneyOn (λ m. Rounded.factor (curveHeld c m)) c

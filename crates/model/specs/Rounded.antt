@@ -79,6 +79,7 @@ worth e factors t (euros ∷ flows) = divide e (euros * factors t) (10 ^ 10) + w
 
 -- The money figures, by the parts that each reads. `l` and `b` are what pension flows and bonds are worth on the three curves, at both
 -- ends.
+-- A: the bonds, and the amounts except currency exposure, which are whole cents
 abbrev pub assets : (End → ℕ) → Amounts → End → ℕ
 assets bonds a e = bonds e + 100 * allExceptCurrency a
 
@@ -86,11 +87,11 @@ assets bonds a e = bonds e + 100 * allExceptCurrency a
 abbrev pub fallOf : (End → ℕ) → (End → ℕ) → (End → ℕ) → (End → ℕ) → End → ℕ
 fallOf l b l' b' e = (b e + l' e) - (b' (other e) + l (other e))
 
--- "the maximum with 0 is taken of each end"
+-- S1: "the maximum with 0 is taken of each end"
 abbrev pub interestLoss : (Move → End → ℕ) → (Move → End → ℕ) → End → ℕ
 interestLoss l b e = max 0 (max (fallOf (l base) (b base) (l up) (b up) e) (fallOf (l base) (b base) (l down) (b down) e))
 
--- "S2 to S5 round once.": euros and thousandths to cents
+-- S2, S3 and S4: "S2 to S5 round once.", euros and thousandths to cents
 abbrev pub equityLoss : Amounts → Shocks → End → ℕ
 equityLoss a x e =
     divide e
@@ -104,7 +105,7 @@ currencyLoss a x e = divide e (100 * (a .currency * x .«currency_fall»)) 1000
 abbrev pub commodityLoss : Amounts → Shocks → End → ℕ
 commodityLoss a x e = divide e (100 * (a .commodities * x .«commodities_fall»)) 1000
 
--- tenths of a year, steps and thousandths: 10 × 100,000 × 1,000 is 10^9
+-- S5: tenths of a year, steps and thousandths, so 10 × 100,000 × 1,000 is 10^9
 abbrev pub creditLoss : Amounts → Shocks → End → ℕ
 creditLoss a x e = divide e (100 * (a .credit * x .duration * x .spread * x .«spread_rise»)) (10 ^ 9)
 
@@ -112,6 +113,7 @@ creditLoss a x e = divide e (100 * (a .credit * x .duration * x .spread * x .«s
 abbrev pub mortality : ℕ → ℕ → ℕ
 mortality h d = h * ((320 + 3 * d) * (320 + 3 * d)) + 92160000
 
+-- S6
 abbrev pub mortalityLoss : (End → ℕ) → People → End → ℕ
 mortalityLoss l p e = root e (l e * l e * mortality (p .heads) (ageGap p)) (256000000 * p .heads)
 
@@ -122,6 +124,7 @@ buffer e correlation s1 s2 s3 s4 s5 s6 =
     (1000 * (s1 * s1 + s2 * s2 + s3 * s3 + s4 * s4 + s5 * s5 + s6 * s6) + 2 * correlation * (s1 * s2))
     1000
 
+-- S, from the parts of the six losses
 abbrev pub bufferOf : (Move → End → ℕ) → (Move → End → ℕ) → Amounts → Shocks → People → End → ℕ
 bufferOf l b a x p e =
     buffer e (x .correlation) (interestLoss l b e) (equityLoss a x e) (currencyLoss a x e) (commodityLoss a x e) (creditLoss a x e)

@@ -5,10 +5,11 @@ use model::figures::Verdict;
 use output::put;
 use output::put_digits;
 use output::put_line;
+use output::put_word;
 ghost use mathlib.Core.Path.{_≡_};
 ghost use Prim.Native.Nat.{_+_, _≤_};
 ghost use lib.ListN.{length, take};
-ghost use Rattle.model.specs.Listing.{word, listing, listingAfter, listingLength};
+ghost use Rattle.model.specs.Listing.{listing, listingAfter, listingLength};
 ghost use Rattle.output.specs.inner.Wrote.{Wrote};
 ghost use Rattle.listing.specs.inner.Parts.{values, firstLosses, lastLosses, judged};
 
@@ -41,19 +42,6 @@ fn put_last_losses(buf: &mut [u8], at: usize, f: Figures) -> usize
     let at_s6 = put_line(buf, at_s5, b"S5", f.s5);
     let at_s = put_line(buf, at_s6, b"S6", f.s6);
     put_line(buf, at_s, b"S", f.s)
-}
-
-// The word of a verdict.
-fn put_word(buf: &mut [u8], at: usize, v: Verdict) -> usize
-    requires { ⌜ at + 14 ≤ length (now buf) ⌝ }
-    ensures { λ r. ⌜ Wrote (now (buf .entry)) at (word v) 14 r (now (buf .exit)) ⌝ }
-{
-    match v {
-        Verdict::Dekkingstekort => put(buf, at, b"DEKKINGSTEKORT"),
-        Verdict::Reservetekort => put(buf, at, b"RESERVETEKORT"),
-        Verdict::VrijVermogen => put(buf, at, b"VRIJ VERMOGEN"),
-        Verdict::Onbeslist => put(buf, at, b"ONBESLIST"),
-    }
 }
 
 // V and the verdict.

@@ -1,10 +1,11 @@
-// Bytes, numbers in base ten and lines of a bracket, written into a lent buffer.
+// Bytes, numbers in base ten, lines of a bracket and the words of a verdict, written into a lent buffer.
 ghost use Prim.Native.Nat.{_+_, _^_, _≤_, _<_};
 ghost use lib.ListN.{length};
-ghost use Rattle.model.specs.Listing.{digits};
+ghost use Rattle.model.specs.Listing.{digits, word};
 ghost use Rattle.output.specs.inner.Lines.{spaced, named};
 ghost use Rattle.output.specs.inner.Wrote.{Wrote};
 use model::figures::Bracket;
+use model::figures::Verdict;
 
 // Stores text from at on, and answers the offset after it.
 pub fn put(buf: &mut [u8], at: usize, text: &[u8]) -> usize
@@ -51,4 +52,17 @@ pub fn put_line(buf: &mut [u8], at: usize, name: &[u8], b: Bracket) -> usize
     let at_upper = put_number(buf, at_lower, b.lower);
     let at_end = put_number(buf, at_upper, b.upper);
     put(buf, at_end, b"\n")
+}
+
+// The word of a verdict.
+pub fn put_word(buf: &mut [u8], at: usize, v: Verdict) -> usize
+    requires { ⌜ at + 14 ≤ length (now buf) ⌝ }
+    ensures { λ r. ⌜ Wrote (now (buf .entry)) at (word v) 14 r (now (buf .exit)) ⌝ }
+{
+    match v {
+        Verdict::Dekkingstekort => put(buf, at, b"DEKKINGSTEKORT"),
+        Verdict::Reservetekort => put(buf, at, b"RESERVETEKORT"),
+        Verdict::VrijVermogen => put(buf, at, b"VRIJ VERMOGEN"),
+        Verdict::Onbeslist => put(buf, at, b"ONBESLIST"),
+    }
 }

@@ -3,10 +3,10 @@ use native.Mathlib.Omega.{arith}
 use mathlib.Core.Path.{refl}
 use Rattle.model.specs.Numbers.{table}
 use Rattle.model.specs.Listing.{ascii, word}
 use Rattle.output.proofs.Stores.{as-text}
 use borrow.Author.Needs.{needs}
-use Rattle.listing.proofs.put_word.Statement.{statement}
-use Rattle.listing.proofs.put_word.Tie as tie
+use Rattle.output.proofs.put_word.Statement.{statement}
+use Rattle.output.proofs.put_word.Tie as tie
 
 enum-told : tie.Need-enum-told
 enum-told c = search needs

@@ -1,4 +1,3 @@
--- OnCurves: what flows are worth on three curves, as the code holds it and as the figures of `model` take it. Ranges: what the functions
--- require of their numbers.
-pub mod OnCurves
+-- ByWorths: figures and verdict together, as the code returns them. Ranges: what the functions require of their numbers.
+pub mod ByWorths
 pub mod Ranges

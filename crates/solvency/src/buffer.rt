@@ -4,11 +4,13 @@ ghost use Prim.Native.Nat.{_+_, _*_, _^_, _≤_, _<_};
 ghost use Rattle.arith.specs.inner.Value.{val};
 ghost use Rattle.model.specs.Brackets.{bracket, endOf};
 ghost use Rattle.model.specs.Rounded as Rounded;
-ghost use Rattle.solvency.specs.inner.Ranges.{UpTo, LossFits, SixFit};
-use super::roots::roots;
+ghost use Rattle.worth.specs.inner.Ranges.{UpTo};
+ghost use Rattle.losses.specs.inner.Ranges.{LossFits};
+ghost use Rattle.solvency.specs.inner.Ranges.{SixFit};
 use arith::digits::Wide;
 use arith::digits::product;
 use arith::digits::sum;
+use losses::roots::roots;
 use model::figures::Bracket;
 
 // 1,000 times two squares.

@@ -4,23 +4,25 @@ ghost use Rattle.model.specs.Limits.{AmountsWithin, ShocksWithin, PeopleWithin}
 ghost use Rattle.model.specs.Brackets.{bracket, endOf};
 ghost use Rattle.model.specs.Rounded as Rounded;
 ghost use Rattle.model.specs.Rounded.{figuresOf};
-ghost use Rattle.solvency.specs.inner.OnCurves.{on, moneyBy};
-ghost use Rattle.solvency.specs.inner.Ranges.{WorthFits, WorthsFit, Judgeable};
+ghost use Rattle.worth.specs.inner.OnCurves.{on};
+ghost use Rattle.solvency.specs.inner.ByWorths.{moneyBy};
+ghost use Rattle.worth.specs.inner.Ranges.{WorthFits, WorthsFit};
+ghost use Rattle.solvency.specs.inner.Ranges.{Judgeable};
 use super::buffer::buffer;
-use super::interest::s1;
-use super::losses::s2;
-use super::losses::s3;
-use super::losses::s4;
-use super::losses::s5;
-use super::mortality::s6;
 use super::verdict::verdict_of;
-use super::worth::Worths;
+use losses::classes::s2;
+use losses::classes::s3;
+use losses::classes::s4;
+use losses::classes::s5;
+use losses::interest::s1;
+use losses::mortality::s6;
 use model::case::Amounts;
 use model::case::People;
 use model::case::Shocks;
 use model::figures::Bracket;
 use model::figures::Figures;
 use model::figures::Verdict;
+use worth::Worths;
 
 // The figures and the verdict.
 pub struct Money {

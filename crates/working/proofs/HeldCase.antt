@@ -18,8 +18,8 @@ use Rattle.model.specs.Rounded.{rateOf}
 use Rattle.theory.proofs.general.Lists.{length-table, getD-table}
 use Rattle.curve.specs.inner.Shifted.{curveHeld}
 use Rattle.working.proofs.HeldCurves.{held-per-step-most, held-curve-within, held-base-within, held-factor}
-use Rattle.solvency.specs.inner.OnCurves.{moneyBy}
-use Rattle.solvency.specs.inner.Ranges.{FlowsFit}
+use Rattle.solvency.specs.inner.ByWorths.{moneyBy}
+use Rattle.worth.specs.inner.Ranges.{FlowsFit}
 use Rattle.solvency.specs.declared.figures.Money.{Money}
 use Rattle.working.specs.inner.Ranges.{CaseFits}
 use Rattle.working.specs.inner.Working.{factorsOn, ratesOn, moneyOf}

@@ -25,11 +25,12 @@ use Rattle.curve.specs.inner.Ranges.{ShiftWithin, FactorsWithin}
 use Rattle.curve.proofs.Curves.{N-of, P-of}
 use Rattle.zerorates.specs.inner.Ranges.{RatesWithin}
 use Rattle.zerorates.proofs.RateEntries.{rates-of-entries, entries-within}
-use Rattle.solvency.specs.inner.OnCurves.{on, worths, entriesOn, factorsIn, moneyBy}
-use Rattle.solvency.specs.inner.Ranges.{FlowsFit, FactorsFit, CurvesFit}
+use Rattle.worth.specs.inner.OnCurves.{on, worths, entriesOn, factorsIn}
+use Rattle.solvency.specs.inner.ByWorths.{moneyBy}
+use Rattle.worth.specs.inner.Ranges.{FlowsFit, FactorsFit, CurvesFit}
 use Rattle.solvency.specs.declared.figures.Money.{Money}
-use Rattle.solvency.specs.declared.worth.Worths.{Worths}
-use Rattle.solvency.specs.declared.worth.Curves.{Curves}
+use Rattle.worth.specs.declared.Worths.{Worths}
+use Rattle.worth.specs.declared.Curves.{Curves}
 use Rattle.working.specs.inner.Ranges.{CaseFits}
 use Rattle.working.specs.inner.Working.{factorsOn, curvesOn, ratesOn, owed, bonds, moneyOn, moneyOf}
 

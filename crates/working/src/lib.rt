@@ -7,8 +7,8 @@ ghost use mathlib.Core.List.{_++_};
 ghost use lib.ListN.{length, drop};
 ghost use Rattle.model.specs.Curve.{base};
 ghost use Rattle.model.specs.declared.figures.Valuation.the-variants.{Valued};
-ghost use Rattle.solvency.specs.inner.OnCurves.{factorsIn};
-ghost use Rattle.solvency.specs.inner.Ranges.{CurvesFit};
+ghost use Rattle.worth.specs.inner.OnCurves.{factorsIn};
+ghost use Rattle.worth.specs.inner.Ranges.{CurvesFit};
 ghost use Rattle.working.specs.inner.Working.{factorsOn, curvesOn, ratesOn, moneyOn, moneyOf};
 ghost use Rattle.working.specs.inner.Ranges.{CaseFits};
 use curve::factor::factors;
@@ -19,8 +19,8 @@ use model::case::Case;
 use model::figures::Valuation;
 use solvency::figures::Money;
 use solvency::figures::money_by;
-use solvency::worth::Curves;
-use solvency::worth::worths_of;
+use worth::Curves;
+use worth::worths_of;
 use zerorates::rates::zero_rates;
 
 // The factors of the base curve alone.

@@ -14,9 +14,10 @@ use Rattle.model.specs.declared.case.People.{People}
 use Rattle.model.specs.declared.figures.Bracket.{Bracket}
 use Rattle.model.specs.declared.figures.Figures.{Figures}
 use Rattle.model.specs.declared.figures.Verdict.{Verdict}
-use Rattle.solvency.specs.inner.OnCurves.{on, moneyBy}
-use Rattle.solvency.specs.inner.Ranges.{UpTo, WorthFits}
-use Rattle.solvency.specs.declared.worth.Worths.{Worths}
+use Rattle.worth.specs.inner.OnCurves.{on}
+use Rattle.solvency.specs.inner.ByWorths.{moneyBy}
+use Rattle.worth.specs.inner.Ranges.{UpTo, WorthFits}
+use Rattle.worth.specs.declared.Worths.{Worths}
 use Rattle.solvency.specs.declared.figures.Money.{Money}
 
 pub figures-are : (l b : Worths) (a : Amounts) (x : Shocks) (p : People) (assets s1 s2 s3 s4 s5 s6 s : Bracket)

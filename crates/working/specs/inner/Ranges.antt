@@ -5,7 +5,7 @@ use Rattle.model.specs.Curve.{Move, base}
 use Rattle.model.specs.inner.CurveWithin.{CurveWithin, BaseWithin}
 use Rattle.model.specs.declared.case.Case.{Case}
 use Rattle.curve.specs.inner.Shifted.{curveHeld}
-use Rattle.solvency.specs.inner.Ranges.{FlowsFit}
+use Rattle.worth.specs.inner.Ranges.{FlowsFit}
 
 pub record CaseFits (c : Case) : Type 0 where
   pub perStep : c .«per_step» ≤ 7000

@@ -11,9 +11,9 @@ use Rattle.model.specs.Rounded as Rounded
 use Rattle.model.specs.Rounded.{worth}
 use Rattle.model.specs.declared.case.Case.{Case}
 use Rattle.curve.specs.inner.Shifted.{curveHeld}
-use Rattle.solvency.specs.inner.OnCurves.{moneyBy}
+use Rattle.solvency.specs.inner.ByWorths.{moneyBy}
 use Rattle.solvency.specs.declared.figures.Money.{Money}
-use Rattle.solvency.specs.declared.worth.Curves.{Curves}
+use Rattle.worth.specs.declared.Curves.{Curves}
 
 -- the factors of one of its curves, and of the three; the zero rates of the base curve: lower, upper, term by term
 abbrev pub factorsOn : Case → Move → List ℕ

@@ -2,7 +2,7 @@
 use Prim.Native.Nat.{_*_, _^_}
 use lib.Dec.{lit<}
 use native.Mathlib.Nat.{lt-of-le-of-lt}
-use Rattle.solvency.proofs.Products.{pair-most, correlated-most, sum-most, sum-fits, squares-is}
+use Rattle.solvency.proofs.buffer.Products.{pair-most, correlated-most, sum-most, sum-fits, squares-is}
 use borrow.Author.Needs.{needs}
 use Rattle.solvency.proofs.buffer.squares.Statement.{statement}
 use Rattle.solvency.proofs.buffer.squares.Tie as tie

@@ -1,5 +1,5 @@
 -- `solvency::buffer::two_squares` meets its contract. Assumes nothing.
-use Rattle.solvency.proofs.Products.{pair-fits}
+use Rattle.solvency.proofs.buffer.Products.{pair-fits}
 use borrow.Author.Needs.{needs}
 use Rattle.solvency.proofs.buffer.two_squares.Statement.{statement}
 use Rattle.solvency.proofs.buffer.two_squares.Tie as tie

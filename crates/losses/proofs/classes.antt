@@ -1,0 +1,2 @@
+-- Laws of S2 to S5.
+pub mod Products

@@ -1,0 +1,2 @@
+-- Laws of S1.
+pub mod Falls

@@ -1,0 +1,2 @@
+-- Laws of S6.
+pub mod Margin

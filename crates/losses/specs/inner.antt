@@ -1,0 +1,2 @@
+-- Ranges: what the functions require of their numbers, and promise of them.
+pub mod Ranges

@@ -1,0 +1,2 @@
+-- Laws of S.
+pub mod Products

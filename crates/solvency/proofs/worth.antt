@@ -1,2 +1,0 @@
--- Laws of the sum of flows times factors.
-pub mod Flows

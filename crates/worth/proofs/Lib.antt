@@ -1,0 +1,2 @@
+-- Flows: laws of the sum of flows times factors.
+pub mod Flows

@@ -1,4 +1,2 @@
--- Laws that the proofs of several modules cite, and the conclusions for the callers of this crate.
-pub mod Tested
-pub mod Kept
+-- RateEntries: the conclusions for the callers of this crate. What serves one module is in the folder of that module.
 pub mod RateEntries

@@ -1,3 +1,2 @@
--- Kept: what the searches keep for each other. Ranges: what the functions require of their numbers.
-pub mod Kept
+-- Ranges: what the functions require of their numbers.
 pub mod Ranges

@@ -9,9 +9,9 @@ ghost use Rattle.arith.specs.Rounding.{low, high};
 ghost use Rattle.model.specs.Rounded.{tested};
 ghost use Rattle.model.specs.Brackets.{largest, smallest};
 ghost use Rattle.zerorates.specs.inner.Ranges.{LowerWithin, UpperWithin};
-ghost use Rattle.zerorates.specs.inner.Kept.{Kept};
-use super::memo::lower_result;
-use super::memo::upper_passes;
+ghost use Rattle.ratetests.specs.inner.Kept.{Kept};
+use ratetests::lower_result;
+use ratetests::upper_passes;
 
 // The searches count places, and place p is step p - 1. Place 0 is ahead of the first step, which is
 // step 0. PAST is the place after the last step, which is step 22,000.

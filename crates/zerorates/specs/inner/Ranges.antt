@@ -5,11 +5,6 @@ use Rattle.arith.specs.Rounding.{low, high}
 use Rattle.model.specs.Buffers.{entryOf}
 use Rattle.model.specs.Rounded.{tested}
 
--- of a test of the zero rate
-pub record StepWithin (t i : ℕ) : Type 0 where
-  pub term : t ≤ 120
-  pub step : i ≤ 22000
-
 -- of a search: the first step passes the lower test, or the last one the upper test
 pub record LowerWithin (t factor : ℕ) : Type 0 where
   pub term : t ≤ 120

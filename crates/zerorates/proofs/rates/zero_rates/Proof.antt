@@ -6,8 +6,8 @@ use mathlib.Core.List.{_++_}
 use lib.ListN.{length, drop, length-set}
 use Rattle.model.specs.Buffers.{byTerm, entryOf}
 use Rattle.model.specs.Rounded.{rateOf}
-use Rattle.zerorates.specs.inner.Kept.{Kept}
-use Rattle.zerorates.proofs.Kept.{none-kept, keep-on}
+use Rattle.ratetests.specs.inner.Kept.{Kept}
+use Rattle.ratetests.proofs.Kept.{none-kept, keep-on}
 use Rattle.theory.proofs.general.Lists.{all-filled}
 use Rattle.theory.proofs.general.Entries.{term-filled}
 use Rattle.zerorates.proofs.rates.Rated.{lower-within, upper-within, lower-rate, upper-rate}

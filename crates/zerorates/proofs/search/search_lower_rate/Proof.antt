@@ -1,7 +1,7 @@
 -- `zerorates::search::search_lower_rate` meets its contract. What is sought lies between lo and hi at every turn, and they come nearer. Assumes nothing.
 use Prim.Native.Nat.{_-_}
 use native.Mathlib.Omega.{arith}
-use Rattle.zerorates.specs.inner.Kept.{Kept}
+use Rattle.ratetests.specs.inner.Kept.{Kept}
 use Rattle.zerorates.proofs.search.Halved.{LowerHalved, all-places, step-left, step-right, tests-most, lower-some, lower-found}
 use Rattle.zerorates.proofs.search.search_lower_rate.Statement.{statement}
 use Rattle.zerorates.proofs.search.search_lower_rate.Tie as tie

@@ -3,7 +3,7 @@ use Prim.Native.Nat.{_-_}
 use mathlib.Core.Path.{sym, _∙_}
 use borrow.Author.Tests.{leb-true, leb-false}
 use native.Mathlib.Omega.{arith}
-use Rattle.zerorates.specs.inner.Kept.{Kept}
+use Rattle.ratetests.specs.inner.Kept.{Kept}
 use Rattle.zerorates.proofs.search.Halved.{UpperHalved, all-places, step-left, step-right, tests-most, upper-found}
 use Rattle.zerorates.proofs.search.search_upper_rate.Statement.{statement}
 use Rattle.zerorates.proofs.search.search_upper_rate.Tie as tie

@@ -1,10 +1,10 @@
--- `zerorates::memo::look_up` meets its contract. Assumes nothing.
+-- `ratetests::look_up` meets its contract. Assumes nothing.
 use mathlib.Core.Path.{_≡_, sym}
 use native.Mathlib.Omega.{arith}
 use Rattle.arith.specs.Rounding.{low}
-use Rattle.zerorates.proofs.Tested.{tested-none}
-use Rattle.zerorates.proofs.memo.look_up.Statement.{statement}
-use Rattle.zerorates.proofs.memo.look_up.Tie as tie
+use Rattle.ratetests.proofs.Tested.{tested-none}
+use Rattle.ratetests.proofs.look_up.Statement.{statement}
+use Rattle.ratetests.proofs.look_up.Tie as tie
 
 returns : tie.Need-returns
 returns c =

@@ -9,8 +9,8 @@ use lib.Seq.{getD-set-same, getD-set-other}
 use Rattle.arith.specs.Rounding.{low}
 use Rattle.model.specs.Constants.{unit}
 use Rattle.model.specs.Rounded.{tested}
-use Rattle.zerorates.specs.inner.Kept.{Kept}
-use Rattle.zerorates.proofs.Tested.{tested-none}
+use Rattle.ratetests.specs.inner.Kept.{Kept}
+use Rattle.ratetests.proofs.Tested.{tested-none}
 
 -- a result kept in place d
 pub keep : (t d i r : ℕ) (steps results terms : List ℕ) → d < 15 → r ≡ tested low t i → Kept t steps results terms → Kept t (set steps d i) (set results d r) (set terms d t)

@@ -1,9 +1,9 @@
--- `zerorates::memo::lower_result` meets its contract. Assumes nothing.
+-- `ratetests::lower_result` meets its contract. Assumes nothing.
 use native.Mathlib.Omega.{arith}
 use native.Mathlib.Nat.{le-trans}
-use Rattle.zerorates.proofs.Kept.{keep}
-use Rattle.zerorates.proofs.memo.lower_result.Statement.{statement}
-use Rattle.zerorates.proofs.memo.lower_result.Tie as tie
+use Rattle.ratetests.proofs.Kept.{keep}
+use Rattle.ratetests.proofs.lower_result.Statement.{statement}
+use Rattle.ratetests.proofs.lower_result.Tie as tie
 
 mul-look-up : tie.Need-mul-look-up
 mul-look-up c = omega (arith, c .pre .1)

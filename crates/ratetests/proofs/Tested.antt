@@ -14,7 +14,7 @@ use Rattle.model.specs.Rounded.{scaled, tested}
 use Rattle.theory.proofs.general.Lists.{every-le}
 use Rattle.theory.proofs.curve.Steps.{scaled-ends}
 use Rattle.theory.proofs.curve.RateTests.{tested-small, testWidth, tested-width}
-use Rattle.zerorates.specs.inner.Ranges.{StepWithin}
+use Rattle.ratetests.specs.inner.Ranges.{StepWithin}
 
 -- over no years
 pub tested-none : (e : End) (i : ℕ) → tested e 0 i ≡ unit

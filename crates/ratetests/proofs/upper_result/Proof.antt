@@ -1,12 +1,12 @@
--- `zerorates::memo::upper_result` meets its contract. After k turns x has been taken k times. Assumes nothing.
+-- `ratetests::upper_result` meets its contract. After k turns x has been taken k times. Assumes nothing.
 use Prim.Native.Nat.{_-_, _≤_}
 use mathlib.Core.Path.{_≡_, sym}
 use native.Mathlib.Omega.{arith}
 use Rattle.arith.specs.Rounding.{high}
 use Rattle.model.specs.Rounded.{tested}
-use Rattle.zerorates.proofs.Tested.{tested-none, test-fits, test-more, test-all}
-use Rattle.zerorates.proofs.memo.upper_result.Statement.{statement}
-use Rattle.zerorates.proofs.memo.upper_result.Tie as tie
+use Rattle.ratetests.proofs.Tested.{tested-none, test-fits, test-more, test-all}
+use Rattle.ratetests.proofs.upper_result.Statement.{statement}
+use Rattle.ratetests.proofs.upper_result.Tie as tie
 
 abbrev Inv-loop : tie.InvT-loop
 Inv-loop t i divisor x₀ k₀ x k = (k ≤ t) × (x ≡ tested high k i)

@@ -5,7 +5,7 @@ use mathlib.Core.List.{List}
 use lib.ListN.{length, getD}
 use Rattle.arith.specs.Rounding.{low}
 use Rattle.model.specs.Rounded.{tested}
-use Rattle.zerorates.specs.declared.memo.PartialResult.{PartialResult}
+use Rattle.ratetests.specs.declared.PartialResult.{PartialResult}
 
 -- a lower result of step i, of at most t years
 pub record PartialOf (part : PartialResult) (t i : ℕ) : Type 0 where

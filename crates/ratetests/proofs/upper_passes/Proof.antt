@@ -1,11 +1,11 @@
--- `zerorates::memo::upper_passes` meets its contract. Assumes nothing.
+-- `ratetests::upper_passes` meets its contract. Assumes nothing.
 use native.Mathlib.Omega.{arith}
 use borrow.Author.Needs.{needs}
 use Rattle.arith.specs.Rounding.{low}
 use Rattle.theory.proofs.curve.RateTests.{tested-small}
-use Rattle.zerorates.proofs.Tested.{above-fails, near-passes}
-use Rattle.zerorates.proofs.memo.upper_passes.Statement.{statement}
-use Rattle.zerorates.proofs.memo.upper_passes.Tie as tie
+use Rattle.ratetests.proofs.Tested.{above-fails, near-passes}
+use Rattle.ratetests.proofs.upper_passes.Statement.{statement}
+use Rattle.ratetests.proofs.upper_passes.Tie as tie
 
 returns : tie.Need-returns
 returns c = above-fails _ _ _ _ (c .before .pre .1) (c .if1 .taken)

@@ -1,12 +1,12 @@
--- `zerorates::memo::extend_lower` meets its contract. At each turn x has been taken k times. Assumes nothing.
+-- `ratetests::extend_lower` meets its contract. At each turn x has been taken k times. Assumes nothing.
 use Prim.Native.Nat.{_-_, _≤_}
 use mathlib.Core.Path.{_≡_}
 use native.Mathlib.Omega.{arith}
 use Rattle.arith.specs.Rounding.{low}
 use Rattle.model.specs.Rounded.{tested}
-use Rattle.zerorates.proofs.Tested.{test-fits, test-more, test-all}
-use Rattle.zerorates.proofs.memo.extend_lower.Statement.{statement}
-use Rattle.zerorates.proofs.memo.extend_lower.Tie as tie
+use Rattle.ratetests.proofs.Tested.{test-fits, test-more, test-all}
+use Rattle.ratetests.proofs.extend_lower.Statement.{statement}
+use Rattle.ratetests.proofs.extend_lower.Tie as tie
 
 abbrev Inv-loop : tie.InvT-loop
 Inv-loop result years t i divisor x₀ k₀ x k = (k ≤ t) × (x ≡ tested low k i)

@@ -1,28 +1,13 @@
--- The parts join to the listing of `model`. Assumes nothing.
-use mathlib.Core.Path.{_≡_, ap, _∙_}
-use mathlib.Core.List.{List, _++_, append-assoc}
-use Prim.Native.Nat.{ℕ}
-use Prim.Native.String.{String}
-use native.Mathlib.Omega.{arith}
-use Rattle.model.specs.Listing.{ascii, line, listing}
-use Rattle.model.specs.declared.figures.Bracket.{Bracket}
+-- The lines of the figures and that of the verdict join to the listing of `model`. Assumes nothing.
+use mathlib.Core.Path.{_≡_}
+use mathlib.Core.List.{_++_, append-assoc}
+use Rattle.model.specs.Listing.{listing}
 use Rattle.model.specs.declared.figures.Figures.{Figures}
 use Rattle.model.specs.declared.figures.Verdict.{Verdict}
 use Rattle.model.specs.declared.figures.Valuation.the-variants.{Valued}
-use Rattle.output.specs.inner.Wrote.{Wrote}
-use Rattle.output.specs.inner.Lines.{spaced, named}
-use Rattle.listing.specs.inner.Parts.{values, firstLosses, lastLosses, judged}
-use Rattle.output.proofs.Stores.{as-text}
+use Rattle.lines.specs.inner.Parts.{figureLines}
+use Rattle.listing.specs.inner.Judged.{judged}
 
-line-named : (name : String) (b : Bracket) → named (ascii name) b ≡ line name b
-unfolding spaced named line
-line-named name b = simp append-assoc
-
--- a line by the bytes of its name, where they are those of the paper's
-pub as-line : {before : List ℕ} {at r : ℕ} {after : List ℕ} {bytes : List ℕ} (name : String) (b : Bracket) → bytes ≡ ascii name
-    → Wrote before at (named bytes b) 45 r after → Wrote before at (line name b) 45 r after
-as-line name b e p = as-text (ap (λ (n : List ℕ). named n b) e ∙ line-named name b) (omega arith) p
-
-pub joined : (f : Figures) (v : Verdict) → values f ++ firstLosses f ++ lastLosses f ++ judged v ≡ listing (Valued f v)
-unfolding values firstLosses lastLosses judged listing
+pub joined : (f : Figures) (v : Verdict) → figureLines f ++ judged v ≡ listing (Valued f v)
+unfolding figureLines judged listing
 joined f v = simp append-assoc

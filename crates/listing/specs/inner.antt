@@ -1,2 +1,2 @@
--- Parts: the pieces in which the listing of `model` is written; that they join to it is proved.
-pub mod Parts
+-- Judged: the last line of a listing; that it and the lines of the figures join to the listing of `model` is proved.
+pub mod Judged

@@ -1,48 +1,17 @@
-// The listing of a valuation: fixed byte strings and numbers in base ten, written into a lent buffer.
+// The listing of a valuation, written into a lent buffer.
+use lines::put_figures;
 use model::figures::Figures;
 use model::figures::Valuation;
 use model::figures::Verdict;
 use output::put;
 use output::put_digits;
-use output::put_line;
 use output::put_word;
 ghost use mathlib.Core.Path.{_≡_};
 ghost use Prim.Native.Nat.{_+_, _≤_};
 ghost use lib.ListN.{length, take};
 ghost use Rattle.model.specs.Listing.{listing, listingAfter, listingLength};
 ghost use Rattle.output.specs.inner.Wrote.{Wrote};
-ghost use Rattle.listing.specs.inner.Parts.{values, firstLosses, lastLosses, judged};
-
-// The lines of L, B and A.
-fn put_values(buf: &mut [u8], at: usize, f: Figures) -> usize
-    requires { ⌜ at + 135 ≤ length (now buf) ⌝ }
-    ensures { λ r. ⌜ Wrote (now (buf .entry)) at (values f) 135 r (now (buf .exit)) ⌝ }
-{
-    let at_b = put_line(buf, at, b"L", f.l);
-    let at_a = put_line(buf, at_b, b"B", f.b);
-    put_line(buf, at_a, b"A", f.a)
-}
-
-// The lines of S1, S2 and S3.
-fn put_first_losses(buf: &mut [u8], at: usize, f: Figures) -> usize
-    requires { ⌜ at + 135 ≤ length (now buf) ⌝ }
-    ensures { λ r. ⌜ Wrote (now (buf .entry)) at (firstLosses f) 135 r (now (buf .exit)) ⌝ }
-{
-    let at_s2 = put_line(buf, at, b"S1", f.s1);
-    let at_s3 = put_line(buf, at_s2, b"S2", f.s2);
-    put_line(buf, at_s3, b"S3", f.s3)
-}
-
-// The lines of S4, S5, S6 and S.
-fn put_last_losses(buf: &mut [u8], at: usize, f: Figures) -> usize
-    requires { ⌜ at + 180 ≤ length (now buf) ⌝ }
-    ensures { λ r. ⌜ Wrote (now (buf .entry)) at (lastLosses f) 180 r (now (buf .exit)) ⌝ }
-{
-    let at_s5 = put_line(buf, at, b"S4", f.s4);
-    let at_s6 = put_line(buf, at_s5, b"S5", f.s5);
-    let at_s = put_line(buf, at_s6, b"S6", f.s6);
-    put_line(buf, at_s, b"S", f.s)
-}
+ghost use Rattle.listing.specs.inner.Judged.{judged};
 
 // V and the verdict.
 fn put_verdict(buf: &mut [u8], at: usize, v: Verdict) -> usize
@@ -59,9 +28,7 @@ fn put_valued(buf: &mut [u8], f: Figures, v: Verdict) -> usize
     requires { ⌜ 512 ≤ length (now buf) ⌝ }
     ensures { λ r. ⌜ Wrote (now (buf .entry)) 0 (listing (Valuation.Valued f v)) 512 r (now (buf .exit)) ⌝ }
 {
-    let at_s1 = put_values(buf, 0, f);
-    let at_s4 = put_first_losses(buf, at_s1, f);
-    let at_verdict = put_last_losses(buf, at_s4, f);
+    let at_verdict = put_figures(buf, 0, f);
     put_verdict(buf, at_verdict, v)
 }
 

@@ -1,4 +1,4 @@
--- A number and a line, as bytes. That a line is the one of `model` is proved in `listing`.
+-- A number and a line, as bytes. That a line is the one of `model` is proved in `lines`.
 use Prim.Native.Nat.{ℕ}
 use mathlib.Core.List.{List, _++_}
 use Rattle.model.specs.Listing.{ascii, decimal}

@@ -1,13 +1,13 @@
--- `put_first_losses`: three lines, by the names of the paper.
+-- `put_values`: three lines, by the names of the paper.
 use mathlib.Core.Path.{refl}
 use Rattle.model.specs.Numbers.{table}
 use Rattle.model.specs.Listing.{ascii}
-use Rattle.listing.specs.inner.Parts.{firstLosses}
+use Rattle.lines.specs.inner.Parts.{values}
 use Rattle.output.proofs.Stores.{then}
-use Rattle.listing.proofs.Texts.{as-line}
+use Rattle.lines.proofs.Named.{as-line}
 use borrow.Author.Needs.{needs}
-use Rattle.listing.proofs.put_first_losses.Statement.{statement}
-use Rattle.listing.proofs.put_first_losses.Tie as tie
+use Rattle.lines.proofs.put_values.Statement.{statement}
+use Rattle.lines.proofs.put_values.Tie as tie
 
 slice-aggregate-put-line : tie.Need-slice-aggregate-put-line
 slice-aggregate-put-line c = search needs
@@ -31,16 +31,16 @@ same-length : tie.Need-same-length
 same-length c = search needs
 
 returns : tie.Need-returns
-unfolding firstLosses ascii table
+unfolding values ascii table
 returns c =
     let s3 = c .before .before in
     let s2 = s3 .before .before .before .before .before in
     let s1 = s2 .before .before .before .before .before in
     let f = s1 .before .before .before .before .args .f in
-    then (then (as-line "S1" (f .s1) refl (s1 .put-line .ensures)) (as-line "S2" (f .s2) refl (s2 .put-line2 .ensures))) (as-line "S3" (f .s3) refl (s3 .put-line3 .ensures))
+    then (then (as-line "L" (f .l) refl (s1 .put-line .ensures)) (as-line "B" (f .b) refl (s2 .put-line2 .ensures))) (as-line "A" (f .a) refl (s3 .put-line3 .ensures))
 
-pub put-first-losses-spec : {M : Type 1} → statement M
-put-first-losses-spec =
+pub put-values-spec : {M : Type 1} → statement M
+put-values-spec =
     tie.close
     (tie.spec
     slice-aggregate-put-line

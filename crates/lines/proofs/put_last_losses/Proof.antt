@@ -1,13 +1,13 @@
--- `put_values`: three lines, by the names of the paper.
+-- `put_last_losses`: four lines, by the names of the paper.
 use mathlib.Core.Path.{refl}
 use Rattle.model.specs.Numbers.{table}
 use Rattle.model.specs.Listing.{ascii}
-use Rattle.listing.specs.inner.Parts.{values}
+use Rattle.lines.specs.inner.Parts.{lastLosses}
 use Rattle.output.proofs.Stores.{then}
-use Rattle.listing.proofs.Texts.{as-line}
+use Rattle.lines.proofs.Named.{as-line}
 use borrow.Author.Needs.{needs}
-use Rattle.listing.proofs.put_values.Statement.{statement}
-use Rattle.listing.proofs.put_values.Tie as tie
+use Rattle.lines.proofs.put_last_losses.Statement.{statement}
+use Rattle.lines.proofs.put_last_losses.Tie as tie
 
 slice-aggregate-put-line : tie.Need-slice-aggregate-put-line
 slice-aggregate-put-line c = search needs
@@ -27,20 +27,27 @@ slice-aggregate-put-line-3 c = search needs
 put-line-requires-3 : tie.Need-put-line-requires-3
 put-line-requires-3 c κs = search needs
 
+slice-aggregate-put-line-4 : tie.Need-slice-aggregate-put-line-4
+slice-aggregate-put-line-4 c = search needs
+
+put-line-requires-4 : tie.Need-put-line-requires-4
+put-line-requires-4 c κs = search needs
+
 same-length : tie.Need-same-length
 same-length c = search needs
 
 returns : tie.Need-returns
-unfolding values ascii table
+unfolding lastLosses ascii table
 returns c =
-    let s3 = c .before .before in
+    let s4 = c .before .before in
+    let s3 = s4 .before .before .before .before .before in
     let s2 = s3 .before .before .before .before .before in
     let s1 = s2 .before .before .before .before .before in
     let f = s1 .before .before .before .before .args .f in
-    then (then (as-line "L" (f .l) refl (s1 .put-line .ensures)) (as-line "B" (f .b) refl (s2 .put-line2 .ensures))) (as-line "A" (f .a) refl (s3 .put-line3 .ensures))
+    then (then (then (as-line "S4" (f .s4) refl (s1 .put-line .ensures)) (as-line "S5" (f .s5) refl (s2 .put-line2 .ensures))) (as-line "S6" (f .s6) refl (s3 .put-line3 .ensures))) (as-line "S" (f .s) refl (s4 .put-line4 .ensures))
 
-pub put-values-spec : {M : Type 1} → statement M
-put-values-spec =
+pub put-last-losses-spec : {M : Type 1} → statement M
+put-last-losses-spec =
     tie.close
     (tie.spec
     slice-aggregate-put-line
@@ -49,5 +56,7 @@ put-values-spec =
     put-line-requires-2
     slice-aggregate-put-line-3
     put-line-requires-3
+    slice-aggregate-put-line-4
+    put-line-requires-4
     same-length
     returns)

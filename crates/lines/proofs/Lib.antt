@@ -1,0 +1,2 @@
+-- Named: a line by the bytes of its name, and the parts joined.
+pub mod Named

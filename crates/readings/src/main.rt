@@ -23,35 +23,39 @@ fn print_numbers(numbers: &[u64]) {
 }
 
 fn print_amounts(a: Amounts) {
-    print_number(a.mature);
-    print_number(a.emerging);
-    print_number(a.private);
-    print_number(a.property);
-    print_number(a.commodities);
-    print_number(a.credit);
-    print_number(a.cash);
-    print_number(a.currency);
+    let numbers = [
+        a.mature,
+        a.emerging,
+        a.private,
+        a.property,
+        a.commodities,
+        a.credit,
+        a.cash,
+        a.currency,
+    ];
+    print_numbers(&numbers);
 }
 
 fn print_shocks(s: Shocks) {
-    print_number(s.up_shift);
-    print_number(s.down_shift);
-    print_number(s.mature_fall);
-    print_number(s.emerging_fall);
-    print_number(s.private_fall);
-    print_number(s.property_fall);
-    print_number(s.currency_fall);
-    print_number(s.commodities_fall);
-    print_number(s.spread_rise);
-    print_number(s.correlation);
-    print_number(s.spread);
-    print_number(s.duration);
+    let numbers = [
+        s.up_shift,
+        s.down_shift,
+        s.mature_fall,
+        s.emerging_fall,
+        s.private_fall,
+        s.property_fall,
+        s.currency_fall,
+        s.commodities_fall,
+        s.spread_rise,
+        s.correlation,
+        s.spread,
+        s.duration,
+    ];
+    print_numbers(&numbers);
 }
 
 fn print_people(p: People) {
-    print_number(p.heads);
-    print_number(p.pension_age);
-    print_number(p.mean_age);
+    print_numbers(&[p.heads, p.pension_age, p.mean_age]);
 }
 
 fn print_case(c: Case) {
@@ -92,9 +96,7 @@ fn hash_of(part: &[u8]) -> u64 {
 fn print_part(file: &[u8]) {
     let part = casefile::rates_part(file);
     let place = host::ginghamowl_rates_part(file);
-    print_number(place.offset as u64);
-    print_number(part.len() as u64);
-    print_number(hash_of(part));
+    print_numbers(&[place.offset as u64, part.len() as u64, hash_of(part)]);
     io::write_all(STDOUT_FILENO, b"\n");
 }
 

@@ -52,7 +52,7 @@ fn times_plus(w: Wide, k: u32, v: Wide) -> Wide
 }
 
 // A number of 64 bits.
-pub fn from_u64(x: u64) -> Wide
+fn from_u64(x: u64) -> Wide
     ensures { λ r. ⌜ val r ≡ x ⌝ }
 {
     let d0 = (x % 0x1_0000_0000) as u32;

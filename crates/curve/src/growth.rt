@@ -10,7 +10,7 @@ use model::case::Case;
 use model::figures::Bracket;
 
 // The growth over j years is that over j - 1 years times p / q, where p is P(t) and q is P(t - 1).
-pub fn growth_over(p: u64, q: u64, j: usize) -> Bracket
+fn growth_over(p: u64, q: u64, j: usize) -> Bracket
     requires { ⌜ ScaledWithin p q j ⌝ }
     ensures { λ r. ⌜ r ≡ bracket (λ e. scaled e p q j) ⌝ }
 {

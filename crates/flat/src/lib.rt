@@ -63,7 +63,7 @@ fn bracket_from(held: HostBracket) -> Bracket
     }
 }
 
-pub fn flat_figures(f: Figures) -> HostFigures
+fn flat_figures(f: Figures) -> HostFigures
     ensures { λ r. ⌜ r ≡ hostFigures f ⌝ }
 {
     let l = flat_bracket(f.l);

@@ -25,7 +25,7 @@ pub struct Worths {
 }
 
 // The first `count` flows times the factors of their terms: each rounded, then summed.
-pub fn worth_of(flows: &[u64], count: usize, factors: &[u64]) -> Bracket
+fn worth_of(flows: &[u64], count: usize, factors: &[u64]) -> Bracket
     requires { ⌜ FlowsFit (now flows) count × FactorsFit (now factors) ⌝ }
     ensures { λ r. ⌜ r ≡ bracket (λ e. worth e (entryOf (now (factors .entry)) e) 1 (take count (now (flows .entry)))) ⌝ }
     ensures bound { λ r. ⌜ WorthFits r ⌝ }

@@ -1,8 +1,8 @@
 """Runs the engine beside the reference: python3 tests/compare.py [--quick]
 
-Listings of thousands of files; factors and zero rates at all 120 terms; demand 3 of the engine's own brackets
-against the exact figures over fractions; the program itself on inputs of odd kinds. Ends with 1 on any difference,
-or if a refusal from 1 to 12 or a verdict was not seen.
+Listings of thousands of files, and of the refused ones all three answers; factors and zero rates at all 120 terms;
+demand 3 of the engine's own brackets against the exact figures over fractions; the program itself on inputs of odd
+kinds. Ends with 1 on any difference, or if a refusal from 1 to 12 or a verdict was not seen.
 """
 
 import os
@@ -56,10 +56,19 @@ def kinds(rng, quick):
     yield "damaged", damaged + [data[:-1] for data in damaged] + [data + b"\0" for data in damaged]
 
 
+def told_by(listing):
+    """What a listing tells of the answers: all three where it is R and a number, and else itself."""
+    if listing.startswith(b"R"):
+        return programs.refused(int(listing.split()[1]))
+    return programs.Answers(listing=listing)
+
+
 def compare_listings(comparison, kind, batch):
-    found, expected = programs.listings(batch), [reference.listing(data) for data in batch]
-    comparison.outcomes.update(map(programs.outcome, expected))
-    comparison.same(kind, batch, found, expected)
+    """Listings; of a refused file also that the buffers keep their content."""
+    listings = [reference.listing(data) for data in batch]
+    expected = [told_by(listing) for listing in listings]
+    comparison.outcomes.update(map(programs.outcome, listings))
+    comparison.same(kind, batch, map(programs.compared, programs.answers(batch), expected), expected)
 
 
 # ---------------------------------------------------------------- buffers
@@ -72,7 +81,8 @@ def curve_files(rng, count):
 
 
 def compare_curves(comparison, batch):
-    comparison.same("factors and zero rates", batch, programs.buffers(batch), map(programs.curve, batch))
+    found = [answer.buffers for answer in programs.answers(batch)]
+    comparison.same("factors and zero rates", batch, found, map(programs.buffers, batch))
 
 
 # ---------------------------------------------------------------- demand 3
@@ -92,11 +102,11 @@ def brackets(numbers):
     return [None] + list(zip(numbers[::2], numbers[1::2]))
 
 
-def engine_figures(case, listing, curve):
+def engine_figures(case, answer):
     """What the engine printed, in the shape of the reference's Rounded."""
-    *money, verdict = listing.decode().splitlines()
+    *money, verdict = answer.listing.decode().splitlines()
     figures = {name: (int(lower), int(upper)) for name, lower, upper in map(str.split, money)}
-    factors, rates = ([int(word) for word in line.split()[1:]] for line in curve.splitlines())
+    factors, rates = ([int(word) for word in line.split()[1:]] for line in answer.buffers.splitlines())
     return SimpleNamespace(**{name: figures[name] for name in MONEY}, verdict=verdict[2:],
                            factors=brackets(factors[:240]),
                            zero_rates=brackets([rate - STEPS for rate in rates[:240]]),
@@ -107,13 +117,13 @@ def compare_exactly(comparison, rng, count):
     """Demand 3 of the engine's brackets: the exact figures in them, their widths, the verdict."""
     cases = exact_cases(rng, count)
     batch = [files.file_of(rng, case) for case in cases]
-    listings, wrong = programs.listings(batch), []
-    for case, data, listing, curve in zip(cases, batch, listings, programs.buffers(batch)):
-        broken = demand3(case, Exact(case), engine_figures(case, listing, curve))
+    answers, wrong = programs.answers(batch), []
+    for case, data, answer in zip(cases, batch, answers):
+        broken = demand3(case, Exact(case), engine_figures(case, answer))
         if broken:
             wrong.append((data, "broken: " + "; ".join(broken)))
     comparison.report("demand 3, exactly", len(batch), wrong)
-    print(f"  {counts(Counter(map(programs.outcome, listings)))}")
+    print(f"  {counts(Counter(programs.outcome(answer.listing) for answer in answers))}")
 
 
 # ---------------------------------------------------------------- the program

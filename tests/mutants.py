@@ -25,7 +25,7 @@ refusal, since what is taken was admitted; and a survivor can be tried anew with
 
 Survivors that mean the same as the original are listed in tests/mutants_same.txt, each line KEY because REASON.
 
-The programs (valuation, batch, readings, vectors, buffers) are left out: no contract says what they print.
+The programs (valuation, batch, answers) are left out: no contract says what they print.
 """
 
 import argparse
@@ -61,7 +61,7 @@ DEFINITIONS = {
     "engine": "Guarantee",
     "flat": "Flat",
 }
-PROGRAMS = {"valuation", "batch", "readings", "vectors", "buffers"}
+PROGRAMS = {"valuation", "batch", "answers"}
 APART = ("theory", "pinned", "refusals")  # crates with no code: theorems, and statements that take long to compute. Their refusals are counted apart
 TIMEOUT = 180  # seconds for one stage
 

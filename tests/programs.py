@@ -1,12 +1,14 @@
-"""The programs that take many files at once, and what the reference says that they write.
+"""The program `answers`, which takes many files at once, and what the reference says that it writes of each.
 
-Their input (crates/batch): the files one after the other, each behind its length in four bytes.
+Its input (crates/batch): the files one after the other, each behind its length in four bytes. Of each file it writes three
+answers: the reading, the listing, and both lent buffers.
 """
 
 import os
 import re
 import subprocess
 import sys
+from typing import NamedTuple
 
 import reference
 from reference import STEPS, Refusal
@@ -21,6 +23,18 @@ def asked(word):
     return len(sys.argv) == 2
 
 
+# ---------------------------------------------------------------- what the program writes
+
+class Answers(NamedTuple):
+    """The three answers of one file, as the program writes them; None stands for one that is not compared."""
+    reading: bytes | None = None
+    listing: bytes | None = None
+    buffers: bytes | None = None
+
+
+WRITTEN = re.compile(rb"([RC] .*\n)" rb"(R \d+\n|(?:[LBAS]\d? \d+ \d+\n)+V [A-Z ]+\n)" rb"(F .*\nZ .*\n)")
+
+
 def program(name):
     path = os.path.join(ROOT, "target", "bin", name)
     if not os.path.exists(path):
@@ -32,33 +46,28 @@ def framed(files):
     return b"".join(len(data).to_bytes(4, "big") + data for data in files)
 
 
-def answers(name, files, pattern):
-    """What a program writes, cut into one answer for each file."""
-    text = subprocess.run([program(name)], input=framed(files), capture_output=True, check=True).stdout
-    found = [match.group() for match in re.finditer(pattern, text)]
-    if b"".join(found) != text or len(found) != len(files):
-        raise SystemExit(f"{name} answered {len(found)} of {len(files)} files, or wrote something else")
+def answers(files):
+    """The program's answers of each file, all of one run."""
+    text = subprocess.run([program("answers")], input=framed(files), capture_output=True, check=True).stdout
+    found = [Answers(*match.groups()) for match in WRITTEN.finditer(text)]
+    if sum(len(part) for answer in found for part in answer) != len(text) or len(found) != len(files):
+        raise SystemExit(f"the program answered {len(found)} of {len(files)} files, or wrote something else")
     return found
 
 
-# ---------------------------------------------------------------- vectors
+def compared(found, expected):
+    """Of the answers found those that are compared: the others are None, as in what is expected."""
+    return Answers(*(None if right is None else answer for answer, right in zip(found, expected)))
+
+
+# ---------------------------------------------------------------- what the reference says
 
 # What the last line of a listing can be.
 OUTCOMES = [f"R {number}" for number in range(1, 13)] + [f"V {word}" for word in reference.VERDICTS]
 
 
-def listings(files):
-    return answers("vectors", files, rb"R \d+\n|(?:[LBAS]\d? \d+ \d+\n)+V [A-Z ]+\n")
-
-
 def outcome(listing):
     return listing.splitlines()[-1].decode()
-
-
-# ---------------------------------------------------------------- readings
-
-def readings(files):
-    return answers("readings", files, rb"[RC] .*\n")
 
 
 def hash_of(part):
@@ -77,27 +86,34 @@ def fields(case):
             case.heads, case.pension_age, case.mean_age]
 
 
+def row(words):
+    return " ".join(map(str, words)).encode() + b"\n"
+
+
 def reading(data):
     answer, (offset, length) = reference.read_with_part(data)
     said = ["R", answer.number] if isinstance(answer, Refusal) else ["C", *fields(answer)]
     return row([*said, offset, length, hash_of(data[offset:offset + length])])
 
 
-def row(words):
-    return " ".join(map(str, words)).encode() + b"\n"
-
-
-# ---------------------------------------------------------------- buffers
-
-def buffers(files):
-    return answers("buffers", files, rb"F .*\nZ .*\n")
-
-
-def curve(data):
+def buffers(data):
     """Both buffers of 242 entries, all 7 beforehand; 100,000 steps are added to each zero rate."""
     factors, rates = [7] * 242, [7] * 242
     reference.fill(data, factors, rates)
     return row(["F", *factors]) + row(["Z", *(STEPS + rate for rate in rates)])
+
+
+def expected(data):
+    return Answers(reading(data), reference.listing(data), buffers(data))
+
+
+# Both buffers as they were: those of a file of no bytes, which is refused.
+UNTOUCHED = buffers(b"")
+
+
+def refused(number):
+    """All that is written of a refused file: its number, no part that holds rates, and buffers that keep their content."""
+    return Answers(row(["R", number, 0, 0, 0]), row(["R", number]), UNTOUCHED)
 
 
 # ---------------------------------------------------------------- files in the tree that a script writes

@@ -1,6 +1,6 @@
-"""Writes the input and the expected output of the programs vectors, readings and buffers, both from the reference alone.
+"""Writes the input and the expected output of the program answers, both from the reference alone.
 
-Command line: python3 tests/vectors.py           writes crates/{vectors,readings,buffers}/{stdin,stdout}
+Command line: python3 tests/vectors.py           writes crates/answers/stdin and crates/answers/stdout
               python3 tests/vectors.py --check   ends with 1 if one of them is another
 """
 
@@ -10,7 +10,6 @@ from dataclasses import replace
 import examples
 import files
 import programs
-import reference
 from examples import c1, flat
 from reference import encode
 
@@ -48,15 +47,10 @@ def vector_files():
 def wanted():
     """Every file that this script writes, by its path."""
     stored = vector_files()
-    assert {programs.outcome(reference.listing(data)) for data in stored} == set(programs.OUTCOMES)
-    buffers = stored[:12] + stored[12:75:5] + stored[-4:]
-    runs = {"vectors": (stored, reference.listing), "readings": (stored[::3], programs.reading),
-            "buffers": (buffers, programs.curve)}
-    texts = {}
-    for name, (batch, answer) in runs.items():
-        texts[f"crates/{name}/stdin"] = programs.framed(batch)
-        texts[f"crates/{name}/stdout"] = b"".join(map(answer, batch))
-    return texts
+    answers = [programs.expected(data) for data in stored]
+    assert {programs.outcome(answer.listing) for answer in answers} == set(programs.OUTCOMES)
+    return {"crates/answers/stdin": programs.framed(stored),
+            "crates/answers/stdout": b"".join(part for answer in answers for part in answer)}
 
 
 if __name__ == "__main__":

@@ -35,7 +35,7 @@ pub fn put_digits(buf: &mut [u8], at: usize, k: u64, n: u64) -> usize
 }
 
 // A space and a number.
-fn put_number(buf: &mut [u8], at: usize, n: u64) -> usize
+pub fn put_number(buf: &mut [u8], at: usize, n: u64) -> usize
     requires { ⌜ at + 21 ≤ length (now buf) ⌝ }
     ensures { λ r. ⌜ Wrote (now (buf .entry)) at (spaced n) 21 r (now (buf .exit)) ⌝ }
 {

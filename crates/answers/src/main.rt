@@ -1,4 +1,9 @@
-// Reads many files (crate batch), and prints the listing of each.
+// Reads many files (crate batch), and prints three answers for each: its reading (one line), its listing, and what a valuation leaves
+// in lent buffers (two lines).
+mod buffers;
+mod numbers;
+mod reading;
+
 use libc::STDOUT_FILENO;
 
 fn print_listing(file: &[u8]) {
@@ -6,6 +11,12 @@ fn print_listing(file: &[u8]) {
     let mut text = [0u8; 512];
     let n = listing::write_listing(valuation, &mut text);
     io::write_all(STDOUT_FILENO, &text[..n]);
+}
+
+fn print_answers(file: &[u8]) {
+    reading::print_reading(file);
+    print_listing(file);
+    buffers::print_buffers(file);
 }
 
 // Takes the next file, and answers whether there was one of at most 100,000 bytes.
@@ -16,7 +27,7 @@ fn print_next() -> bool {
         return false;
     }
     let n = batch::read_file(length, &mut buf);
-    print_listing(&buf[..n]);
+    print_answers(&buf[..n]);
     true
 }
 

@@ -1,26 +1,13 @@
-// Reads many files (crate batch), and prints one line for each: R and the number of its refusal; or C and every field of its case in
-// the order of the struct, the arrays whole; after them, where the part that holds the rates begins, its length and a hash of
-// its bytes.
+// The line of a reading: R and the number of the refusal; or C and every field of the case in the order of the struct, the arrays whole;
+// after them, where the part that holds the rates begins, its length and a hash of its bytes.
+use super::numbers::print_number;
+use super::numbers::print_numbers;
 use casefile::Answer;
 use libc::STDOUT_FILENO;
 use model::case::Amounts;
 use model::case::Case;
 use model::case::People;
 use model::case::Shocks;
-
-// A space and a number.
-fn print_number(n: u64) {
-    io::write_all(STDOUT_FILENO, b" ");
-    io::print_decimal(STDOUT_FILENO, n);
-}
-
-fn print_numbers(numbers: &[u64]) {
-    let mut i = 0;
-    while i < numbers.len() {
-        print_number(numbers[i]);
-        i += 1;
-    }
-}
 
 fn print_amounts(a: Amounts) {
     let numbers = [
@@ -100,7 +87,7 @@ fn print_part(file: &[u8]) {
     io::write_all(STDOUT_FILENO, b"\n");
 }
 
-fn print_reading(file: &[u8]) {
+pub(super) fn print_reading(file: &[u8]) {
     let reading = casefile::read(file);
     let answer = reading.answer;
     let case = reading.case;
@@ -115,24 +102,4 @@ fn print_reading(file: &[u8]) {
         }
     }
     print_part(file);
-}
-
-// Takes the next file, and answers whether there was one of at most 100,000 bytes.
-fn print_next() -> bool {
-    let mut buf = [0u8; 100000];
-    let length = batch::next_length();
-    if buf.len() < length {
-        return false;
-    }
-    let n = batch::read_file(length, &mut buf);
-    print_reading(&buf[..n]);
-    true
-}
-
-// A proved loop has to end, and nothing says that the input does. No run uses up the turns.
-fn main() {
-    let mut turns = u64::MAX;
-    while turns > 0 && print_next() {
-        turns -= 1;
-    }
 }

@@ -1,9 +1,9 @@
--- `readings::hash_of` is safe and ends. Assumes nothing.
+-- `answers::reading::hash_of` is safe and ends. Assumes nothing.
 use borrow.Author.Needs.{needs}
 use Prim.Native.Nat.{_≤_, _-_}
 use lib.ListN.{length}
-use Rattle.readings.proofs.hash_of.Statement.{statement}
-use Rattle.readings.proofs.hash_of.Tie as tie
+use Rattle.answers.proofs.reading.hash_of.Statement.{statement}
+use Rattle.answers.proofs.reading.hash_of.Tie as tie
 
 abbrev Inv-loop : tie.InvT-loop
 Inv-loop part hash₀ i₀ hash i = i ≤ length part

@@ -1,4 +1,4 @@
--- `buffers::raised` is safe: between its two limits, a rate plus 100,000 is a natural number. Assumes nothing.
+-- `answers::buffers::raised` is safe: between its two limits, a rate plus 100,000 is a natural number. Assumes nothing.
 use borrow.Author.Needs.{needs}
 use borrow.Author.Tests.{ltb-false, le-ltb}
 use native.Mathlib.Omega.{arith}
@@ -11,8 +11,8 @@ use lib.Signed.{ltZ, nonNeg}
 use mir.Syntax.{w64}
 use mir.Val.{Fits, SFits, toZ, ofZ}
 use mir.ValLaws.{toZ-ofZ}
-use Rattle.buffers.proofs.raised.Statement.{statement}
-use Rattle.buffers.proofs.raised.Tie as tie
+use Rattle.answers.proofs.buffers.raised.Statement.{statement}
+use Rattle.answers.proofs.buffers.raised.Tie as tie
 
 record Raised (z : ℤ) : Type 0 where
   to : ℕ

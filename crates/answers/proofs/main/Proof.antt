@@ -1,7 +1,7 @@
--- `vectors::main` is safe and ends: the turns that are left fall. Assumes nothing.
+-- `answers::main` is safe and ends: the turns that are left fall. Assumes nothing.
 use native.Mathlib.Omega.{arith}
-use Rattle.vectors.proofs.main.Statement.{statement}
-use Rattle.vectors.proofs.main.Tie as tie
+use Rattle.answers.proofs.main.Statement.{statement}
+use Rattle.answers.proofs.main.Tie as tie
 
 abbrev Inv-loop : tie.InvT-loop
 Inv-loop turns₀ turns = Unit {0}

@@ -34,13 +34,12 @@ UNARY = {"other", "suc", "negℤ", "not", "square"}
 # Names of one type, in an order: each is exchanged for the one behind it, the last for the one before.
 NAMES = [
     ("L", "B"), ("S1", "S2", "S3", "S4", "S5", "S6", "S"), ("WL", "WB"), ("firstMargin", "secondMargin"), ("growth", "weighed"),
-    ("hasUfr", "hasBonds", "hasAmounts"), ("dayCount", "pensionCount", "bondCount"),
-    ("daysAt", "pensionAt", "bondsAt", "amountsAt", "shocksAt", "peopleAt", "endAt"),
-    ("factors", "rates"),
+    ("daysAt", "dayCount"), ("factors", "rates"),
 ]
 
 # The same for the variables of one file, which elsewhere have another type.
 VARIABLES = {
+    "Fields": [("x", "y"), ("f", "g"), ("c", "r"), ("least", "most")], "Layout": [(".ufr", ".bonds", ".amounts")],
     "Fraction": [("x", "y")], "Exact": [("a", "l")], "Margins": [("a", "l")], "Rounding": [("a", "b")], "Root": [("n", "d")],
     "Rounded": [("s1", "s2", "s3", "s4", "s5", "s6"), ("a", "l"), ("h", "d")],
 }

@@ -40,8 +40,7 @@ use lib.IntN.{pos, negℤ}
 use Rattle.arith.specs.Rounding.{low, high}
 use Rattle.model.specs.Constants.{lastTerm}
 use Rattle.model.specs.Case.{FileCase, s}
-use Rattle.model.specs.Layout.{fileOf}
-use Rattle.model.specs.Reading.{caseOf}
+use Rattle.model.specs.Layout.{fileOf, caseOf}
 use Rattle.model.specs.Fraction.{_//_, _≐_, whole}
 use Rattle.model.specs.Curve.{Curve, base, up, down, curve, P}
 use Rattle.model.specs.Exact as Exact
@@ -90,7 +89,7 @@ ACCEPTED_HEAD = """\
 use Prim.Native.Nat.{ℕ}
 use mathlib.Core.Path.{_≡_, refl}
 use mathlib.Core.List.{List, [], _∷_, _++_}
-use Rattle.model.specs.Reading.{caseOf}
+use Rattle.model.specs.Layout.{caseOf}
 use Rattle.model.specs.Refusals.{refusal}
 use Rattle.model.proofs.Computing.{pairs, all}
 use Rattle.model.proofs.Pinned.{bentFile, bentCase, upFile, downFile, downCase, long}

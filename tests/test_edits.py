@@ -38,7 +38,7 @@ def refusing(comment):
 
 def statements(crate):
     """The names that the proofs of a crate declare."""
-    return {name for path in glob.glob(os.path.join(ROOT, "crates", crate, "proofs", "*.antt"))
+    return {name for path in glob.glob(os.path.join(ROOT, "crates", crate, "proofs", "**", "*.antt"), recursive=True)
             for name in re.findall(r"^(?:pub )?(\S+) :", read_text(path), re.M)}
 
 

@@ -1,6 +1,6 @@
 // Many files in one standard input, each behind its length in four bytes, the highest first.
 use libc::STDIN_FILENO;
-use numbers::runs::number_at;
+use scan::cursor::number_at;
 ghost use Rattle.io.specs.Counts.{Counts};
 ghost use Rattle.batch.specs.Input.{LengthOrEnd, FileRead};
 

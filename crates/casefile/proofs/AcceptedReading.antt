@@ -9,10 +9,9 @@ use mir.Val.{Fits}
 use Rattle.model.specs.Numbers.{Bytes}
 use Rattle.model.specs.Held.{held}
 use Rattle.model.specs.Limits.{WithinLimits}
-use Rattle.model.specs.Reading.{caseOf}
+use Rattle.model.specs.Layout.{caseOf}
 use Rattle.model.specs.Refusals.{refusal}
-use Rattle.theory.proofs.acceptance.Accepted.{within-limits}
-use Rattle.theory.proofs.acceptance.Acceptance.{accepted-keeps, keeps-accepted}
+use Rattle.theory.proofs.acceptance.Acceptance.{within-limits, accepted-keeps, keeps-accepted}
 use Rattle.casefile.specs.Answers.{numberOf, answerOf, caseAfter, readingOf, ReadExactly}
 use Rattle.casefile.specs.declared.Answer.the-variants.{Accepted}
 use Rattle.casefile.specs.declared.Reading.{Reading}

@@ -1,3 +1,2 @@
-pub mod HeldCase
 pub mod Parts
 pub mod AcceptedReading

@@ -1,3 +1,2 @@
--- Answers has to be believed: what the reader answers. inner serves contracts of this crate and proofs.
+-- What the reader answers. All of it has to be believed.
 pub mod Answers
-pub mod inner

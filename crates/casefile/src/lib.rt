@@ -1,13 +1,12 @@
-// The reader of case files: what a host calls. Each function is defined for every list of bytes.
-mod fields;
+// The reader of case files: what a host calls. Each function is defined for every list of bytes. The places of the fields and the sums
+// of the rates are found once, and serve the checks and the case.
+mod case;
 
-use checks::order::map_to_days;
-use checks::order::pension_to_amounts;
-use checks::order::shocks_to_end;
-use fields::case_in;
+use case::case_in;
+use checks::order::refusal_with;
 use model::case::Case;
-use positions::days_at;
-use positions::pension_at;
+use scan::places::find;
+use scan::rates::sum_days;
 ghost use mathlib.Core.Path.{_≡_};
 ghost use Rattle.model.specs.Refusals.{refusal};
 ghost use Rattle.casefile.specs.Answers.{readingOf, ReadExactly, RatesPart};
@@ -28,15 +27,9 @@ pub struct Reading {
 pub fn refusal_of(file: &[u8]) -> u8
     ensures { λ r. ⌜ r ≡ refusal (now (file .entry)) ⌝ }
 {
-    let first = map_to_days(file);
-    if first != 0 {
-        return first;
-    }
-    let second = pension_to_amounts(file);
-    if second != 0 {
-        return second;
-    }
-    shocks_to_end(file)
+    let p = find(file);
+    let s = sum_days(file, p.days_at + 1, p.days);
+    refusal_with(file, p, s)
 }
 
 // The case is made only of a file that is accepted.
@@ -44,7 +37,9 @@ pub fn read(file: &[u8]) -> Reading
     ensures { λ r. ⌜ r ≡ readingOf (now (file .entry)) ⌝ }
     ensures { λ r. ⌜ ReadExactly (now (file .entry)) r ⌝ }
 {
-    let number = refusal_of(file);
+    let p = find(file);
+    let s = sum_days(file, p.days_at + 1, p.days);
+    let number = refusal_with(file, p, s);
     if number != 0 {
         return Reading {
             answer: Answer::Refused(number),
@@ -53,7 +48,7 @@ pub fn read(file: &[u8]) -> Reading
     }
     Reading {
         answer: Answer::Accepted,
-        case: case_in(file),
+        case: case_in(file, p, s),
     }
 }
 
@@ -64,7 +59,8 @@ pub fn rates_part(file: &[u8]) -> &[u8]
     if refusal_of(file) != 0 {
         return &file[..0];
     }
-    let start = days_at(file) + 1;
-    let end = pension_at(file);
+    let p = find(file);
+    let start = p.days_at + 1;
+    let end = p.pension_at;
     &file[start..end]
 }

@@ -1,2 +1,2 @@
--- Nothing here has to be believed: the checks and their order are defined in `model`.
+-- Nothing here has to be believed: inner serves contracts of this crate and proofs.
 pub mod inner

@@ -1,2 +1,2 @@
--- Order: the checks, cut into the three parts in which the code goes through them; that they join to the whole is proved.
-pub mod Order
+-- Nobody has to believe this: that it is the definition of `model` is proved. After: the first number of a list, check by check.
+pub mod After

@@ -1,3 +1,3 @@
-// The checks of a case file, in document 01's order: those of each field, and the order.
-pub mod fields;
+// The checks of a case file, in document 01's order: whether the numbers of each field are within their limits, and the order.
+mod limits;
 pub mod order;

@@ -1,61 +1,138 @@
-// The checks of a file in their order, in three parts; the first that fails is given.
-use crate::fields::amounts_check;
-use crate::fields::bonds_check;
-use crate::fields::days_check;
-use crate::fields::end_check;
-use crate::fields::flows_check;
-use crate::fields::map_check;
-use crate::fields::people_check;
-use crate::fields::shocks_check;
-use crate::fields::ufr_check;
-use positions::pension_at;
-use positions::people_at;
-use positions::shocks_at;
+// The order of the checks, as straight lines: each takes the number so far, and answers with it or, where there is none yet and the check
+// fails, with its own. Every check is made: a byte past the end counts as 0, and the check of a length comes before what it guards.
+use crate::limits::amounts_right;
+use crate::limits::between;
+use crate::limits::bits_right;
+use crate::limits::number_right;
+use crate::limits::people_right;
+use crate::limits::shocks_right;
+use scan::places::Places;
+use scan::rates::Sums;
+use scan::rates::forwards_within;
+use scan::runs::each_at_most;
 ghost use mathlib.Core.Path.{_≡_};
-ghost use Rattle.model.specs.Refusals.{firstOf};
-ghost use Rattle.checks.specs.inner.Order.{mapToDays, pensionToAmounts, shocksToEnd};
+ghost use mathlib.Core.List.{[], _∷_};
+ghost use Prim.Native.Nat.{_+_, _<_, _≤_};
+ghost use lib.Dec.{leb};
+ghost use lib.ListN.{getD, length};
+ghost use Rattle.model.specs.Fields.{reaches, rightAll, counted};
+ghost use Rattle.model.specs.Layout.{flow};
+ghost use Rattle.model.specs.inner.Positions.{present, bondsAt, amountsAt, day, ufrField, daysField, bondsField, amountsField};
+ghost use Rattle.model.specs.Refusals.{refusal};
+ghost use Rattle.scan.specs.inner.Found.{Found};
+ghost use Rattle.scan.specs.inner.Sums.{Summed};
+ghost use Rattle.checks.specs.inner.After.{after, afterAll};
 
-// The checks of the map, the UFR and the days.
-pub fn map_to_days(file: &[u8]) -> u8
-    ensures { λ r. ⌜ r ≡ firstOf (mapToDays (now (file .entry))) ⌝ }
+// One check: the number so far is kept where there is one.
+fn first(so_far: u8, holds: bool, number: u8) -> u8
+    ensures { λ r. ⌜ r ≡ after «so_far» holds number ⌝ }
 {
-    let map = map_check(file);
-    if map != 0 {
-        return map;
+    if so_far == 0 {
+        if holds { 0 } else { number }
+    } else {
+        so_far
     }
-    let ufr = ufr_check(file);
-    if ufr != 0 {
-        return ufr;
-    }
-    days_check(file)
 }
 
-// Those of the pension flows, the bond flows and the amounts.
-pub fn pension_to_amounts(file: &[u8]) -> u8
-    ensures { λ r. ⌜ r ≡ firstOf (pensionToAmounts (now (file .entry))) ⌝ }
+// A field, or a count byte: the file reaches its end, and its numbers are right.
+fn part_check(so_far: u8, file: &[u8], end: usize, right: bool, number: u8) -> u8
+    ensures { λ r. ⌜ r ≡ afterAll «so_far» ((reaches (now (file .entry)) end, 1) ∷ (right, number) ∷ []) ⌝ }
 {
-    let pension = flows_check(file, pension_at(file), 120);
-    if pension != 0 {
-        return pension;
-    }
-    let bonds = bonds_check(file);
-    if bonds != 0 {
-        return bonds;
-    }
-    amounts_check(file)
+    let whole = first(so_far, end <= file.len(), 1);
+    first(whole, right, number)
 }
 
-// Those of the shocks, the people and the end of the file.
-pub fn shocks_to_end(file: &[u8]) -> u8
-    ensures { λ r. ⌜ r ≡ firstOf (shocksToEnd (now (file .entry))) ⌝ }
+// The days: the count n, and the rates, which were tested where they were summed.
+fn days_check(so_far: u8, file: &[u8], at: usize, count: usize, end: usize, right: bool) -> u8
+    requires { ⌜ (at ≤ 32000) × (count ≡ getD (now file) at 0) × (end ≡ daysField .end (now file) at) ⌝ }
+    requires rates { ⌜ right ≡ rightAll day (daysField .value (now file) at) ⌝ }
+    ensures { λ r. ⌜ r ≡ afterAll «so_far» (daysField .checks (now (file .entry)) at) ⌝ }
 {
-    let shocks = shocks_check(file, shocks_at(file));
-    if shocks != 0 {
-        return shocks;
+    let counted = part_check(so_far, file, at + 1, between(1, 70, count as u64), 4);
+    part_check(counted, file, end, right, 5)
+}
+
+// Pension or bond flows: their count, at most `most`, and the flows.
+fn flows_check(so_far: u8, file: &[u8], at: usize, count: usize, end: usize, most: u64) -> u8
+    requires { ⌜ (at ≤ 32000) × (count < 256) × (count ≡ getD (now file) at 0) × (end ≡ counted most 7 8 flow .end (now file) at) ⌝ }
+    ensures { λ r. ⌜ r ≡ afterAll «so_far» (counted most 7 8 flow .checks (now (file .entry)) at) ⌝ }
+{
+    let counted = part_check(so_far, file, at + 1, between(1, most, count as u64), 7);
+    let right = each_at_most(file, at + 1, 4, count, 100_000_000);
+    part_check(counted, file, end, right, 8)
+}
+
+// The UFR, if the file has it.
+fn ufr_check(so_far: u8, file: &[u8], p: Places) -> u8
+    requires { ⌜ Found (now file) p ⌝ }
+    ensures { λ r. ⌜ r ≡ afterAll «so_far» (ufrField (present (now (file .entry))) .checks (now (file .entry)) 2) ⌝ }
+{
+    if p.has_ufr {
+        let right = number_right(file, 2, 2, 0, 5_000);
+        part_check(so_far, file, 4, right, 9)
+    } else {
+        so_far
     }
-    let people = people_check(file, people_at(file));
-    if people != 0 {
-        return people;
+}
+
+// The bond flows, if the file has them.
+fn bonds_check(so_far: u8, file: &[u8], p: Places) -> u8
+    requires { ⌜ Found (now file) p ⌝ }
+    ensures { λ r. ⌜
+        r ≡ afterAll «so_far» (bondsField (present (now (file .entry))) .checks (now (file .entry)) (bondsAt (now (file .entry))))
+        ⌝ }
+{
+    if p.has_bonds {
+        flows_check(so_far, file, p.bonds_at, p.bonds, p.amounts_at, 60)
+    } else {
+        so_far
     }
-    end_check(file)
+}
+
+// The amounts, if the file has them.
+fn amounts_check(so_far: u8, file: &[u8], p: Places) -> u8
+    requires { ⌜ Found (now file) p ⌝ }
+    ensures { λ r. ⌜
+        r ≡ afterAll «so_far» (amountsField (present (now (file .entry))) .checks (now (file .entry)) (amountsAt (now (file .entry))))
+        ⌝ }
+{
+    if p.has_amounts {
+        let right = amounts_right(file, p.amounts_at);
+        part_check(so_far, file, p.shocks_at, right, 10)
+    } else {
+        so_far
+    }
+}
+
+// Nothing follows the last field; then the limits of refusal 6.
+fn end_check(so_far: u8, file: &[u8], end: usize, forwards: bool) -> u8
+    ensures { λ r. ⌜ r ≡ afterAll «so_far» ((leb (length (now (file .entry))) end, 2) ∷ (forwards, 6) ∷ []) ⌝ }
+{
+    let over = first(so_far, file.len() <= end, 2);
+    first(over, forwards, 6)
+}
+
+// The number that a file is refused with, by its places and sums; 0 where it is accepted.
+pub fn refusal_with(file: &[u8], p: Places, s: Sums) -> u8
+    requires { ⌜ Found (now file) p × Summed (now file) (p .«days_at» + 1) (p .days) s ⌝ }
+    ensures { λ r. ⌜ r ≡ refusal (now (file .entry)) ⌝ }
+{
+    let map = part_check(0, file, 2, bits_right(p.map), 3);
+    let ufr = ufr_check(map, file, p);
+    let days = days_check(ufr, file, p.days_at, p.days, p.pension_at, s.within);
+    let pension = flows_check(days, file, p.pension_at, p.pension, p.bonds_at, 120);
+    let bonds = bonds_check(pension, file, p);
+    let amounts = amounts_check(bonds, file, p);
+    let shocks = part_check(
+        amounts,
+        file,
+        p.people_at,
+        shocks_right(file, p.shocks_at),
+        11,
+    );
+    let end = p.people_at + 8;
+    let people = part_check(shocks, file, end, people_right(file, p.people_at), 12);
+    let sums = s.sums;
+    let forwards = forwards_within(sums, p.days as u64);
+    end_check(people, file, end, forwards)
 }

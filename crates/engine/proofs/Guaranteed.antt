@@ -15,8 +15,9 @@ use mir.Val.{Fits}
 use Rattle.arith.specs.Rounding.{End, low, high}
 use Rattle.model.specs.Numbers.{Bytes}
 use Rattle.model.specs.Case.{FileCase}
-use Rattle.model.specs.Reading.{caseOf}
-use Rattle.model.specs.Refusals.{Check, firstOf, checks, refusal}
+use Rattle.model.specs.Layout.{caseOf}
+use Rattle.model.specs.Fields.{Check}
+use Rattle.model.specs.Refusals.{firstOf, checks, refusal}
 use Rattle.model.specs.Curve.{base, curve}
 use Rattle.model.specs.Rounded as Rounded
 use Rattle.model.specs.Buffers.{valuationRefusal, byTerm, factorEntries, rateEntries, factorsAfter, ratesAfter, answered, valuationOf, refusalNumber}

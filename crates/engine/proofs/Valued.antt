@@ -10,8 +10,9 @@ use lib.Dec.{leb}
 use lib.IntN.{ℤ}
 use lib.ListN.{length, drop}
 use Rattle.model.specs.Curve.{base}
-use Rattle.model.specs.Reading.{caseOf}
-use Rattle.model.specs.Refusals.{Check, firstOf, checks, refusal}
+use Rattle.model.specs.Layout.{caseOf}
+use Rattle.model.specs.Fields.{Check}
+use Rattle.model.specs.Refusals.{firstOf, checks, refusal}
 use Rattle.model.specs.Rounded as Rounded
 use Rattle.model.specs.Buffers.{valuationRefusal, factorEntries, rateEntries, factorsAfter, ratesAfter, answered, valuationOf}
 use Rattle.model.specs.declared.figures.Valuation.{Valuation}

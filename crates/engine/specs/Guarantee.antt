@@ -10,7 +10,7 @@ use lib.ListN.{length, getD, drop}
 use Rattle.arith.specs.Rounding.{low, high}
 use Rattle.model.specs.Numbers.{Bytes}
 use Rattle.model.specs.Layout.{Keeps}
-use Rattle.model.specs.Reading.{caseOf}
+use Rattle.model.specs.Layout.{caseOf}
 use Rattle.model.specs.Curve.{base, curve}
 use Rattle.model.specs.Rounded as Rounded
 use Rattle.model.specs.Demand3.{Given, Demand3}

@@ -5,7 +5,7 @@ use Prim.Native.Nat.{ℕ, zero, suc}
 use borrow.Author.Tests.{ne-eqb}
 use Rattle.model.specs.Case.{FileCase}
 use Rattle.model.specs.Buffers.{answered, valuationRefusal, valuationOf}
-use Rattle.model.specs.Reading.{caseOf}
+use Rattle.model.specs.Layout.{caseOf}
 use Rattle.model.specs.Rounded as Rounded
 use Rattle.model.specs.declared.figures.Figures.{Figures}
 use Rattle.model.specs.declared.figures.Verdict.{Verdict}

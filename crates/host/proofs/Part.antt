@@ -1,12 +1,16 @@
--- The part of a file that holds the rates, by its place. Assumes nothing.
-use mathlib.Core.Path.{_≡_, refl, ap}
+-- The part of a file that holds the rates, by its place: only a refused file has an empty part. Assumes nothing.
+use mathlib.Core.Path.{_≡_, refl, ap, sym, _∙_}
 use mathlib.Core.List.{List, [], _∷_}
-use Prim.Native.Nat.{ℕ, zero, suc, _+_, _*_}
-use lib.ListN.{length, take, drop}
-use Rattle.model.specs.Reading.{daysAt, dayCount}
-use Rattle.model.specs.Refusals.{refusal, ratesPartAfter, ratesPart}
+use Prim.Native.Nat.{ℕ, zero, suc, _+_, _*_, _≤_}
+use native.Mathlib.Omega.{arith}
+use lib.ListN.{length, take, drop, length-drop}
+use lib.Seq.{length-take-le}
+use Rattle.model.specs.Layout.{caseOf}
+use Rattle.model.specs.inner.Positions.{day}
+use Rattle.model.specs.Refusals.{refusal, ratesPartAfter, ratesPart, daysAt, dayCount}
+use Rattle.theory.proofs.acceptance.Acceptance.{within-limits, days-reach}
+use Rattle.theory.proofs.acceptance.Runs.{values-length}
 use Rattle.casefile.specs.Answers.{ratesFrom}
-use Rattle.casefile.proofs.Parts.{refused-rates as none-of}
 use Rattle.host.specs.Part.{hostPart}
 use Rattle.host.specs.declared.HostPart.{HostPart}
 
@@ -27,17 +31,35 @@ part-placed file = placed (refusal file) file
 after : ℕ → List ℕ → HostPart
 after r file = record { offset = ratesFrom r file; length = length (ratesPartAfter r file) }
 
-pub refused-part : (file : List ℕ) → (refusal file ≡ 0 → ⊥) → record { offset = 0; length = 0 } ≡ hostPart file
-unfolding ratesPart after
-refused-part file n = go (refusal file) n
+-- the part by the number of the refusal
+partAfter : ℕ → List ℕ → HostPart
+partAfter r file = record { offset = ratesFrom r file; length = length (ratesPartAfter r file) }
+
+some-days : (file : List ℕ) → refusal file ≡ 0 → 1 ≤ dayCount file
+unfolding caseOf daysAt dayCount
+some-days file h = omega (arith, within-limits file h .days .some, values-length day file (daysAt file + 1) (dayCount file))
+
+-- an accepted file has at least one day
+accepted-some : (file : List ℕ) → refusal file ≡ 0 → length (ratesPart file) ≡ 0 → ⊥
+unfolding ratesPart dayCount
+accepted-some file h e =
+    let rest : 120 * dayCount file ≤ length (drop (daysAt file + 1) file) = omega (arith, days-reach file h, length-drop (daysAt file + 1) file) in
+    omega (arith, some-days file h, sym (length-take-le (120 * dayCount file) (drop (daysAt file + 1) file) rest), rw h at e)
+
+pub empty-part : (file part : List ℕ) → part ≡ ratesPart file → length part ≡ 0 → record { offset = 0; length = 0 } ≡ hostPart file
+unfolding ratesPart partAfter
+empty-part file part p e = go (refusal file) refl
   where
-    go : (r : ℕ) → (r ≡ 0 → ⊥) → record { offset = 0; length = 0 } ≡ after r file
-    go zero n = absurd (n refl)
-    go (suc r) n = refl
+    go : (r : ℕ) → refusal file ≡ r → record { offset = 0; length = 0 } ≡ partAfter r file
+    go zero z = absurd (accepted-some file z (ap length (sym p) ∙ e))
+    go (suc r) z = refl
 
-pub refused-rates : (file : List ℕ) → (refusal file ≡ 0 → ⊥) → [] ≡ ratesPart file
-unfolding ratesPart
-refused-rates file n = none-of (refusal file) file n
-
-pub accepted-part : (file part : List ℕ) (at : ℕ) → refusal file ≡ 0 → at ≡ daysAt file → part ≡ ratesPart file → record { offset = at + 1; length = length part } ≡ hostPart file
-accepted-part file part at z a p = rw z (λ i. record { offset = a i + 1; length = length (p i) })
+pub some-part : (file part : List ℕ) (at : ℕ) → part ≡ ratesPart file → (length part ≡ 0 → ⊥) → at ≡ daysAt file
+    → record { offset = at + 1; length = length part } ≡ hostPart file
+unfolding ratesPart partAfter
+some-part file part at p n a = (λ i. record { offset = a i + 1; length = length (p i) }) ∙ go (refusal file) (λ e. n (ap length p ∙ e))
+  where
+    go : (r : ℕ) → (length (ratesPartAfter r file) ≡ 0 → ⊥)
+        → record { offset = daysAt file + 1; length = length (ratesPartAfter r file) } ≡ partAfter r file
+    go zero n = refl
+    go (suc r) n = absurd (n refl)

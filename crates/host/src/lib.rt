@@ -11,7 +11,7 @@ use flat::flat_point;
 use flat::flat_valuation;
 use flat::valuation_from;
 use listing::write_listing;
-use positions::days_at;
+use scan::places::find;
 use window::window_point;
 ghost use mathlib.Core.Path.{_≡_};
 ghost use lib.ListN.{length, take, drop};
@@ -58,22 +58,24 @@ pub extern "C" fn ginghamowl_refusal(file: &[u8]) -> u8
     refusal_of(file)
 }
 
-// Where the rates stand in the file: n × 120 bytes; 0 and 0 where the file is refused.
+// Where the rates stand in the file: n × 120 bytes; 0 and 0 where the file is refused. Only a refused file has an empty part.
 #[no_mangle]
 pub extern "C" fn ginghamowl_rates_part(file: &[u8]) -> HostPart
     ensures { λ r. ⌜ r ≡ hostPart (now (file .entry)) ⌝ }
     ensures part { λ r. ⌜ take (r .length) (drop (r .offset) (now (file .entry))) ≡ ratesPart (now (file .entry)) ⌝ }
 {
-    if refusal_of(file) != 0 {
+    let part = rates_part(file);
+    let length = part.len();
+    if length == 0 {
         return HostPart {
             offset: 0,
             length: 0,
         };
     }
-    let part = rates_part(file);
+    let p = find(file);
     HostPart {
-        offset: days_at(file) + 1,
-        length: part.len(),
+        offset: p.days_at + 1,
+        length,
     }
 }
 

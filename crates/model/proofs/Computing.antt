@@ -6,37 +6,9 @@ use lib.Ieee.{size}
 use Rattle.arith.specs.Rounding.{divide}
 use Rattle.arith.specs.Root.{root, rootOfDigits}
 use Rattle.model.specs.Case.{s}
-use Rattle.model.specs.Numbers.{number, bytesOf, bytesOfRun, every, table}
-use Rattle.model.specs.Layout.{ratesOf, fileOf}
-use Rattle.model.specs.Reading.{
-  fileMap,
-  daysAt,
-  dayCount,
-  pensionAt,
-  pensionCount,
-  bondsAt,
-  bondCount,
-  amountsAt,
-  shocksAt,
-  peopleAt,
-  endAt,
-  daysOf,
-  caseOf,
-}
-use Rattle.model.specs.Refusals.{
-  firstOf,
-  mapChecks,
-  ufrChecks,
-  daysChecks,
-  flowsChecks,
-  amountsChecks,
-  shocksChecks,
-  peopleChecks,
-  endChecks,
-  checks,
-  refusal,
-  ratesPart,
-}
+use Rattle.model.specs.Numbers.{number, bytesOf, every, table}
+use Rattle.model.specs.Layout.{fileMap, fileOf, caseOf}
+use Rattle.model.specs.Refusals.{firstOf, forwardsRight, checks, refusal, daysAt, dayCount, ratesPart}
 use Rattle.model.specs.Brackets.{largest, smallest}
 use Rattle.model.specs.Curve.{movedSum, curve, P, weight, weights}
 use Rattle.model.specs.Exact as Exact
@@ -59,9 +31,8 @@ text (one ∷ lines) = ascii one ++ ascii "\n" ++ text lines
 -- A proof whose `unfolding` line names `all` computes with every definition that is named here.
 unfoldable pub all : ℕ
 unfolding
-    s number bytesOf bytesOfRun every table ratesOf fileOf
-    fileMap daysAt dayCount pensionAt pensionCount bondsAt bondCount amountsAt shocksAt peopleAt endAt daysOf caseOf
-    firstOf mapChecks ufrChecks daysChecks flowsChecks amountsChecks shocksChecks peopleChecks endChecks checks refusal ratesPart
+    s number bytesOf every table
+    fileMap fileOf caseOf daysAt dayCount firstOf forwardsRight checks refusal ratesPart
     movedSum curve P
     weights weight Exact.G Exact.weighed Exact.growth Exact.product Exact.factor Exact.worth Exact.judge
     Rounded.scaled Rounded.growth Rounded.weighed Rounded.factor largest smallest Rounded.rateOf Rounded.worth Rounded.judge

@@ -13,8 +13,7 @@ use lib.IntN.{pos, negℤ}
 use Rattle.arith.specs.Rounding.{low, high}
 use Rattle.model.specs.Constants.{lastTerm}
 use Rattle.model.specs.Case.{FileCase, s}
-use Rattle.model.specs.Layout.{fileOf}
-use Rattle.model.specs.Reading.{caseOf}
+use Rattle.model.specs.Layout.{fileOf, caseOf}
 use Rattle.model.specs.Fraction.{_//_, _≐_, whole}
 use Rattle.model.specs.Curve.{Curve, base, up, down, curve, P}
 use Rattle.model.specs.Exact as Exact

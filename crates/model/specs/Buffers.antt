@@ -8,7 +8,7 @@ use lib.IntN.{ℤ, pos}
 use Rattle.arith.specs.Rounding.{End, low, high}
 use Rattle.model.specs.Constants.{lastTerm}
 use Rattle.model.specs.Case.{FileCase}
-use Rattle.model.specs.Reading.{caseOf}
+use Rattle.model.specs.Layout.{caseOf}
 use Rattle.model.specs.Refusals.{firstOf, checks}
 use Rattle.model.specs.Curve.{base, curve}
 use Rattle.model.specs.Rounded as Rounded

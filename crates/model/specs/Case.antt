@@ -18,19 +18,6 @@ pub record FileCase : Type 0 where
   pub shocks : Shocks
   pub people : People
 
--- "Absent: all zero."
-abbrev pub noAmounts : Amounts
-noAmounts = record {
-  mature = 0;
-  emerging = 0;
-  private = 0;
-  property = 0;
-  commodities = 0;
-  credit = 0;
-  cash = 0;
-  currency = 0;
-}
-
 -- The same case with another UFR, with other days, with other pension flows.
 abbrev pub withUfr : ℕ → FileCase → FileCase
 withUfr ufr k = record {

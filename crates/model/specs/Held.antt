@@ -1,10 +1,11 @@
 -- The case as the engine holds it: the struct of src/case.rt that represents a case of document 01.
 use Prim.Native.Nat.{ℕ, suc}
-use mathlib.Core.List.{List}
+use mathlib.Core.List.{List, []}
 use lib.ListN.{length, getD, replicate}
 use Rattle.model.specs.Constants.{defaultUfr}
 use Rattle.model.specs.Numbers.{table}
-use Rattle.model.specs.Case.{FileCase, noAmounts}
+use Rattle.model.specs.Case.{FileCase}
+use Rattle.model.specs.Layout.{noAmounts, shocksFrom}
 use Rattle.model.specs.Curve.{base, curve, P}
 use Rattle.model.specs.declared.case.Case.{Case}
 
@@ -38,19 +39,6 @@ defaultCase = record {
   «bond_count» = 0;
   bonds = replicate 60 0;
   amounts = noAmounts;
-  shocks = record {
-    «up_shift» = 0;
-    «down_shift» = 0;
-    «mature_fall» = 0;
-    «emerging_fall» = 0;
-    «private_fall» = 0;
-    «property_fall» = 0;
-    «currency_fall» = 0;
-    «commodities_fall» = 0;
-    «spread_rise» = 0;
-    correlation = 0;
-    spread = 0;
-    duration = 0;
-  };
+  shocks = shocksFrom ([], (0, 0));
   people = record { heads = 0; «pension_age» = 0; «mean_age» = 0 };
 }

@@ -3,8 +3,8 @@ pub mod Constants
 pub mod Numbers
 pub mod Case
 pub mod Limits
+pub mod Fields
 pub mod Layout
-pub mod Reading
 pub mod Refusals
 pub mod Fraction
 pub mod Brackets

@@ -11,22 +11,14 @@ unfoldable pub number : List ℕ → ℕ → ℕ → ℕ
 number file at zero = 0
 number file at (suc w) = number file at w * 256 + getD file (at + w) 0
 
--- number i of a run of numbers of w bytes each that begins at a position
-abbrev pub entry : List ℕ → ℕ → ℕ → ℕ → ℕ
-entry file at w i = number file (at + w * i) w
-
 -- w bytes as two's complement
 abbrev pub twosComplement : ℕ → ℕ → ℤ
 twosComplement w v = cond (ltb (2 * v) (256 ^ w)) (pos v) (pos v -ℤ pos (256 ^ w))
 
--- the other way: the w bytes of a number, of a run of numbers, and the number whose two's complement is z
+-- the other way: the w bytes of a number, and the number whose two's complement is z
 unfoldable pub bytesOf : ℕ → ℕ → List ℕ
 bytesOf zero v = []
 bytesOf (suc w) v = bytesOf w (v / 256) ++ ((v % 256) ∷ [])
-
-unfoldable pub bytesOfRun : ℕ → List ℕ → List ℕ
-bytesOfRun w [] = []
-bytesOfRun w (v ∷ vs) = bytesOf w v ++ bytesOfRun w vs
 
 abbrev pub unsigned : ℕ → ℤ → ℕ
 unsigned w (pos n) = n

@@ -6,7 +6,7 @@ use mathlib.Core.List.{List, [], _++_}
 use lib.Dec.{lit≤}
 use lib.ListN.{length, getD, replicate}
 use lib.IntN.{pos}
-use Rattle.model.specs.Reading.{caseOf}
+use Rattle.model.specs.Layout.{caseOf}
 use Rattle.model.specs.Refusals.{ratesPart}
 use Rattle.model.specs.Exact as Exact
 use Rattle.model.specs.Rounded as Rounded

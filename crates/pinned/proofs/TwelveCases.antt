@@ -10,7 +10,7 @@ use Rattle.arith.specs.Rounding.{low, high}
 use Rattle.model.specs.Numbers.{number, twosComplement}
 use Rattle.model.specs.Fraction.{_//_, _≐_}
 use Rattle.model.specs.Case.{FileCase}
-use Rattle.model.specs.Reading.{caseOf}
+use Rattle.model.specs.Layout.{caseOf}
 use Rattle.model.specs.Refusals.{refusal}
 use Rattle.model.specs.Curve.{base, curve}
 use Rattle.model.specs.Exact as Exact

@@ -4,7 +4,7 @@
 use Prim.Native.Nat.{ℕ}
 use mathlib.Core.Path.{_≡_, refl}
 use mathlib.Core.List.{List, [], _∷_, _++_}
-use Rattle.model.specs.Reading.{caseOf}
+use Rattle.model.specs.Layout.{caseOf}
 use Rattle.model.specs.Refusals.{refusal}
 use Rattle.model.proofs.Computing.{pairs, all}
 use Rattle.model.proofs.Pinned.{bentFile, bentCase, upFile, downFile, downCase, long}

@@ -1,10 +1,9 @@
--- A file is accepted exactly when it keeps the layout and limits (Acceptance): the checks, numbers as bytes, a case written and read.
+-- A file is accepted exactly when it keeps the layout and limits (Acceptance). Each kind of field has laws of checking, writing and
+-- reading (Laws), so the layout has them (Within). Below them: runs of one kind, lists of checks, numbers as bytes, the map.
+pub mod Runs
 pub mod Checks
-pub mod Tests
-pub mod Accepted
 pub mod Encoding
 pub mod Bitmap
-pub mod Parts
-pub mod Written
-pub mod Read
+pub mod Laws
+pub mod Within
 pub mod Acceptance

@@ -15,14 +15,14 @@ use Rattle.model.specs.Limits.{WithinLimits}
 use Rattle.model.specs.Curve.{base, curve}
 use Rattle.model.specs.Rounded as Rounded
 use Rattle.model.specs.Brackets.{bracket}
-use Rattle.model.specs.Reading.{caseOf}
+use Rattle.model.specs.Layout.{caseOf}
 use Rattle.model.specs.Refusals.{firstOf, refusal}
 use Rattle.model.specs.Buffers.{byTerm, factorEntries, factorsAfter, valuationRefusal}
 use Rattle.model.specs.Window.{double, figuresInOrder, factorPoint, factorBracket}
 use Rattle.model.specs.declared.figures.Bracket.{Bracket}
 use Rattle.model.specs.declared.figures.Figures.{Figures}
 use Rattle.model.specs.declared.window.Point.the-variants.{Factor, Money}
-use Rattle.theory.proofs.acceptance.Accepted.{within-limits}
+use Rattle.theory.proofs.acceptance.Acceptance.{within-limits}
 use Rattle.theory.proofs.curve.CaseCurves.{curve-within}
 use Rattle.theory.proofs.money.MoneySizes.{factor-most, L-most, B-most, A-most, S1-most, S2-most, S3-most, S4-most, S5-most, S6-most, S-most}
 use Rattle.window.specs.Shown.{FactorShown, MoneyShown, Shown}

@@ -26,41 +26,38 @@ returns c =
       place = refused-place (file .ptr) (refusal (file .now)) (file .now) n;
     }
 
-days-at-requires : tie.Need-days-at-requires
-days-at-requires c κs = search needs
+find-requires : tie.Need-find-requires
+find-requires c κs = search needs
 
 add-start : tie.Need-add-start
 add-start c = search needs
 
-pension-at-requires : tie.Need-pension-at-requires
-pension-at-requires c κs = search needs
-
 sub-result : tie.Need-sub-result
 sub-result c =
     let file = c .before .before .before .before .before .args .file .now in
-    let inside = rates-inside file (sym (c .before .before .before .refusal-of .ensures) ∙ c .before .before .if1 .left) in
-    omega arith
+    let f = c .before .find .ensures in
+    omega (arith, f .daysIs, f .pensionIs, rates-inside file (sym (c .before .before .before .refusal-of .ensures) ∙ c .before .before .if1 .left))
 
 part-result-start : tie.Need-part-result-start
 part-result-start c =
     let file = c .before .before .before .before .before .args .file .now in
-    let inside = rates-inside file (sym (c .before .before .before .refusal-of .ensures) ∙ c .before .before .if1 .left) in
-    omega arith
+    let f = c .before .find .ensures in
+    omega (arith, f .daysIs, f .pensionIs, rates-inside file (sym (c .before .before .before .refusal-of .ensures) ∙ c .before .before .if1 .left))
 
 part-result-end : tie.Need-part-result-end
 part-result-end c =
     let file = c .before .before .before .before .before .args .file .now in
-    let inside = rates-inside file (sym (c .before .before .before .refusal-of .ensures) ∙ c .before .before .if1 .left) in
-    omega arith
+    let f = c .before .find .ensures in
+    omega (arith, f .daysIs, f .pensionIs, rates-inside file (sym (c .before .before .before .refusal-of .ensures) ∙ c .before .before .if1 .left))
 
 returns-2 : tie.Need-returns-2
 returns-2 c =
     let file = c .before .before .before .before .before .before .args .file in
     let z : refusal (file .now) ≡ 0 = sym (c .before .before .before .before .refusal-of .ensures) ∙ c .before .before .before .if1 .left in
-    let days = c .before .before .days-at .ensures .0 in
+    let f = c .before .before .find .ensures in
     record {
-      bytes = ap₂ (λ p d. take (p - (d + 1)) (drop (d + 1) (file .now))) (c .before .pension-at .ensures .0) days ∙ accepted-rates (file .now) z;
-      place = rw z (ap (λ d. behind (file .ptr) (d + 1)) days);
+      bytes = ap₂ (λ p d. take (p - (d + 1)) (drop (d + 1) (file .now))) (f .pensionIs) (f .daysIs) ∙ accepted-rates (file .now) z;
+      place = rw z (ap (λ d. behind (file .ptr) (d + 1)) (f .daysIs));
     }
 
 pub rates-part-spec : {M : Type 1} → statement M
@@ -70,9 +67,8 @@ rates-part-spec =
     refusal-of-requires
     slice-aggregate-result
     returns
-    days-at-requires
+    find-requires
     add-start
-    pension-at-requires
     sub-result
     part-result-start
     part-result-end

@@ -1,21 +1,16 @@
--- The map of a file whose bits are right is that of the optional fields that it shows, and the map of such fields shows them. Where bits
--- 7 to 15 do not stand, a map is one of 128, and there are eight choices of optional fields: both are computed, one by one.
+-- A map whose bits are right is the map of the optional fields that it announces, and the map of some fields announces them. Where bits 7
+-- to 15 do not stand, a map is one of 128, and there are eight choices of optional fields: both are computed, one by one.
 use mathlib.Core.Path.{_≡_, refl, ap, sym, _∙_}
 use mathlib.Core.Bool.{Bool, true, false, _&&_, not, cond}
-use Prim.Native.Nat.{ℕ, zero, suc, _+_, _*_, _/_, _%_, _^_, _<_}
+use Prim.Native.Nat.{ℕ, zero, suc, _+_, _*_, _/_, _%_, _^_, _≤_, _<_}
 use native.Mathlib.Nat.{pow-suc, add-suc, add-zero, div-div-eq-div-mul, div-eq-of-lt}
 use native.Mathlib.Omega.{arith}
 use borrow.Author.Tests.{eqb-true, eqb-false, not-true}
-use lib.Dec.{eqb, lit<}
+use lib.Dec.{eqb, lit≤}
 use Rattle.model.specs.Numbers.{every}
-use Rattle.model.specs.Layout.{Present, mapOf}
-use Rattle.model.specs.Reading.{stands}
+use Rattle.model.specs.Layout.{Present, mapOf, stands, presentIn}
 use Rattle.model.specs.Refusals.{bitsRight}
 use Rattle.theory.proofs.general.Lists.{and-first, and-second, every-at}
-
--- the optional fields that a map shows
-abbrev pub shown : ℕ → Present
-shown map = record { ufr = stands 0 map; bonds = stands 3 map; amounts = stands 4 map }
 
 -- where the n bits from bit i on do not stand and no bit above them does, no bit from i on does
 pub none-from : (m i n : ℕ) → every (λ j. not (stands (i + j) m)) n ≡ true → m / 2 ^ (i + n) ≡ 0 → m / 2 ^ i ≡ 0
@@ -32,55 +27,37 @@ none-from m i (suc n) h z =
     half : (q : ℕ) → q / 2 ≡ 0 → (q % 2 ≡ 1 → ⊥) → q ≡ 0
     half q e b = omega arith
 
--- a map below 128 whose bits are right is that of the fields it shows: computed of each
+-- a map below 128 whose bits are right is that of the fields it announces: computed of each
 test : ℕ → Bool
-test m = cond (bitsRight m) (eqb m (mapOf (shown m))) true
+test m = cond (bitsRight m) (eqb m (mapOf (presentIn m))) true
 
 tested : every test 128 ≡ true
 unfolding every test
 tested = refl
 
-pub map-shown : (m : ℕ) → m < 65536 → bitsRight m ≡ true → mapOf (shown m) ≡ m
+pub map-of-present : (m : ℕ) → m < 65536 → bitsRight m ≡ true → mapOf (presentIn m) ≡ m
 unfolding test
-map-shown m l h =
+map-of-present m l h =
     let must = stands 1 m && stands 2 m && stands 5 m && stands 6 m in
     let k = and-second must (every (λ j. not (stands (7 + j) m)) 9) h in
     let z : m / 128 ≡ 0 = none-from m 7 9 k (div-eq-of-lt l) in
     let t = every-at test 128 m tested (omega arith) in
-    sym (eqb-true m (mapOf (shown m)) (rw h at t))
+    sym (eqb-true m (mapOf (presentIn m)) (rw h at t))
 
--- the other way: computed of each choice of optional fields
-abbrev choice : Bool → Bool → Bool → Present
-choice u b a = record { ufr = u; bonds = b; amounts = a }
+-- the other way: computed of each choice
+abbrev Announced : Present → Type 0
+Announced p = (bitsRight (mapOf p) ≡ true) × (mapOf p ≤ 65535) × (presentIn (mapOf p) ≡ p)
 
-each-choice : (P : Present → Type 0)
-    → P (choice true true true)
-    → P (choice true true false)
-    → P (choice true false true)
-    → P (choice true false false)
-    → P (choice false true true)
-    → P (choice false true false)
-    → P (choice false false true)
-    → P (choice false false false)
-    → (p : Present) → P p
-each-choice P uba ub ua u ba b a none p = go (p .ufr) (p .bonds) (p .amounts)
-  where
-    go : (u b a : Bool) → P (choice u b a)
-    go true true true = uba
-    go true true false = ub
-    go true false true = ua
-    go true false false = u
-    go false true true = ba
-    go false true false = b
-    go false false true = a
-    go false false false = none
-
-pub map-right : (p : Present) → bitsRight (mapOf p) ≡ true
+pub announced : (p : Present) → Announced p
 unfolding every
-map-right = each-choice _ refl refl refl refl refl refl refl refl
-
-pub map-small : (p : Present) → mapOf p < 65536
-map-small = each-choice _ (lit< tt) (lit< tt) (lit< tt) (lit< tt) (lit< tt) (lit< tt) (lit< tt) (lit< tt)
-
-pub shown-map : (p : Present) → shown (mapOf p) ≡ p
-shown-map = each-choice _ refl refl refl refl refl refl refl refl
+announced p = go (p .ufr) (p .bonds) (p .amounts)
+  where
+    go : (u b a : Bool) → Announced (record { ufr = u; bonds = b; amounts = a })
+    go true true true = (refl, lit≤ tt, refl)
+    go true true false = (refl, lit≤ tt, refl)
+    go true false true = (refl, lit≤ tt, refl)
+    go true false false = (refl, lit≤ tt, refl)
+    go false true true = (refl, lit≤ tt, refl)
+    go false true false = (refl, lit≤ tt, refl)
+    go false false true = (refl, lit≤ tt, refl)
+    go false false false = (refl, lit≤ tt, refl)

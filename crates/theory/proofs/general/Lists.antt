@@ -2,7 +2,7 @@
 use mathlib.Core.Path.{_≡_, refl, ap, sym, _∙_, subst}
 use mathlib.Core.Bool.{Bool, true, false, _&&_}
 use mathlib.Core.Logic.{⊎-elim}
-use mathlib.Core.List.{List, [], _∷_, _++_, map, append-nil}
+use mathlib.Core.List.{List, [], _∷_, _++_, append-nil}
 use Prim.Native.Nat.{ℕ, zero, suc, _+_, _≤_, _<_}
 use native.Mathlib.Nat.{not-suc-le-zero, le-of-suc-le-suc, eq-or-lt-of-le, le-refl}
 use native.Mathlib.Numerals.{add-one}
@@ -64,32 +64,6 @@ module _ {A : Type 0} where
       ⊎-elim (λ e. getD-at (table f n) (f n) [] d i (length-table f n ∙ sym e) ∙ ap f (sym e))
       (λ k. List·getD-append (table f n) (f n ∷ []) d i (subst (λ (m : ℕ). i < m) (sym (length-table f n)) k) ∙ getD-table f n i d k)
       (eq-or-lt-of-le (le-of-suc-le-suc l))
-
-  pub table-none : (f : ℕ → A) → table f 0 ≡ []
-  unfolding table
-  table-none f = refl
-
-  -- the first value apart
-  pub table-first : (f : ℕ → A) (n : ℕ) → table f (suc n) ≡ f 0 ∷ table (λ i. f (suc i)) n
-  unfolding table
-  table-first f zero = refl
-  table-first f (suc n) = ap (λ l. l ++ (f (suc n) ∷ [])) (table-first f n)
-
-  -- tables of the same values
-  pub table-same : (f g : ℕ → A) (n : ℕ) → ((i : ℕ) → f i ≡ g i) → table f n ≡ table g n
-  unfolding table
-  table-same f g zero h = refl
-  table-same f g (suc n) h = rw (table-same f g n h, h n)
-
-module _ {A B : Type 0} (g : A → B) where
-  map-append : (xs : List A) (x : A) → map g (xs ++ (x ∷ [])) ≡ map g xs ++ (g x ∷ [])
-  map-append [] x = refl
-  map-append (y ∷ xs) x = ap (λ l. g y ∷ l) (map-append xs x)
-
-  pub map-table : (f : ℕ → A) (n : ℕ) → map g (table f n) ≡ table (λ i. g (f i)) n
-  unfolding table
-  map-table f zero = refl
-  map-table f (suc n) = map-append (table f n) (f n) ∙ ap (λ l. l ++ (g (f n) ∷ [])) (map-table f n)
 
 -- ---- an array that a loop fills: the first i entries are written, and the rest is as it was held
 module _ {A : Type 0} where

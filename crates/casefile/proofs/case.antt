@@ -1,0 +1,2 @@
+-- Laws of the case that a file holds.
+pub mod Holds

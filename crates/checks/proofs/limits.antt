@@ -1,0 +1,2 @@
+-- Laws of the map's bits.
+pub mod Bits

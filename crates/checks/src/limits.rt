@@ -1,0 +1,73 @@
+// Whether the numbers of a field are within their limits; the days and the flows are tested where they are read.
+use scan::cursor::number_at;
+use scan::runs::both;
+use scan::runs::each_at_most;
+ghost use mathlib.Core.Path.{_≡_};
+ghost use mathlib.Core.Bool.{not};
+ghost use Prim.Native.Nat.{_+_, _<_, _≤_};
+ghost use Rattle.model.specs.Numbers.{number, every};
+ghost use Rattle.model.specs.Fields.{within};
+ghost use Rattle.model.specs.Layout.{amounts, shocks, people, stands};
+ghost use Rattle.model.specs.Refusals.{bitsRight};
+
+pub fn between(least: u64, most: u64, v: u64) -> bool
+    ensures { λ r. ⌜ r ≡ within least most v ⌝ }
+{
+    both(least <= v, v <= most)
+}
+
+// No bit from 7 to 15 stands.
+fn none_above(map: u64) -> bool
+    requires { ⌜ map < 65536 ⌝ }
+    ensures { λ r. ⌜ r ≡ every (λ i. not (stands (7 + i) map)) 9 ⌝ }
+{
+    map < 128
+}
+
+// Bits 1, 2, 5 and 6 stand, and none above them.
+pub fn bits_right(map: u64) -> bool
+    requires { ⌜ map < 65536 ⌝ }
+    ensures { λ r. ⌜ r ≡ bitsRight map ⌝ }
+{
+    let days_and_pension = both(map / 2 % 2 == 1, map / 4 % 2 == 1);
+    let shocks = both(days_and_pension, map / 32 % 2 == 1);
+    let people = both(shocks, map / 64 % 2 == 1);
+    both(people, none_above(map))
+}
+
+// One number.
+pub fn number_right(file: &[u8], at: usize, width: usize, least: u64, most: u64) -> bool
+    requires { ⌜ (at ≤ 40000) × (width ≤ 8) ⌝ }
+    ensures { λ r. ⌜ r ≡ within least most (number (now (file .entry)) at width) ⌝ }
+{
+    between(least, most, number_at(file, at, width))
+}
+
+pub fn amounts_right(file: &[u8], at: usize) -> bool
+    requires { ⌜ at ≤ 33000 ⌝ }
+    ensures { λ r. ⌜ r ≡ amounts .right (amounts .value (now (file .entry)) at) ⌝ }
+{
+    each_at_most(file, at, 8, 8, 100_000_000_000)
+}
+
+// Ten of one limit, then the credit spread and the credit duration.
+pub fn shocks_right(file: &[u8], at: usize) -> bool
+    requires { ⌜ at ≤ 33000 ⌝ }
+    ensures { λ r. ⌜ r ≡ shocks .right (shocks .value (now (file .entry)) at) ⌝ }
+{
+    let ten = each_at_most(file, at, 2, 10, 1_000);
+    let spread = number_right(file, at + 20, 2, 0, 10_000);
+    let duration = number_right(file, at + 20 + 2, 2, 0, 500);
+    both(ten, both(spread, duration))
+}
+
+// The head count, the pension age and the mean age.
+pub fn people_right(file: &[u8], at: usize) -> bool
+    requires { ⌜ at ≤ 33000 ⌝ }
+    ensures { λ r. ⌜ r ≡ people .right (people .value (now (file .entry)) at) ⌝ }
+{
+    let heads = number_right(file, at, 4, 1, 1_000_000);
+    let pension_age = number_right(file, at + 4, 2, 0, 1_200);
+    let mean_age = number_right(file, at + 4 + 2, 2, 0, 1_200);
+    both(heads, both(pension_age, mean_age))
+}

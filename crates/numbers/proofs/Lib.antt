@@ -1,3 +1,0 @@
-pub mod Loops
-pub mod Integers
-pub mod TermSums

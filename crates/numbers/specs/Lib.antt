@@ -1,2 +1,0 @@
--- Nothing here has to be believed.
-pub mod inner

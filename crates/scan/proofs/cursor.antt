@@ -1,0 +1,2 @@
+-- Laws of the number that a cursor reads.
+pub mod Digits

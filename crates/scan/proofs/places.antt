@@ -1,0 +1,2 @@
+-- Laws of the places.
+pub mod Bounds

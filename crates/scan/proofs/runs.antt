@@ -1,0 +1,2 @@
+-- Laws of runs of numbers.
+pub mod Loops

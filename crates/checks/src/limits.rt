@@ -1,4 +1,4 @@
-// Whether the numbers of a field are within their limits; the days and the flows are tested where they are read.
+// Whether the numbers of a field are within their limits. The rates are tested where they are summed, the flows as a run.
 use scan::cursor::number_at;
 use scan::runs::both;
 use scan::runs::each_at_most;

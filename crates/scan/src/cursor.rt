@@ -5,9 +5,9 @@ ghost use Prim.Native.Nat.{_+_, _*_, _^_, _<_, _≤_};
 ghost use lib.ListN.{getD};
 ghost use Rattle.model.specs.Numbers.{number};
 
-pub struct Cursor<'a> {
-    pub file: &'a [u8],
-    pub at: usize,
+struct Cursor<'a> {
+    file: &'a [u8],
+    at: usize,
 }
 
 fn wide(byte: u8) -> u64
@@ -38,7 +38,7 @@ fn number_in(file: &[u8], at: usize, width: usize) -> u64
 }
 
 // The number of `width` bytes at the cursor.
-pub fn take<'a>(c: Cursor<'a>, width: usize) -> u64
+fn take<'a>(c: Cursor<'a>, width: usize) -> u64
     requires { ⌜ (c .at + width < 2 ^ 64) × (width ≤ 8) ⌝ }
     ensures { λ r. ⌜ (r ≡ number (now (c .entry .file)) (c .entry .at) width) × (r < 256 ^ width) ⌝ }
 {

@@ -1,10 +1,12 @@
 """Terms and computed statements as text of antt, from numbers, bytes and cases of tests/reference.py."""
 
+from itertools import groupby
+
 from reference import AMOUNTS, LOWER, SHOCKS, UPPER, Refusal, read
 
 ENDS = ((LOWER, "low"), (UPPER, "high"))
 PEOPLE = ("heads", "pension_age", "mean_age")
-SHORTEST_RUN = 4  # pairs of bytes, or rates, in a row that are written as one
+SHORTEST_RUN = 4  # so many pairs of bytes, or numbers of a list, in a row are written as one
 
 
 # ---------------------------------------------------------------- terms
@@ -43,26 +45,46 @@ def run_at(data, at):
     return count
 
 
+def concatenated(pieces):
+    """One list of several pieces: terms, and lists of items, of which those in a row are written out together."""
+    parts = []
+    for written_out, run in groupby(pieces, lambda piece: isinstance(piece, list)):
+        parts += ["(" + short_list(sum(run, [])) + ")"] if written_out else run
+    return " ++ ".join(parts) or "[]"
+
+
 def file_term(data):
     """A list of bytes; where two bytes are there several times in a row, as `pairs`."""
-    parts, single, at = [], [], 0
-
-    def close():
-        if single:
-            parts.append("(" + short_list([byte(value) for value in single]) + ")")
-            single.clear()
-
+    pieces, at = [], 0
     while at < len(data):
         count = run_at(data, at)
         if count >= SHORTEST_RUN:
-            close()
-            parts.append(f"pairs {count} {byte(data[at])} {byte(data[at + 1])}")
+            pieces.append(f"pairs {count} {byte(data[at])} {byte(data[at + 1])}")
             at += 2 * count
         else:
-            single.append(data[at])
+            pieces.append([byte(data[at])])
             at += 1
-    close()
-    return " ++ ".join(parts) or "[]"
+    return concatenated(pieces)
+
+
+def argument(term):
+    """The term as an argument, in brackets if it needs them."""
+    return term if " " not in term or term.startswith("(") and "++" not in term else f"({term})"
+
+
+def list_term(values, term=str):
+    """A list of numbers; where one is there several times in a row, as `replicate`."""
+    runs = [(term(value), len(list(run))) for value, run in groupby(values)]
+    return concatenated(f"replicate {count} {argument(value)}" if count >= SHORTEST_RUN else [value] * count for value, count in runs)
+
+
+def given_term(case):
+    """A case as it is handed in. `fieldsOf`, `amountsOf` and `shocksOf` take the numbers in order."""
+    amounts, shocks = (f"{name}Of {' '.join(map(str, values))}" if any(values) else f"no{name.capitalize()}"
+                       for name, values in (("amounts", case.amounts.values()), ("shocks", case.shocks.values())))
+    fields = f"fieldsOf {case.ufr} {argument(amounts)} {argument(shocks)} {case.heads} {case.pension_age} {case.mean_age}"
+    lists = list_term(case.rates, integer), list_term(case.pension), list_term(case.bonds)
+    return " ".join(["given", *map(argument, (fields, *lists))])
 
 
 def record(fields, indent="  "):

@@ -1,4 +1,4 @@
-"""Writes numbers of tests/reference.py as computed statements about the definitions, in five files (PATHS below).
+"""Writes numbers of tests/reference.py as computed statements about the definitions, in six files (PATHS below).
 
 Command line: python3 tests/pinned.py           writes the files
               python3 tests/pinned.py --check   ends with 1 if one of them is another
@@ -12,9 +12,10 @@ from types import SimpleNamespace
 import examples
 import limits
 import reference
-from antt import (both_ends, case_definition, computed, computed_fraction, definition, file_term, holds, integer, refusal, refuted,
-                  short_list)
-from reference import LOWER, MONEY, UPPER, Exact, ExactCurve, Rounded, encode
+import to_save
+from antt import (PEOPLE, argument, both_ends, case_definition, computed, computed_fraction, definition, file_term, given_term, holds,
+                  integer, record, refusal, refuted, short_list)
+from reference import AMOUNTS, LOWER, MONEY, SHOCKS, UPPER, Exact, ExactCurve, Rounded, encode
 
 ROOT = os.path.join(os.path.dirname(os.path.abspath(__file__)), "..")
 VERDICTS = {reference.DEKKINGSTEKORT: "Dekkingstekort", reference.RESERVETEKORT: "Reservetekort",
@@ -109,6 +110,24 @@ use Rattle.model.specs.Buffers.{valuationOf}
 use Rattle.model.specs.Listing.{listing}
 use Rattle.model.proofs.Computing.{text, all}
 use Rattle.model.proofs.Pinned.{bentCurve, upFile, downFile, long}
+"""
+
+SAVED_HEAD = """\
+-- Saving a case: which number it is refused with, its shortest bytes, the answer and the lent buffer afterwards, as computed statements about
+-- the definitions.
+""" + WRITTEN + """\
+use Prim.Native.Nat.{ℕ}
+use mathlib.Core.Path.{_≡_, refl}
+use mathlib.Core.List.{List, [], _∷_, _++_, map}
+use lib.ListN.{replicate}
+use lib.IntN.{pos, negℤ}
+use Rattle.model.specs.Case.{FileCase}
+use Rattle.model.specs.Saving.{given, caseRefusal, shortest, saveRefusal, saveAnswer, savedAfter}
+use Rattle.model.specs.declared.case.Amounts.{Amounts}
+use Rattle.model.specs.declared.case.Shocks.{Shocks}
+use Rattle.model.specs.declared.case.CaseFields.{CaseFields}
+use Rattle.model.specs.declared.saved.Saved.the-variants.{Written, Refused}
+use Rattle.model.proofs.Computing.{pairs, all}
 """
 
 TITLES = {
@@ -302,11 +321,15 @@ def pinned():
 
 # ---------------------------------------------------------------- Refused.antt of both crates
 
+def listed(rows):
+    """A list, an item a line, with what it is as a comment; rows is a list of (what, term)."""
+    label = lambda text: text.replace('"', "'")
+    return "\n    ∷ ".join([f"{term}  -- {label(what)}" for what, term in rows] + ["[]"])
+
+
 def group_statement(name, what, rows):
     """The files of a group, and the list of their refusals."""
-    label = lambda text: text.replace('"', "'")
-    entry = lambda data: f"({file_term(data)})" if "++" in file_term(data) else file_term(data)
-    files = "\n    ∷ ".join([f"{entry(data)}  -- {label(row)}" for row, data in rows] + ["[]"])
+    files = listed([(row, argument(file_term(data))) for row, data in rows])
     numbers = short_list([refusal(data) for _, data in rows])
     return (definition(f"{name}Files", "List (List ℕ)", files, what)
             + f"\n{computed(f'{name}-refusals', f'map refusal {name}Files ≡ {numbers}')}")
@@ -326,6 +349,86 @@ def refused_quickly():
 
 def refused():
     return "\n".join([TABLE_HEAD, *(group_statement(*group) for group in limits.groups()), part_statement([RISING, [300] * 60])])
+
+
+# ---------------------------------------------------------------- crates/model/proofs/SavedCases.antt
+
+def maker(name, kinds, fields, comment):
+    """A function that makes a record of its arguments, which are called a, b, c and so on."""
+    letters = " ".join("abcdefghijkl"[:len(kinds) - 1])
+    return f"-- {comment}\nabbrev pub {name} : {' → '.join(kinds)}\n{name} {letters} = {record(fields)}\n"
+
+
+def makers():
+    """The records of a case, each number by its name."""
+    named = lambda names, letters="abcdefghijkl": list(zip(names, letters))
+    people = record(named(PEOPLE, "def"), "    ")
+    return [maker("amountsOf", ["ℕ"] * 8 + ["Amounts"], named(AMOUNTS), "eight amounts, in document 01's order"),
+            maker("shocksOf", ["ℕ"] * 12 + ["Shocks"], named(SHOCKS), "twelve shocks, likewise"),
+            maker("fieldsOf", ["ℕ", "Amounts", "Shocks", "ℕ", "ℕ", "ℕ", "CaseFields"],
+                  [("ufr", "a"), ("amounts", "b"), ("shocks", "c"), ("people", people)],
+                  "UFR, amounts, shocks, head count, pension age and mean age"),
+            definition("noAmounts", "Amounts", "amountsOf" + " 0" * 8), definition("noShocks", "Shocks", "shocksOf" + " 0" * 12)]
+
+
+def cases_definition(name, rows, what):
+    return definition(name, "List FileCase", listed([(row, given_term(given)) for row, given in rows]), what)
+
+
+def case_group(name, what, rows):
+    """The cases of a group, and the list of their refusals."""
+    numbers = short_list([reference.case_refusal(given) for _, given in rows])
+    return [cases_definition(f"{name}Cases", rows, what), computed(f"case-{name}", f"map caseRefusal {name}Cases ≡ {numbers}")]
+
+
+def case_groups():
+    yield "limits", "Every number at its limits; then one at a time past them.", to_save.limit_rows()
+    yield "counts", "n: 1 to 70, and rates that are no whole days; m: 1 to 120; k: 0 to 60.", to_save.count_rows()
+    yield "forwards", "Error 6, at its limits and one past them.", to_save.forward_rows()
+    yield "order", "The order of checks: two faults each.", to_save.order_rows()
+
+
+def shortest_statements():
+    rows = list(to_save.omission_rows())
+    files = listed([(row, argument(file_term(reference.shortest(given)))) for row, given in rows])
+    return [cases_definition("shortCases", rows, "\"A UFR of 4,200, an all-zero amounts field and an empty bond list are left out.\""),
+            definition("shortFiles", "List (List ℕ)", files, "their bytes"),
+            computed("shortest-bytes", "map shortest shortCases ≡ shortFiles")]
+
+
+def after_equation(name, given, held):
+    """What a buffer that held these bytes holds after the call."""
+    return f"savedAfter {name} {argument(file_term(held))} ≡ {file_term(reference.save(given, held).after)}"
+
+
+def answer_equation(name, given, room):
+    """What a call with a buffer of this length answers."""
+    saved = reference.save(given, bytes(room))
+    answer = f"Refused {saved.refusal}" if saved.refusal else f"Written {saved.written}"
+    return f"saveAnswer {name} {room} ≡ {answer}"
+
+
+def buffer_statements():
+    """14 one byte below the length needed and no longer at it, and after the case's own number; the answer and the buffer after each
+    kind of call."""
+    small, steep = to_save.SMALL, to_save.steep(1, 2, 12_001)
+    length = len(reference.shortest(small))
+    rooms = range(length - 1, length + 2)
+    refusals = [reference.save(small, bytes(room)).refusal for room in rooms]
+    pattern = b"\xaa\x55" * length
+    longer, shorter = pattern[:length + 2], pattern[:length - 1]
+    return [definition("small", "FileCase", given_term(small), f"A case of {length} bytes."),
+            definition("steep", "FileCase", given_term(steep), "A case that 6 refuses."),
+            computed("room-refusals", f"map (saveRefusal small) ({short_list(rooms)}) ≡ {short_list(refusals)}",
+                     f"saveRefusal steep 0 ≡ {reference.save(steep, b'').refusal}"),
+            computed("save-answers", *(answer_equation("small", small, room) for room in rooms), answer_equation("steep", steep, length)),
+            computed("saved-after", after_equation("small", small, longer), after_equation("steep", steep, longer)),
+            computed("untouched-on-14", after_equation("small", small, shorter))]
+
+
+def saved():
+    groups = [statement for name, what, rows in case_groups() for statement in case_group(name, what, list(rows))]
+    return "\n".join([SAVED_HEAD, *makers(), *groups, *shortest_statements(), *buffer_statements()])
 
 
 # ---------------------------------------------------------------- crates/refusals/proofs/Accepted.antt
@@ -375,6 +478,7 @@ def files():
 
 
 PATHS = {"crates/model/proofs/Pinned.antt": pinned, "crates/model/proofs/Refused.antt": refused_quickly,
+         "crates/model/proofs/SavedCases.antt": saved,
          "crates/pinned/proofs/Files.antt": files, "crates/refusals/proofs/Accepted.antt": accepted,
          "crates/refusals/proofs/Refused.antt": refused}
 

@@ -46,6 +46,16 @@ def framed(files):
     return b"".join(len(data).to_bytes(4, "big") + data for data in files)
 
 
+def unframed(text):
+    """The files of such an input."""
+    files, at = [], 0
+    while at < len(text):
+        start, end = at + 4, at + 4 + int.from_bytes(text[at:at + 4], "big")
+        files.append(text[start:end])
+        at = end
+    return files
+
+
 def answers(files):
     """The program's answers of each file, all of one run."""
     text = subprocess.run([program("answers")], input=framed(files), capture_output=True, check=True).stdout

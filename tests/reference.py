@@ -1,6 +1,6 @@
-"""Reference implementation of document 01, "The UFR curve and the solvency verdict of one fund".
+"""Reference implementation of document 01, "The UFR curve and the solvency verdict of one fund", and of document 02's request One.
 
-Written from the paper alone, in its order and its words, to be run beside the engine.
+Written from the papers alone, in their order and their words, to be run beside the engine.
 Whole numbers and fractions only; no float occurs.
 Command line: python3 tests/reference.py FILE   (- reads standard input)
 """
@@ -10,6 +10,7 @@ from dataclasses import dataclass
 from fractions import Fraction
 from functools import cached_property
 from math import isqrt
+from typing import NamedTuple
 
 # ---------------------------------------------------------------- the case file
 
@@ -80,47 +81,6 @@ def twos_complement(sixteen):
     return sixteen - 0x10000 if sixteen >= 0x8000 else sixteen
 
 
-def read_ufr(cursor):
-    [ufr] = cursor.numbers(1, 2)
-    refuse_unless(ufr <= 5_000, 9)
-    return ufr
-
-
-def read_days(cursor):
-    n = cursor.number(1)
-    refuse_unless(1 <= n <= 70, 4)
-    rates = [twos_complement(rate) for rate in cursor.numbers(n * 60, 2)]
-    refuse_unless(all(-1_000 <= rate <= 10_000 for rate in rates), 5)
-    return [rates[60 * day:60 * day + 60] for day in range(n)]
-
-
-def read_flows(cursor, most):
-    count = cursor.number(1)
-    refuse_unless(1 <= count <= most, 7)
-    flows = cursor.numbers(count, 4)
-    refuse_unless(all(flow <= 100_000_000 for flow in flows), 8)
-    return flows
-
-
-def read_amounts(cursor):
-    amounts = cursor.numbers(8, 8)
-    refuse_unless(all(amount <= 100_000_000_000 for amount in amounts), 10)
-    return dict(zip(AMOUNTS, amounts))
-
-
-def read_shocks(cursor):
-    shocks = dict(zip(SHOCKS, cursor.numbers(12, 2)))
-    refuse_unless(all(shocks[name] <= SHOCK_LIMITS[name] for name in SHOCKS), 11)
-    return shocks
-
-
-def read_people(cursor):
-    cursor.need(8)  # the field is complete before its numbers are judged
-    heads, pension_age, mean_age = cursor.number(4), cursor.number(2), cursor.number(2)
-    refuse_unless(1 <= heads <= 1_000_000 and pension_age <= 1_200 and mean_age <= 1_200, 12)
-    return heads, pension_age, mean_age
-
-
 def sums(days):
     """s(0) to s(60): "s(t) the sum of term t's rates over the days and s(0) = 0"."""
     return [0] + [sum(day[t - 1] for day in days) for t in range(1, 61)]
@@ -130,6 +90,90 @@ def growths_within_limits(days):
     """6: "some t x s(t) - (t - 1) x s(t-1) is below -2,000 x n or above 12,000 x n"."""
     n, s = len(days), sums(days)
     return all(-2_000 * n <= t * s[t] - (t - 1) * s[t - 1] <= 12_000 * n for t in range(1, 61))
+
+
+# The limits, of a file that is read and of a case that is handed in.
+
+def check_ufr(ufr):
+    refuse_unless(ufr <= 5_000, 9)
+
+
+def check_day_count(n):
+    refuse_unless(1 <= n <= 70, 4)
+
+
+def check_rates(rates):
+    refuse_unless(all(-1_000 <= rate <= 10_000 for rate in rates), 5)
+
+
+def check_flow_count(count, most):
+    refuse_unless(1 <= count <= most, 7)
+
+
+def check_flows(flows):
+    refuse_unless(all(flow <= 100_000_000 for flow in flows), 8)
+
+
+def check_amounts(amounts):
+    refuse_unless(all(amount <= 100_000_000_000 for amount in amounts.values()), 10)
+
+
+def check_shocks(shocks):
+    refuse_unless(all(shocks[name] <= SHOCK_LIMITS[name] for name in SHOCKS), 11)
+
+
+def check_people(heads, pension_age, mean_age):
+    refuse_unless(1 <= heads <= 1_000_000 and pension_age <= 1_200 and mean_age <= 1_200, 12)
+
+
+def check_growths(days):
+    refuse_unless(growths_within_limits(days), 6)
+
+
+def in_days(rates):
+    """The rates of n days in a row, day by day."""
+    return [rates[at:at + 60] for at in range(0, len(rates), 60)]
+
+
+def read_ufr(cursor):
+    [ufr] = cursor.numbers(1, 2)
+    check_ufr(ufr)
+    return ufr
+
+
+def read_days(cursor):
+    n = cursor.number(1)
+    check_day_count(n)
+    rates = [twos_complement(rate) for rate in cursor.numbers(n * 60, 2)]
+    check_rates(rates)
+    return in_days(rates)
+
+
+def read_flows(cursor, most):
+    count = cursor.number(1)
+    check_flow_count(count, most)
+    flows = cursor.numbers(count, 4)
+    check_flows(flows)
+    return flows
+
+
+def read_amounts(cursor):
+    amounts = dict(zip(AMOUNTS, cursor.numbers(8, 8)))
+    check_amounts(amounts)
+    return amounts
+
+
+def read_shocks(cursor):
+    shocks = dict(zip(SHOCKS, cursor.numbers(12, 2)))
+    check_shocks(shocks)
+    return shocks
+
+
+def read_people(cursor):
+    cursor.need(8)  # the field is complete before its numbers are judged
+    people = cursor.number(4), cursor.number(2), cursor.number(2)
+    check_people(*people)
+    return people
 
 
 def read_fields(data):
@@ -147,7 +191,7 @@ def read_fields(data):
     shocks = read_shocks(cursor)
     people = read_people(cursor)
     refuse_unless(cursor.offset == len(data), 2)
-    refuse_unless(growths_within_limits(days), 6)
+    check_growths(days)
     return Case(ufr, days, pension, bonds, amounts, shocks, *people), (rates_offset, 120 * len(days))
 
 
@@ -186,6 +230,94 @@ def encode(case: Case, ufr_present: bool, bonds_present: bool, amounts_present: 
         out += b"".join(number(case.amounts[name], 8) for name in AMOUNTS)
     out += b"".join(number(case.shocks[name], 2) for name in SHOCKS)
     return out + number(case.heads, 4) + number(case.pension_age, 2) + number(case.mean_age, 2)
+
+
+# ---------------------------------------------------------------- saving a case: document 02, One
+
+@dataclass
+class Given:
+    """A case as a host hands it in to be saved: any numbers, and lists of any length."""
+    ufr: int
+    rates: list  # 60 a day, day after day
+    pension: list
+    bonds: list
+    amounts: dict
+    shocks: dict
+    heads: int
+    pension_age: int
+    mean_age: int
+
+
+class Saved(NamedTuple):
+    refusal: int  # 0 where the case is written
+    written: int  # "The writer returns the count of bytes written."
+    after: bytes  # what the lent buffer holds then
+
+
+def given_of(case: Case) -> Given:
+    rates = [rate for day in case.days for rate in day]
+    return Given(case.ufr, rates, case.pension, case.bonds, case.amounts, case.shocks, case.heads, case.pension_age,
+                 case.mean_age)
+
+
+def case_of(given: Given) -> Case:
+    return Case(given.ufr, in_days(given.rates), given.pension, given.bonds, given.amounts, given.shocks, given.heads,
+                given.pension_age, given.mean_age)
+
+
+def check_case(given):
+    """"a case outside the limits gets document 01's number in its order": "each field in bit order: its count ..., its numbers from
+    the front; ... then 6". Of a case without bytes 1, 2 and 3 cannot be said."""
+    check_ufr(given.ufr)
+    n, left_over = divmod(len(given.rates), 60)
+    refuse_unless(left_over == 0, 4)  # rates that are no whole days have no n within limits
+    check_day_count(n)
+    check_rates(given.rates)
+    check_flow_count(len(given.pension), 120)
+    check_flows(given.pension)
+    if given.bonds:  # "Absent: k = 0."
+        check_flow_count(len(given.bonds), 60)
+        check_flows(given.bonds)
+    check_amounts(given.amounts)
+    check_shocks(given.shocks)
+    check_people(given.heads, given.pension_age, given.mean_age)
+    check_growths(in_days(given.rates))
+
+
+def case_refusal(given: Given) -> int:
+    """0 where the case is accepted."""
+    try:
+        check_case(given)
+    except Refused as refused:
+        return refused.args[0]
+    return 0
+
+
+def needed_fields(case):
+    """Which optional fields stand, as encode takes them: "A UFR of 4,200, an all-zero amounts field and an empty bond list are left
+    out"."""
+    return case.ufr != DEFAULT_UFR, bool(case.bonds), any(case.amounts.values())
+
+
+def shortest(given: Given) -> bytes:
+    """An accepted case in "the layout of document 01" and in its shortest form."""
+    case = case_of(given)
+    return encode(case, *needed_fields(case))
+
+
+def save(given: Given, held: bytes) -> Saved:
+    """Writes a case into a lent buffer that holds these bytes.
+
+    "a case outside the limits gets document 01's number ...; then 14 when the lent buffer is shorter than the bytes needed, and a
+    refusal writes no byte"; "The buffer's bytes past the written ones keep their content."
+    """
+    number = case_refusal(given)
+    if number:
+        return Saved(number, 0, held)
+    data = shortest(given)
+    if len(held) < len(data):
+        return Saved(14, 0, held)
+    return Saved(0, len(data), data + held[len(data):])
 
 
 # ---------------------------------------------------------------- the exact working

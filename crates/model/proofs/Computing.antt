@@ -9,6 +9,7 @@ use Rattle.model.specs.Case.{s}
 use Rattle.model.specs.Numbers.{number, bytesOf, every, table}
 use Rattle.model.specs.Layout.{fileMap, fileOf, caseOf}
 use Rattle.model.specs.Refusals.{firstOf, forwardsRight, checks, refusal, daysAt, dayCount, ratesPart}
+use Rattle.model.specs.Saving.{daysOf, shortest, caseChecks, caseRefusal, saveRefusal, saveAnswer, savedAfter}
 use Rattle.model.specs.Brackets.{largest, smallest}
 use Rattle.model.specs.Curve.{movedSum, curve, P, weight, weights}
 use Rattle.model.specs.Exact as Exact
@@ -33,6 +34,7 @@ unfoldable pub all : ℕ
 unfolding
     s number bytesOf every table
     fileMap fileOf caseOf daysAt dayCount firstOf forwardsRight checks refusal ratesPart
+    daysOf shortest caseChecks caseRefusal saveRefusal saveAnswer savedAfter
     movedSum curve P
     weights weight Exact.G Exact.weighed Exact.growth Exact.product Exact.factor Exact.worth Exact.judge
     Rounded.scaled Rounded.growth Rounded.weighed Rounded.factor largest smallest Rounded.rateOf Rounded.worth Rounded.judge

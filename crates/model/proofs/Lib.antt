@@ -5,4 +5,5 @@ pub mod Changed
 pub mod Worked
 pub mod Refused
 pub mod Pinned
+pub mod SavedCases
 pub mod Widths

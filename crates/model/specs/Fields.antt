@@ -4,7 +4,7 @@
 use Prim.Native.Nat.{ℕ, zero, suc, _+_, _*_}
 use mathlib.Core.Bool.{Bool, true, _&&_, cond}
 use mathlib.Core.List.{List, [], _∷_, _++_}
-use lib.Dec.{leb}
+use lib.Dec.{leb, eqb}
 use lib.ListN.{length, getD}
 use lib.IntN.{ℤ}
 use lib.Signed.{leZ}
@@ -64,13 +64,13 @@ abbrev pub rightAll : {A : Type 0} → Fixed A → List A → Bool
 rightAll x [] = true
 rightAll x (v ∷ vs) = x .right v && rightAll x vs
 
--- n of one kind
+-- n of one kind; a list that is read has n, one that a host hands in may have another number
 abbrev pub several : {A : Type 0} → ℕ → Fixed A → Fixed (List A)
 several n x = record {
   size = x .size * n;
   bytes = bytesAll x;
   value = λ file at. valueAll x file at n;
-  right = rightAll x;
+  right = λ vs. eqb (length vs) n && rightAll x vs;
 }
 
 -- the same bytes, under other names
@@ -82,9 +82,11 @@ named to from x = record {
   right = λ v. x .right (from v);
 }
 
--- A field: the bytes of a value; and of a file and the position where the field starts: the value, the position after it, the checks.
+-- A field: the bytes of a value, and its checks where it is in no file, which are those of its numbers; and of a file and the position
+-- where the field starts: the value, the position after it, the checks.
 pub record Field (A : Type 0) : Type 1 where
   pub bytes : A → List ℕ
+  pub limits : A → List Check
   pub value : List ℕ → ℕ → A
   pub end : List ℕ → ℕ → ℕ
   pub checks : List ℕ → ℕ → List Check
@@ -93,6 +95,7 @@ pub record Field (A : Type 0) : Type 1 where
 abbrev pub field : {A : Type 0} → ℕ → Fixed A → Field A
 field r x = record {
   bytes = x .bytes;
+  limits = λ v. (x .right v, r) ∷ [];
   value = x .value;
   end = λ file at. at + x .size;
   checks = λ file at. (reaches file (at + x .size), 1) ∷ (x .right (x .value file at), r) ∷ [];
@@ -102,6 +105,7 @@ field r x = record {
 abbrev pub counted : {A : Type 0} → ℕ → ℕ → ℕ → Fixed A → Field (List A)
 counted most c r x = record {
   bytes = λ vs. bytesOf 1 (length vs) ++ bytesAll x vs;
+  limits = λ vs. (within 1 most (length vs), c) ∷ (rightAll x vs, r) ∷ [];
   value = λ file at. valueAll x file (at + 1) (getD file at 0);
   end = λ file at. at + 1 + x .size * getD file at 0;
   checks = λ file at.
@@ -116,6 +120,7 @@ counted most c r x = record {
 abbrev pub optional : {A : Type 0} → Bool → A → Field A → Field A
 optional there absent f = record {
   bytes = λ v. cond there (f .bytes v) [];
+  limits = λ v. cond there (f .limits v) [];
   value = λ file at. cond there (f .value file at) absent;
   end = λ file at. cond there (f .end file at) at;
   checks = λ file at. cond there (f .checks file at) [];
@@ -126,6 +131,7 @@ infixr 4 _then_
 abbrev pub _then_ : {A B : Type 0} → Field A → Field B → Field (A × B)
 f then g = record {
   bytes = λ v. f .bytes (v .0) ++ g .bytes (v .1);
+  limits = λ v. f .limits (v .0) ++ g .limits (v .1);
   value = λ file at. (f .value file at, g .value file (f .end file at));
   end = λ file at. g .end file (f .end file at);
   checks = λ file at. f .checks file at ++ g .checks file (f .end file at);

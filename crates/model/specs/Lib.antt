@@ -1,4 +1,4 @@
--- Document 01 as definitions, a file a section, in its order. All of it has to be believed, except what is in inner.
+-- Document 01 as definitions, a file a section, in its order; Saving is request One of document 02. All of it has to be believed, except what is in inner.
 pub mod Constants
 pub mod Numbers
 pub mod Case
@@ -6,6 +6,7 @@ pub mod Limits
 pub mod Fields
 pub mod Layout
 pub mod Refusals
+pub mod Saving
 pub mod Fraction
 pub mod Brackets
 pub mod Curve

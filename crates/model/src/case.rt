@@ -2,7 +2,8 @@
 ghost use mathlib.Core.Path.{_≡_};
 ghost use Rattle.model.specs.Held.{defaultCase};
 
-// Amounts in euros.
+// Amounts in euros. Hosts hand in amounts, shocks and people as C lays structs out.
+#[repr(C)]
 pub struct Amounts {
     pub mature: u64,
     pub emerging: u64,
@@ -16,6 +17,7 @@ pub struct Amounts {
 
 // Shifts and spread in rate steps, falls, spread rise and correlation in thousandths, the duration
 // in tenths of a year.
+#[repr(C)]
 pub struct Shocks {
     pub up_shift: u64,
     pub down_shift: u64,
@@ -32,10 +34,20 @@ pub struct Shocks {
 }
 
 // The head count, and the ages in months.
+#[repr(C)]
 pub struct People {
     pub heads: u64,
     pub pension_age: u64,
     pub mean_age: u64,
+}
+
+// The fields of a case that are no lists.
+#[repr(C)]
+pub struct CaseFields {
+    pub ufr: u64,
+    pub amounts: Amounts,
+    pub shocks: Shocks,
+    pub people: People,
 }
 
 // `sums` has P(t) of the terms 1 to 60: over the days, the sum of 100,000 and the rate in steps. `per_step` is what one rate step

@@ -2,4 +2,5 @@
 // definitions, and the theorems about them, stand in specs/ and proofs/.
 pub mod case;
 pub mod figures;
+pub mod saved;
 pub mod window;

@@ -1,10 +1,11 @@
 -- No check of a list fails exactly when each of them holds: the refusal is the number of the first that fails, and no check has the
 -- number 0.
 use mathlib.Core.Path.{_≡_, refl}
-use mathlib.Core.Bool.{Bool, true, false, _&&_}
+use mathlib.Core.Bool.{Bool, true, false, _&&_, cond}
 use mathlib.Core.List.{List, [], _∷_, _++_}
-use Prim.Native.Nat.{zero, suc}
+use Prim.Native.Nat.{ℕ, zero, suc, _<_}
 use native.Mathlib.Omega.{arith}
+use borrow.Author.Tests.{ltb-true}
 use lib.Dec.{T, ltb}
 use Rattle.model.specs.Fields.{Check}
 use Rattle.model.specs.Refusals.{firstOf}
@@ -51,3 +52,35 @@ pub hold-none : (cs : List Check) → Hold cs → firstOf cs ≡ 0
 unfolding firstOf
 hold-none [] h = refl
 hold-none (c ∷ cs) h = rw (h .0) (hold-none cs (h .1))
+
+-- ---- one list of checks after another
+
+pub after-none : (cs ds : List Check) → T (numbered cs) → firstOf cs ≡ 0 → firstOf (cs ++ ds) ≡ firstOf ds
+unfolding firstOf
+after-none cs ds t h = passed cs (none-hold cs t h)
+  where
+    passed : (cs : List Check) → Hold cs → firstOf (cs ++ ds) ≡ firstOf ds
+    passed [] h = refl
+    passed (c ∷ cs) h = rw (h .0) (passed cs (h .1))
+
+pub after-some : (cs ds : List Check) (r : ℕ) → firstOf cs ≡ suc r → firstOf (cs ++ ds) ≡ suc r
+unfolding firstOf
+after-some [] ds r h = let never : ⊥ = omega arith in absurd never
+after-some ((true, n) ∷ cs) ds r h = after-some cs ds r h
+after-some ((false, n) ∷ cs) ds r h = h
+
+-- ---- a number that no check of a list has
+
+abbrev pub below : ℕ → List Check → Bool
+below m [] = true
+below m (c ∷ cs) = ltb (c .1) m && below m cs
+
+pub first-below : (m : ℕ) (cs : List Check) → 0 < m → T (below m cs) → firstOf cs < m
+unfolding firstOf
+first-below m [] l t = l
+first-below m ((b, n) ∷ cs) l t = either b (ltb n m) (below m cs) refl t (λ u. first-below m cs l u)
+  where
+    either : (b c d : Bool) → ltb n m ≡ c → T (c && d) → (T d → firstOf cs < m) → cond b (firstOf cs) n < m
+    either true true d e t f = f t
+    either false true d e t f = ltb-true n m e
+    either b false d e t f = absurd t

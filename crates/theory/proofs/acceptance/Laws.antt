@@ -1,14 +1,15 @@
 -- The laws of the kinds of fields. A value that is read and passes the checks is within its limits and is written back as the same bytes;
--- a value within its limits that was written is read, ends where it ended, and passes the checks. Each kind has the laws if its parts have
--- them, so a layout has them if its numbers have. W says what it is to be within the limits.
+-- a value within its limits that was written is read, ends where it ended, and passes the checks. A value in no file passes its checks
+-- exactly when it is within its limits. Each kind has the laws if its parts have them, so a layout has them if its numbers have. W says
+-- what it is to be within the limits.
 use mathlib.Core.Path.{_≡_, refl, ap, sym, _∙_, subst}
 use mathlib.Core.Bool.{Bool, true, false}
 use mathlib.Core.List.{List, [], _∷_, _++_, append-assoc}
 use Prim.Native.Nat.{ℕ, zero, suc, _+_, _*_, _^_, _≤_, _<_}
 use native.Mathlib.Nat.{lt-of-le-of-lt, mul-le-mul}
 use native.Mathlib.Omega.{arith}
-use borrow.Author.Tests.{le-leb, leb-true}
-use lib.Dec.{T, leb}
+use borrow.Author.Tests.{le-leb, leb-true, eqb-true, eq-eqb}
+use lib.Dec.{T, leb, eqb}
 use lib.ListN.{length, getD, drop, length-append}
 use Rattle.model.specs.Numbers.{number, bytesOf, Bytes}
 use Rattle.model.specs.Fields.{within, Fixed, numberOf, pairOf, bytesAll, valueAll, rightAll, several, named}
@@ -30,7 +31,7 @@ within-test least most v h = and-both (leb least v) (leb v most) (le-leb least v
 pub record LawfulFixed {A : Type 0} (x : Fixed A) (W : A → Type 0) : Type 0 where
   pub long : (v : A) → W v → length (x .bytes v) ≡ x .size
   pub tested : (v : A) → W v → x .right v ≡ true
-  pub within : (file : List ℕ) (at : ℕ) → x .right (x .value file at) ≡ true → W (x .value file at)
+  pub within : (v : A) → x .right v ≡ true → W v
   pub written : (file : List ℕ) → Bytes file → (at : ℕ) → at + x .size ≤ length file
       → x .bytes (x .value file at) ++ drop (at + x .size) file ≡ drop at file
   pub read : (file : List ℕ) (at : ℕ) (v : A) (rest : List ℕ) → W v → drop at file ≡ x .bytes v ++ rest → x .value file at ≡ v
@@ -44,7 +45,7 @@ pub number-lawful : (w least most : ℕ) → most < 256 ^ w → LawfulFixed (num
 number-lawful w least most fits = record {
   long = λ v h. length-bytes w v;
   tested = within-test least most;
-  within = λ file at. within-true least most (number file at w);
+  within = within-true least most;
   written = λ file b at. number-written file b at w;
   read = λ file at v rest h. number-read file at w v rest (lt-of-le-of-lt (h .1) fits);
 }
@@ -54,7 +55,7 @@ pub pair-lawful : {A B : Type 0} {x : Fixed A} {y : Fixed B} {X : A → Type 0} 
 pair-lawful {x = x} {y = y} lx ly = record {
   long = λ v h. length-append (x .bytes (v .0)) (y .bytes (v .1)) ∙ rw (lx .long (v .0) (h .0), ly .long (v .1) (h .1));
   tested = λ v h. rw (lx .tested (v .0) (h .0), ly .tested (v .1) (h .1));
-  within = λ file at h. search (lx .within, ly .within, and-first, and-second);
+  within = λ v h. search (lx .within, ly .within, and-first, and-second);
   written = λ file b at l.
       let e : at + (x .size + y .size) ≡ at + x .size + y .size = omega arith in
       rw (e, append-assoc, ly .written file b (at + x .size) (omega arith)) (lx .written file b at (omega arith));
@@ -78,9 +79,9 @@ module _ {A : Type 0} {x : Fixed A} {W : A → Type 0} (l : LawfulFixed x W) whe
   all-tested [] h = refl
   all-tested (v ∷ vs) h = rw (l .tested v (h .0), all-tested vs (h .1))
 
-  all-within : (file : List ℕ) (at n : ℕ) → rightAll x (valueAll x file at n) ≡ true → WithinAll W (valueAll x file at n)
-  all-within file at zero h = tt
-  all-within file at (suc n) h = search (l .within, all-within file (at + x .size) n, and-first, and-second)
+  all-within : (vs : List A) → rightAll x vs ≡ true → WithinAll W vs
+  all-within [] h = tt
+  all-within (v ∷ vs) h = search (l .within, all-within vs, and-first, and-second)
 
   all-written : (file : List ℕ) → Bytes file → (at n : ℕ) → at + x .size * n ≤ length file
       → bytesAll x (valueAll x file at n) ++ drop (at + x .size * n) file ≡ drop at file
@@ -100,8 +101,10 @@ module _ {A : Type 0} {x : Fixed A} {W : A → Type 0} (l : LawfulFixed x W) whe
   pub several-lawful : (n : ℕ) → LawfulFixed (several n x) (λ vs. (length vs ≡ n) × WithinAll W vs)
   several-lawful n = record {
     long = λ vs h. all-long vs (h .1) ∙ ap (λ i. x .size * i) (h .0);
-    tested = λ vs h. all-tested vs (h .1);
-    within = λ file at h. (values-length x file at n, all-within file at n h);
+    tested = λ vs h. rw (eq-eqb (length vs) n (h .0)) (all-tested vs (h .1));
+    within = λ vs h.
+        let counts = eqb (length vs) n in
+        (eqb-true (length vs) n (and-first counts (rightAll x vs) h), all-within vs (and-second counts (rightAll x vs) h));
     written = λ file b at. all-written file b at n;
     read = λ file at vs rest h e. ap (valueAll x file at) (sym (h .0)) ∙ all-read file at vs rest (h .1) e;
   }
@@ -112,7 +115,7 @@ pub named-lawful : {A B : Type 0} {x : Fixed A} {W : A → Type 0} (to : A → B
 named-lawful {x = x} {W = W} to from same back l = record {
   long = λ v. l .long (from v);
   tested = λ v. l .tested (from v);
-  within = λ file at h. subst W (sym (same file at)) (l .within file at (subst (λ v. x .right v ≡ true) (same file at) h));
+  within = λ v. l .within (from v);
   written = λ file b at h. ap (λ v. x .bytes v ++ drop (at + x .size) file) (same file at) ∙ l .written file b at h;
   read = λ file at v rest h e. ap to (l .read file at (from v) rest h e) ∙ back v;
 }
@@ -136,7 +139,7 @@ pub field-lawful : {A : Type 0} {x : Fixed A} {W : A → Type 0} (r : ℕ) → T
     → LawfulFixed x W → Lawful (field r x) W
 field-lawful {x = x} r c some l = record {
   counts = λ file at. c;
-  within = λ file at h. l .within file at (h .1 .0);
+  within = λ file at h. l .within (x .value file at) (h .1 .0);
   written = λ file b at h. l .written file b at (leb-true (at + x .size) (length file) (h .0));
   read = λ file at v rest h e.
       let is = l .read file at v rest h e in
@@ -153,7 +156,7 @@ counted-lawful {x = x} most c r t fits some l = record {
   within = λ file at h.
       let n = getD file at 0 in
       let k = within-true 1 most n (h .1 .0) in
-      rw (values-length x file (at + 1) n) (k .0, k .1, all-within l file (at + 1) n (h .1 .1 .1 .0));
+      rw (values-length x file (at + 1) n) (k .0, k .1, all-within l (valueAll x file (at + 1) n) (h .1 .1 .1 .0));
   written = λ file b at h.
       let n = getD file at 0 in
       let run = all-written l file b (at + 1) n (leb-true (at + 1 + x .size * n) (length file) (h .1 .1 .0)) in
@@ -166,7 +169,8 @@ counted-lawful {x = x} most c r t fits some l = record {
       let (is, end, run) = field-lawful 1 tt far (several-lawful l (length vs)) .read file (at + 1) vs rest (refl, h .2) m in
       let reach = leb-true (at + 1 + x .size * length vs) (length file) (run .0) in
       let first = le-leb (at + 1) (length file) (omega (arith, reach)) in
-      rw n (is, end, first also within-test 1 most (length vs) (h .0, h .1) also run);
+      let right = ap (rightAll x) is ∙ all-tested l vs (h .2) in
+      rw n (is, end, first also within-test 1 most (length vs) (h .0, h .1) also run .0 also right also tt);
 }
 
 -- within the limits where the field is there, and else the known value
@@ -200,4 +204,45 @@ _thenLawful_ {f = f} {g = g} lf lg = record {
       let (a, m, c) = lf .read file at (v .0) (g .bytes (v .1) ++ rest) (h .0) (rw append-assoc at e) in
       let (b, n, d) = lg .read file (f .end file at) (v .1) rest (h .1) m in
       (rw (a, b), n, hold-append (f .checks file at) (g .checks file (f .end file at)) c d);
+}
+
+-- ---- fields of a case that is in no file
+
+-- no check has the number 0, and a value passes the checks exactly when it is within its limits
+pub record Limited {A : Type 0} (f : Field A) (W : A → Type 0) : Type 0 where
+  pub counts : (v : A) → T (numbered (f .limits v))
+  pub within : (v : A) → Hold (f .limits v) → W v
+  pub tested : (v : A) → W v → Hold (f .limits v)
+
+-- the same limits said otherwise
+pub limited-as : {A : Type 0} {f : Field A} {U W : A → Type 0} → ((v : A) → U v → W v) → ((v : A) → W v → U v) → Limited f U → Limited f W
+limited-as to from l = search (to, from, l .counts, l .within, l .tested)
+
+pub field-limited : {A : Type 0} {x : Fixed A} {W : A → Type 0} (r : ℕ) → T (numbered ((true, r) ∷ [])) → LawfulFixed x W
+    → Limited (field r x) W
+field-limited r c l = record { counts = λ v. c; within = λ v h. l .within v (h .0); tested = λ v h. (l .tested v h, tt) }
+
+pub counted-limited : {A : Type 0} {x : Fixed A} {W : A → Type 0} (most c r : ℕ) → T (numbered ((true, c) ∷ (true, r) ∷ []))
+    → LawfulFixed x W → Limited (counted most c r x) (λ vs. (1 ≤ length vs) × (length vs ≤ most) × WithinAll W vs)
+counted-limited most c r t l = record {
+  counts = λ vs. t;
+  within = λ vs h. let k = within-true 1 most (length vs) (h .0) in (k .0, k .1, all-within l vs (h .1 .0));
+  tested = λ vs h. within-test 1 most (length vs) (h .0, h .1) also all-tested l vs (h .2) also tt;
+}
+
+-- nothing is checked of an absent field
+pub optional-limited : {A : Type 0} {f : Field A} {W : A → Type 0} (there : Bool) (absent : A) → Limited f W
+    → Limited (optional there absent f) (λ v. there ≡ true → W v)
+optional-limited true absent l = limited-as (λ v h e. h) (λ v h. h refl) l
+optional-limited false absent l = record { counts = λ v. tt; within = λ v h e. absurd (subst T (sym e) tt); tested = λ v h. tt }
+
+infixr 4 _thenLimited_
+pub _thenLimited_ : {A B : Type 0} {f : Field A} {g : Field B} {X : A → Type 0} {Y : B → Type 0}
+    → Limited f X → Limited g Y → Limited (f then g) (λ v. X (v .0) × Y (v .1))
+_thenLimited_ {f = f} {g = g} lf lg = record {
+  counts = λ v. numbered-append (f .limits (v .0)) (g .limits (v .1)) (lf .counts (v .0)) (lg .counts (v .1));
+  within = λ v h.
+      let (a, b) = hold-parts (f .limits (v .0)) (g .limits (v .1)) h in
+      (lf .within (v .0) a, lg .within (v .1) b);
+  tested = λ v h. hold-append (f .limits (v .0)) (g .limits (v .1)) (lf .tested (v .0) (h .0)) (lg .tested (v .1) (h .1));
 }

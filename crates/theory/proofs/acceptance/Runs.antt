@@ -2,11 +2,29 @@
 use mathlib.Core.Path.{_≡_, refl, ap, _∙_}
 use mathlib.Core.Bool.{Bool, true, false, _&&_}
 use mathlib.Core.List.{List, [], _∷_, _++_}
-use Prim.Native.Nat.{ℕ, zero, suc, _+_, _*_}
+use Prim.Native.Nat.{ℕ, zero, suc, _+_, _*_, _<_}
 use native.Mathlib.Omega.{arith}
-use lib.ListN.{length}
+use lib.ListN.{length, getD, take}
+use lib.Seq.{take-suc}
 use Rattle.model.specs.Numbers.{table}
 use Rattle.model.specs.Fields.{Fixed, valueAll, rightAll}
+
+module _ {A : Type 0} (x : Fixed A) where
+  pub right-more : (vs : List A) (v : A) → rightAll x (vs ++ (v ∷ [])) ≡ (rightAll x vs && x .right v)
+  right-more [] v = alone (x .right v)
+    where
+      alone : (b : Bool) → (b && true) ≡ b
+      alone true = refl
+      alone false = refl
+  right-more (w ∷ vs) v = ap (λ b. x .right w && b) (right-more vs v) ∙ assoc (x .right w) (rightAll x vs) (x .right v)
+    where
+      assoc : (a b c : Bool) → (a && (b && c)) ≡ ((a && b) && c)
+      assoc true b c = refl
+      assoc false b c = refl
+
+  -- of a list in memory
+  pub right-front : (vs : List A) (i : ℕ) (d : A) → i < length vs → rightAll x (take (suc i) vs) ≡ (rightAll x (take i vs) && x .right (getD vs i d))
+  right-front vs i d l = ap (rightAll x) (take-suc vs i d l) ∙ right-more (take i vs) (getD vs i d)
 
 module _ {A : Type 0} (x : Fixed A) (file : List ℕ) where
   pub values-length : (at n : ℕ) → length (valueAll x file at n) ≡ n
@@ -23,19 +41,7 @@ module _ {A : Type 0} (x : Fixed A) (file : List ℕ) where
   pub right-last : (at n : ℕ)
       → rightAll x (valueAll x file at (suc n)) ≡ (rightAll x (valueAll x file at n) && x .right (x .value file (at + x .size * n)))
   right-last at n =
-      ap (rightAll x) (values-last at n) ∙ appended (valueAll x file at n) (x .value file (at + x .size * n))
-    where
-      assoc : (a b c : Bool) → (a && (b && c)) ≡ ((a && b) && c)
-      assoc true b c = refl
-      assoc false b c = refl
-
-      alone : (b : Bool) → (b && true) ≡ b
-      alone true = refl
-      alone false = refl
-
-      appended : (vs : List A) (v : A) → rightAll x (vs ++ (v ∷ [])) ≡ (rightAll x vs && x .right v)
-      appended [] v = alone (x .right v)
-      appended (w ∷ vs) v = ap (λ b. x .right w && b) (appended vs v) ∙ assoc (x .right w) (rightAll x vs) (x .right v)
+      ap (rightAll x) (values-last at n) ∙ right-more x (valueAll x file at n) (x .value file (at + x .size * n))
 
   -- the table that a loop fills
   pub values-table : (at n : ℕ) → valueAll x file at n ≡ table (λ i. x .value file (at + x .size * i)) n

@@ -23,6 +23,7 @@ use Rattle.theory.proofs.general.Lists.{and-first, and-second, every-at
 use Rattle.theory.proofs.acceptance.Encoding.{length-bytes, number-small, number-written, number-read, written-signed, read-signed}
 use Rattle.theory.proofs.acceptance.Laws.{LawfulFixed, fixed-as, number-lawful, pair-lawful, WithinAll, several-lawful, named-lawful}
 use Rattle.theory.proofs.acceptance.Laws.{Lawful, field-as, field-lawful, counted-lawful, IfThere, optional-lawful, _thenLawful_}
+use Rattle.theory.proofs.acceptance.Laws.{Limited, limited-as, field-limited, counted-limited, optional-limited, _thenLimited_}
 
 -- ---- a test of an integer, both ways
 
@@ -83,7 +84,7 @@ rate-lawful w scale fits =
     record {
       long = λ z h. length-bytes w (unsigned w z);
       tested = λ z. between-test;
-      within = λ file at. between-true;
+      within = λ z. between-true;
       written = λ file b at l. rw (written-signed w (number file at w) (number-small file b at w)) (number-written file b at w l);
       read = λ file at z rest h e. rw (number-read file at w (unsigned w z) rest (signed z h .0) e) (signed z h .1);
     }
@@ -96,22 +97,43 @@ day-lawful =
     (λ rates h. (h .terms, at-each W (pos 0) rates (λ t l. h .each t (omega (arith, h .terms)))))
     (several-lawful (rate-lawful 2 1 (lit< tt)) 60)
 
-abbrev DaysCounted : List (List ℤ) → Type 0
+abbrev pub DaysCounted : List (List ℤ) → Type 0
 DaysCounted days = (1 ≤ length days) × (length days ≤ 70) × ((d : ℕ) → d < length days → DayWithin (getD days d []))
 
+module _ (days : List (List ℤ)) where
+  days-to : (1 ≤ length days) × (length days ≤ 70) × WithinAll DayWithin days → DaysCounted days
+  days-to h = search (each-at DayWithin [])
+
+  days-from : DaysCounted days → (1 ≤ length days) × (length days ≤ 70) × WithinAll DayWithin days
+  days-from h = search (at-each DayWithin [])
+
 days-lawful : Lawful daysField DaysCounted
-days-lawful =
-    field-as (λ days h. search (each-at DayWithin [])) (λ days h. search (at-each DayWithin []))
-    (counted-lawful 70 4 5 tt (lit< tt) (lit≤ tt) day-lawful)
+days-lawful = field-as days-to days-from (counted-lawful 70 4 5 tt (lit< tt) (lit≤ tt) day-lawful)
+
+pub days-limited : Limited daysField DaysCounted
+days-limited = limited-as days-to days-from (counted-limited 70 4 5 tt day-lawful)
+
+abbrev FlowWithin : ℕ → Type 0
+FlowWithin v = v ≤ 100000000
 
 abbrev FlowsCounted : ℕ → List ℕ → Type 0
 FlowsCounted most flows = (1 ≤ length flows) × (length flows ≤ most) × FlowsWithin flows
 
+flow-lawful : LawfulFixed flow FlowWithin
+flow-lawful = upto-lawful 4 100000000 (lit< tt)
+
+module _ (most : ℕ) (flows : List ℕ) where
+  flows-to : (1 ≤ length flows) × (length flows ≤ most) × WithinAll FlowWithin flows → FlowsCounted most flows
+  flows-to h = search (each-at FlowWithin 0)
+
+  flows-from : FlowsCounted most flows → (1 ≤ length flows) × (length flows ≤ most) × WithinAll FlowWithin flows
+  flows-from h = search (at-each FlowWithin 0, h .2 .each)
+
 flows-lawful : (most : ℕ) → most < 256 → Lawful (counted most 7 8 flow) (FlowsCounted most)
-flows-lawful most fits =
-    let W : ℕ → Type 0 = λ v. v ≤ 100000000 in
-    field-as (λ flows h. search (each-at W 0)) (λ flows h. search (at-each W 0, h .2 .each))
-    (counted-lawful most 7 8 tt fits (lit≤ tt) (upto-lawful 4 100000000 (lit< tt)))
+flows-lawful most fits = field-as (flows-to most) (flows-from most) (counted-lawful most 7 8 tt fits (lit≤ tt) flow-lawful)
+
+flows-limited : (most : ℕ) → Limited (counted most 7 8 flow) (FlowsCounted most)
+flows-limited most = limited-as (flows-to most) (flows-from most) (counted-limited most 7 8 tt flow-lawful)
 
 -- numbers by name: `search` finds each limit in the other list of limits
 amounts-lawful : LawfulFixed amounts AmountsWithin
@@ -155,6 +177,26 @@ layout-lawful p =
     thenLawful field-lawful 11 tt (lit≤ tt) shocks-lawful
     thenLawful field-lawful 12 tt (lit≤ tt) people-lawful
 
+-- the checks of a case in no file: nothing is said of an absent field
+abbrev pub PartsLimited : Present → Parts → Type 0
+PartsLimited p v =
+    (p .ufr ≡ true → v .0 ≤ 5000)
+    × (DaysCounted (v .1 .0)
+    × (FlowsCounted 120 (v .1 .1 .0)
+    × ((p .bonds ≡ true → FlowsCounted 60 (v .1 .1 .1 .0))
+    × ((p .amounts ≡ true → AmountsWithin (v .1 .1 .1 .1 .0))
+    × (ShocksWithin (v .1 .1 .1 .1 .1 .0) × PeopleWithin (v .1 .1 .1 .1 .1 .1))))))
+
+pub layout-limited : (p : Present) → Limited (layout p) (PartsLimited p)
+layout-limited p =
+    optional-limited (p .ufr) defaultUfr (field-limited 9 tt (upto-lawful 2 5000 (lit< tt)))
+    thenLimited days-limited
+    thenLimited flows-limited 120
+    thenLimited optional-limited (p .bonds) [] (flows-limited 60)
+    thenLimited optional-limited (p .amounts) noAmounts (field-limited 10 tt amounts-lawful)
+    thenLimited field-limited 11 tt shocks-lawful
+    thenLimited field-limited 12 tt people-lawful
+
 -- the parts of a case and the case, both ways; amounts that are all zero are what is read from no bytes
 module _ (p : Present) (k : FileCase) where
   either : {R : Type 0} (b : Bool) → (b ≡ true → R) → (b ≡ false → R) → R
@@ -169,7 +211,7 @@ module _ (p : Present) (k : FileCase) where
       let bonds : (length (k .bonds) ≤ 60) × FlowsWithin (k .bonds) =
       either (p .bonds) (λ e. (b .0 e .1, b .0 e .2)) (λ e. rw (b .1 e) (lit≤ tt, none)) in
       let some : p .bonds ≡ true → 1 ≤ length (k .bonds) = λ e. b .0 e .0 in
-      let amounts : AmountsWithin (k .amounts) = either (p .amounts) (a .0) (λ e. rw (a .1 e) (amounts-lawful .within [] 0 refl)) in
+      let amounts : AmountsWithin (k .amounts) = either (p .amounts) (a .0) (λ e. rw (a .1 e) (amounts-lawful .within noAmounts refl)) in
       search
 
   pub limits-parts : WithinLimits k → Agrees p k → PartsWithin p (partsOf k)

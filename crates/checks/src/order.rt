@@ -24,7 +24,7 @@ ghost use Rattle.scan.specs.inner.Sums.{Summed};
 ghost use Rattle.checks.specs.inner.After.{after, afterAll};
 
 // One check: the number so far is kept where there is one.
-fn first(so_far: u8, holds: bool, number: u8) -> u8
+pub fn first(so_far: u8, holds: bool, number: u8) -> u8
     ensures { λ r. ⌜ r ≡ after «so_far» holds number ⌝ }
 {
     if so_far == 0 {

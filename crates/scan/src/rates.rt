@@ -36,7 +36,7 @@ fn rate_at(file: &[u8], at: usize, d: usize, t: usize) -> u64
 }
 
 // A rate of -1,000 to 10,000 steps, by 100,000 steps and the rate.
-fn rate_right(rate: u64) -> bool
+pub fn rate_right(rate: u64) -> bool
     ensures { λ r. ⌜ r ≡ rateRight rate ⌝ }
 {
     both(99_000 <= rate, rate <= 110_000)

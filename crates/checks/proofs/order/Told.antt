@@ -14,6 +14,7 @@ use Rattle.scan.specs.inner.Found.{Found}
 use Rattle.scan.specs.inner.Sums.{daysFrom, Summed, forwardRight}
 use Rattle.scan.specs.declared.places.Places.{Places}
 use Rattle.scan.specs.declared.rates.Sums.{Sums}
+use Rattle.scan.proofs.rates.Days.{sums-are}
 use Rattle.scan.proofs.rates.Forwards.{forwards-are}
 
 module _ (file : List ℕ) (p : Places) (f : Found file p) where
@@ -42,6 +43,7 @@ module _ (file : List ℕ) (p : Places) (f : Found file p) where
     pub forwards-told : every (forwardRight (r .sums) (p .days)) 60 ≡ forwardsRight (length (caseOf file .days)) (caseOf file .days)
     unfolding caseOf daysAt dayCount
     forwards-told =
-        forwards-are file (p .«days_at» + 1) (p .days) (r .sums) (h .sums)
+        forwards-are (daysFrom file (p .«days_at» + 1) (p .days)) (p .days) (r .sums)
+        (sums-are file (p .«days_at» + 1) (p .days) (r .sums) (h .sums))
         ∙ ap₂ (λ at n. forwardsRight n (daysFrom file (at + 1) n)) (f .daysIs) (f .daysMany)
         ∙ ap (λ n. forwardsRight n (caseOf file .days)) (sym (values-length day file (daysAt file + 1) (dayCount file)))

@@ -19,7 +19,7 @@ use Rattle.scan.specs.declared.rates.Sums.{Sums}
 use Rattle.scan.proofs.rates.Integers.{raised, natural-raised}
 
 -- one day more at the end
-s-more : (days : List (List ℤ)) (day : List ℤ) (t : ℕ) → s (days ++ (day ∷ [])) (suc t) ≡ s days (suc t) +ℤ getD day t (pos 0)
+pub s-more : (days : List (List ℤ)) (day : List ℤ) (t : ℕ) → s (days ++ (day ∷ [])) (suc t) ≡ s days (suc t) +ℤ getD day t (pos 0)
 unfolding s
 s-more [] day t = +ℤ-idr (getD day t (pos 0)) ∙ sym (+ℤ-idl (getD day t (pos 0)))
 s-more (first ∷ days) day t =
@@ -32,7 +32,7 @@ module _ (file : List ℕ) (at t : ℕ) where
   numberOn d = number file (at + 120 * d + 2 * t) 2
 
   -- the sum of n days as a natural
-  unfoldable pub total : ℕ → ℕ
+  unfoldable total : ℕ → ℕ
   total zero = 0
   total (suc n) = total n + raisedRate (numberOn n)
 
@@ -45,7 +45,7 @@ module _ (file : List ℕ) (at t : ℕ) where
       (ap (λ rates. getD rates t (pos 0)) (values-table dailyRate file (at + 120 * n) 60)
       ∙ getD-table (λ i. twosComplement 2 (number file (at + 120 * n + 2 * i) 2)) 60 t (pos 0) l)
 
-  pub total-is : (n : ℕ) → t < 60 → Diff (s (daysFrom file at n) (suc t)) (total n) (100000 * n)
+  total-is : (n : ℕ) → t < 60 → Diff (s (daysFrom file at n) (suc t)) (total n) (100000 * n)
   unfolding s total
   total-is zero l = refl
   total-is (suc n) l =
@@ -55,12 +55,18 @@ module _ (file : List ℕ) (at t : ℕ) where
       (again (sum +ℤ twosComplement 2 v) (total n + raisedRate v) (100000 * n + 100000) (total n + raisedRate v) (100000 * suc n)
       (diff-sum sum (twosComplement 2 v) (total n) (100000 * n) (raisedRate v) 100000 (total-is n l) (raised v)) (omega arith))
 
-  pub sum-is : (n : ℕ) → t < 60 → sumAt (daysFrom file at n) n t ≡ total n
+  sum-is : (n : ℕ) → t < 60 → sumAt (daysFrom file at n) n t ≡ total n
   sum-is n l = natural-raised (s (daysFrom file at n) (suc t)) (total n) (100000 * n) (total-is n l)
 
   pub sum-next : (n : ℕ) → t < 60 → sumAt (daysFrom file at n) n t + raisedRate (numberOn n) ≡ sumAt (daysFrom file at (n + 1)) (n + 1) t
   unfolding total
   sum-next n l = ap (λ m. m + raisedRate (numberOn n)) (sum-is n l) ∙ sym (rw add-one (sum-is (suc n) l))
+
+-- the sums of days, as differences
+pub sums-are : (file : List ℕ) (at n : ℕ) (sums : List ℕ) → sums ≡ table (sumAt (daysFrom file at n) n) 60
+    → (t : ℕ) → t < 60 → Diff (s (daysFrom file at n) (suc t)) (getD sums t 0) (100000 * n)
+sums-are file at n sums e t l =
+    rw (e, getD-table (sumAt (daysFrom file at n) n) 60 t 0 l, sum-is file at t n l) (total-is file at t n l)
 
 -- an array whose entries are replaced from the front
 pub entry-kept : (f : ℕ → ℕ) (held out : List ℕ) (t : ℕ) → t < length held → out ≡ table f t ++ drop t held → getD out t 0 ≡ getD held t 0

@@ -11,13 +11,11 @@ use lib.ListN.{getD}
 use lib.IntN.{ℤ, pos, _-ℤ_, _*ℤ_}
 use Rattle.model.specs.Case.{s}
 use Rattle.model.specs.Limits.{forward}
-use Rattle.model.specs.Numbers.{every, table}
+use Rattle.model.specs.Numbers.{every}
 use Rattle.model.specs.Refusals.{forwardsRight}
 use Rattle.theory.proofs.general.Differences.{Diff, again, diff-minus, diff-times}
-use Rattle.theory.proofs.general.Lists.{getD-table}
-use Rattle.scan.specs.inner.Sums.{daysFrom, sumAt, weighted, nextRight, forwardRight}
+use Rattle.scan.specs.inner.Sums.{weighted, nextRight, forwardRight}
 use Rattle.scan.proofs.rates.Integers.{within-raised}
-use Rattle.scan.proofs.rates.Days.{total, total-is, sum-is}
 
 -- tests of the same truth
 every-same : (f g : ℕ → Bool) (n : ℕ) → ((i : ℕ) → i < n → f i ≡ g i) → every f n ≡ every g n
@@ -25,16 +23,12 @@ unfolding every
 every-same f g zero h = refl
 every-same f g (suc n) h = ap₂ (λ a b. a && b) (every-same f g n (λ i l. h i (omega arith))) (h n (omega arith))
 
-module _ (file : List ℕ) (at n : ℕ) (sums : List ℕ) (is : sums ≡ table (sumAt (daysFrom file at n) n) 60) where
-  abbrev days : List (List ℤ)
-  days = daysFrom file at n
-
+module _ (days : List (List ℤ)) (n : ℕ) (sums : List ℕ)
+    (is : (t : ℕ) → t < 60 → Diff (s days (suc t)) (getD sums t 0) (100000 * n)) where
   weighted-is : (t : ℕ) → t ≤ 60 → Diff (pos t *ℤ s days t) (weighted sums t) (t * (100000 * n))
   unfolding s
   weighted-is zero l = omega arith
-  weighted-is (suc t) l =
-      rw (is, getD-table (sumAt days n) 60 t 0 l, sum-is file at t n l)
-      (diff-times (suc t) (s days (suc t)) (total file at t n) (100000 * n) (total-is file at t n l))
+  weighted-is (suc t) l = diff-times (suc t) (s days (suc t)) (getD sums t 0) (100000 * n) (is t l)
 
   forward-is : (t : ℕ) → t < 60 → Diff (forward days (suc t)) (weighted sums (suc t)) (weighted sums t + 100000 * n)
   forward-is t l =

@@ -1,0 +1,2 @@
+-- Laws of runs of numbers in memory.
+pub mod Runs

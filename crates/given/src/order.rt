@@ -1,0 +1,58 @@
+// The order of the checks of a case: each takes the number so far, as the checks of a file do.
+use crate::limits::amounts_right;
+use crate::limits::people_right;
+use crate::limits::shocks_right;
+use crate::rates::day_count;
+use crate::rates::sum_rates;
+use crate::runs::each_at_most;
+use checks::order::first;
+use model::case::CaseFields;
+use scan::rates::forwards_within;
+use scan::runs::both;
+ghost use mathlib.Core.Path.{_≡_};
+ghost use mathlib.Core.Bool.{cond};
+ghost use mathlib.Core.List.{[], _∷_};
+ghost use lib.Dec.{leb};
+ghost use lib.ListN.{length};
+ghost use Rattle.model.specs.Fields.{within, rightAll};
+ghost use Rattle.model.specs.Layout.{flow};
+ghost use Rattle.model.specs.Saving.{given, caseRefusal};
+ghost use Rattle.checks.specs.inner.After.{afterAll};
+
+// Pension or bond flows: their count, and the flows.
+fn flows_check(so_far: u8, flows: &[u64], least: usize, most: usize) -> u8
+    ensures { λ r. ⌜
+        r ≡ afterAll «so_far» ((within least most (length (now (flows .entry))), 7) ∷ (rightAll flow (now (flows .entry)), 8) ∷ [])
+        ⌝ }
+{
+    let count = flows.len();
+    let counted = first(so_far, both(least <= count, count <= most), 7);
+    first(counted, each_at_most(flows, 100_000_000), 8)
+}
+
+// How many days are summed: none of a list with more days than a case may have, since 4 comes before what its rates are.
+fn days_summed(count: usize) -> usize
+    ensures { λ r. ⌜ r ≡ cond (leb count 70) count 0 ⌝ }
+{
+    if count <= 70 { count } else { 0 }
+}
+
+// The number that a case is refused with; 0 where it is within the limits.
+pub fn case_check(f: CaseFields, rates: &[i32], pension: &[u64], bonds: &[u64]) -> u8
+    ensures { λ r. ⌜ r ≡ caseRefusal (given f (now (rates .entry)) (now (pension .entry)) (now (bonds .entry))) ⌝ }
+{
+    let count = day_count(rates);
+    let summed = days_summed(count);
+    let s = sum_rates(rates, summed);
+    let ufr = first(0, f.ufr <= 5_000, 9);
+    let counted = first(ufr, both(1 <= count, count <= 70), 4);
+    let days = first(counted, s.within, 5);
+    let pension_so_far = flows_check(days, pension, 1, 120);
+    let bonds_so_far = flows_check(pension_so_far, bonds, 0, 60);
+    let amounts = first(bonds_so_far, amounts_right(f.amounts), 10);
+    let shocks = first(amounts, shocks_right(f.shocks), 11);
+    let people = first(shocks, people_right(f.people), 12);
+    let sums = s.sums;
+    let forwards = forwards_within(sums, summed as u64);
+    first(people, forwards, 6)
+}

@@ -4,17 +4,12 @@ use mathlib.Core.List.{List, _++_}
 use Prim.Native.Nat.{ℕ, _+_, _≤_, _<_}
 use native.Mathlib.Omega.{arith}
 use lib.ListN.{length, take, drop}
-use lib.Seq.{sets-eq, length-sets, length-take-le, take-at}
+use lib.Seq.{length-sets, length-take-le, take-at}
 use Rattle.model.specs.Listing.{listing, listingAfter, listingLength}
 use Rattle.model.specs.declared.figures.Valuation.{Valuation}
 use Rattle.theory.proofs.general.Conditions.{cond-le, cond-gt}
 use Rattle.output.specs.inner.Wrote.{Wrote}
-
--- the bytes that are written to the front of a buffer
-in-front : {b t : List ℕ} {m r : ℕ} {a : List ℕ} → Wrote b 0 t m r a → r ≤ length b → a ≡ t ++ drop (length t) b
-in-front {b} {t} {m} {r} {a} p h =
-    let e : 0 + length t ≡ length t = omega arith in
-    p .held ∙ sets-eq t b 0 (omega (arith, p .place)) ∙ ap (λ (k : ℕ). t ++ drop k b) e
+use Rattle.output.proofs.Stores.{in-front}
 
 pub front : {b t : List ℕ} {m r : ℕ} {a : List ℕ} → Wrote b 0 t m r a → m ≤ length b → take r a ≡ t
 front {b} {t} {m} {r} {a} p h =

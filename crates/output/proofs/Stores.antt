@@ -6,8 +6,8 @@ use native.Mathlib.Nat.{add-zero, add-suc, suc-add, div-lt-iff-lt-mul, pow-suc}
 use native.Mathlib.Omega.{arith}
 use native.Mathlib.Numerals.{add-one}
 use lib.Dec.{lit<}
-use lib.ListN.{length, set, take, getD, length-append}
-use lib.Seq.{sets, take-suc, length-take-le}
+use lib.ListN.{length, set, take, drop, getD, length-append}
+use lib.Seq.{sets, sets-eq, take-suc, length-take-le}
 use borrow.Author.Tests.{lt-ltb, le-ltb}
 use Rattle.model.specs.Listing.{digits}
 use Rattle.output.specs.inner.Wrote.{Wrote}
@@ -34,6 +34,12 @@ as-text {b} {at} {t} {m} {r} {c} {u} {n} e h p = record {
   place = rw (sym e) (p .place);
   held = rw (sym e) (p .held);
 }
+
+-- the buffer after a write to its front
+pub in-front : {b t : List ℕ} {m r : ℕ} {a : List ℕ} → Wrote b 0 t m r a → r ≤ length b → a ≡ t ++ drop (length t) b
+in-front {b} {t} {m} {r} {a} p h =
+    let e : 0 + length t ≡ length t = omega arith in
+    p .held ∙ sets-eq t b 0 (omega (arith, p .place)) ∙ ap (λ (k : ℕ). t ++ drop k b) e
 
 -- one byte more of a text
 pub sets-take : (b text : List ℕ) (at i : ℕ) → i < length text → set (sets b at (take i text)) (at + i) (getD text i 0) ≡ sets b at (take (i + 1) text)

@@ -1,0 +1,2 @@
+-- Runs: a run of numbers as bytes.
+pub mod Runs

@@ -1,0 +1,2 @@
+-- Options: a field that is there, or not.
+pub mod Options

@@ -1,0 +1,3 @@
+-- Bits: the two bytes of a rate. Days: the rates of the days of a list.
+pub mod Bits
+pub mod Days

@@ -1,0 +1,15 @@
+-- What is asked of a list of rates that is written.
+use Prim.Native.Nat.{_≤_}
+use mathlib.Core.Path.{_≡_}
+use mathlib.Core.Bool.{true}
+use mathlib.Core.List.{List}
+use lib.ListN.{length}
+use lib.IntN.{ℤ}
+use Rattle.model.specs.Fields.{rightAll}
+use Rattle.model.specs.Saving.{daysOf}
+use Rattle.model.specs.inner.Positions.{day}
+
+-- it has a day or more, and its rates are within their limits
+pub record RightDays (rates : List ℤ) : Type 0 where
+  pub some : 1 ≤ length (daysOf rates)
+  pub right : rightAll day (daysOf rates) ≡ true

@@ -1,0 +1,3 @@
+-- Parts: the bytes of a case by its parts, and how many there are. Answers: what `save` has to answer.
+pub mod Parts
+pub mod Answers

@@ -1,0 +1,2 @@
+-- Form: parts of a saved case, and how long they are.
+pub mod Form

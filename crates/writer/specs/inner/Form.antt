@@ -1,0 +1,29 @@
+-- Parts of a saved case, and how long they are, by the numbers of rates, of pension flows and of bond flows.
+use Prim.Native.Nat.{ℕ, _+_, _*_}
+use mathlib.Core.Bool.{cond}
+use mathlib.Core.List.{List, _++_}
+use lib.IntN.{ℤ}
+use Rattle.model.specs.Layout.{shocks, people}
+use Rattle.model.specs.Saving.{daysOf}
+use Rattle.model.specs.inner.Positions.{daysField, pensionField, bondsField, amountsField}
+use Rattle.model.specs.declared.case.CaseFields.{CaseFields}
+use Rattle.fields.specs.declared.Included.{Included}
+use Rattle.fields.specs.inner.Present.{presentOf}
+
+-- the days, the pension flows and the bond flows
+abbrev pub listsBytes : Included → List ℤ → List ℕ → List ℕ → List ℕ
+listsBytes p rates pension bonds = daysField .bytes (daysOf rates) ++ (pensionField .bytes pension ++ bondsField (presentOf p) .bytes bonds)
+
+abbrev pub listsLength : Included → ℕ → ℕ → ℕ → ℕ
+listsLength p rates pension bonds = 1 + 2 * rates + (1 + 4 * pension) + cond (p .bonds) (1 + 4 * bonds) 0
+
+-- the amounts, the shocks and the people
+abbrev pub othersBytes : Included → CaseFields → List ℕ
+othersBytes p f = amountsField (presentOf p) .bytes (f .amounts) ++ (shocks .bytes (f .shocks) ++ people .bytes (f .people))
+
+abbrev pub othersLength : Included → ℕ
+othersLength p = cond (p .amounts) 64 0 + 24 + 8
+
+-- the map, the UFR and these
+abbrev pub savedLength : Included → ℕ → ℕ → ℕ → ℕ
+savedLength p rates pension bonds = 2 + cond (p .ufr) 2 0 + listsLength p rates pension bonds + othersLength p

@@ -1,10 +1,12 @@
 /* Times the engine beside plain C, GMP and Arb.
  *
- *   bench time FILE..                 checks each file, then prints the table
- *   bench check FILE..                only checks
- *   bench parts FILE                  times parts of a valuation
- *   bench count engine|plain FILE R   values the file R times and prints nothing, for callgrind
- *   bench stack FILE                  prints the bytes of stack that one engine valuation touches
+ *   bench time FILE..         checks each file, then prints the table
+ *   bench check FILE..        only checks
+ *   bench parts FILE          times parts of a valuation
+ *   bench count WORK FILE R   does the work R times and prints nothing, for callgrind
+ *   bench stack WORK FILE     prints the bytes of stack that the work touches
+ *
+ * WORK is engine or plain (a valuation), checks (the engine's checks of the file) or saving (its case, saved by the engine).
  *
  * No time is asserted. The exit status is 1 where any result differs. */
 #define _XOPEN_SOURCE 700 /* clock_gettime and makecontext */
@@ -31,6 +33,31 @@ struct result {
     ginghamowl_valuation valuation;
 };
 
+/* The case of the file, as a host hands it in to be saved. */
+static struct {
+    ginghamowl_case_fields fields;
+    int32_t rates[70 * GINGHAMOWL_DAY_RATES];
+    size_t rates_length;
+    struct fund fund;
+} held;
+
+static void take_apart(void)
+{
+    ginghamowl_part part = ginghamowl_rates_part(loaded.bytes, loaded.length);
+    const uint8_t *rates = loaded.bytes + part.offset;
+
+    if (part.length == 0)
+        return; /* refused: there is no case */
+    read_fund(loaded.bytes, &held.fund);
+    held.fields.ufr = held.fund.ufr;
+    memcpy(&held.fields.amounts, held.fund.amount, sizeof held.fields.amounts);
+    memcpy(&held.fields.shocks, held.fund.shock, sizeof held.fields.shocks);
+    held.fields.people = (ginghamowl_people){held.fund.heads, held.fund.pension_age, held.fund.mean_age};
+    held.rates_length = part.length / 2;
+    for (size_t i = 0; i < held.rates_length; i++)
+        held.rates[i] = (int16_t)(rates[2 * i] << 8 | rates[2 * i + 1]);
+}
+
 static void load(const char *path)
 {
     FILE *file = fopen(path, "rb");
@@ -41,6 +68,7 @@ static void load(const char *path)
     loaded.name = path;
     loaded.length = fread(loaded.bytes, 1, sizeof loaded.bytes, file);
     fclose(file);
+    take_apart();
 }
 
 /* ---------------------------------------------------------------- what is timed */
@@ -68,6 +96,14 @@ static void engine_checks(const struct input *input)
     latest.valuation.refusal = ginghamowl_refusal(input->bytes, input->length);
 }
 
+static void engine_saving(const struct input *input)
+{
+    static uint8_t out[GINGHAMOWL_FILE_BYTES];
+    (void)input;
+    latest.valuation.refusal = ginghamowl_save(held.fields, held.rates, held.rates_length, held.fund.pension, held.fund.m,
+                                               held.fund.bonds, held.fund.k, out, sizeof out).refusal;
+}
+
 static void plain_reading(const struct input *input) { read_fund(input->bytes, &latest_fund); }
 
 static void plain_curves(const struct input *input)
@@ -91,7 +127,7 @@ struct work {
     const char *remark;
 };
 
-enum { PLAIN = 1, PROGRAMS = 4, PARTS = 6 };
+enum { PLAIN = 1, PROGRAMS = 4, PARTS = 7 };
 static const struct work programs[PROGRAMS] = {
     {"engine", engine, "whole valuation, with the checks of the file; proved"},
     {"plain C", plain, "whole valuation, without the checks of the file"},
@@ -101,9 +137,23 @@ static const struct work parts[PARTS] = {
     {"engine: whole valuation", engine, ""},
     {"plain C: whole valuation", plain, ""},
     {"engine: the checks of the file alone", engine_checks, ""},
+    {"engine: saving the case", engine_saving, ""},
     {"plain C: reading", plain_reading, ""},
     {"plain C: reading, 3 curves", plain_curves, ""},
     {"plain C: reading, 3 curves, zero rates", plain_curves_and_rates, ""}};
+
+/* The works that are counted, by name. */
+static const struct work *work_named(const char *name)
+{
+    static const struct work counted[] = {
+        {"engine", engine, ""}, {"plain", plain, ""}, {"checks", engine_checks, ""}, {"saving", engine_saving, ""}};
+
+    for (size_t i = 0; i < sizeof counted / sizeof *counted; i++)
+        if (strcmp(counted[i].name, name) == 0)
+            return &counted[i];
+    fprintf(stderr, "bench: there is no work %s\n", name);
+    exit(2);
+}
 
 static void run(const struct work *work, const struct input *input, long repetitions)
 {
@@ -225,8 +275,10 @@ enum { STACK_BYTES = 1 << 18, PAINT = 0xA5 };
 static unsigned char painted[STACK_BYTES];
 static ucontext_t back, there;
 
-static void value_there(void) { run(&programs[0], &loaded, 1); }
-static void nothing_there(void) { run(&programs[0], &loaded, 0); }
+static const struct work *work_there;
+
+static void do_there(void) { run(work_there, &loaded, 1); }
+static void nothing_there(void) { run(work_there, &loaded, 0); }
 
 /* The stack grows downwards: the lowest byte that lost its paint tells how deep the call went. */
 static size_t depth_of(void (*call)(void))
@@ -261,30 +313,32 @@ static int check_all(int count, char **paths, bool times)
     return all_same ? 0 : 1;
 }
 
-static int on_one_file(const char *command)
+static void print_stack(const char *work)
 {
-    if (strcmp(command, "parts") == 0) {
-        print_parts(&loaded);
-    } else {
-        size_t empty = depth_of(nothing_there);
-        printf("%zu\n", depth_of(value_there) - empty);
-    }
-    return 0;
+    work_there = work_named(work);
+    size_t empty = depth_of(nothing_there);
+    printf("%zu\n", depth_of(do_there) - empty);
 }
 
 int main(int argc, char **argv)
 {
     if (argc >= 3 && (strcmp(argv[1], "time") == 0 || strcmp(argv[1], "check") == 0))
         return check_all(argc - 2, argv + 2, argv[1][0] == 't');
-    if (argc == 3 && (strcmp(argv[1], "parts") == 0 || strcmp(argv[1], "stack") == 0)) {
+    if (argc == 3 && strcmp(argv[1], "parts") == 0) {
         load(argv[2]);
-        return on_one_file(argv[1]);
+        print_parts(&loaded);
+        return 0;
+    }
+    if (argc == 4 && strcmp(argv[1], "stack") == 0) {
+        load(argv[3]);
+        print_stack(argv[2]);
+        return 0;
     }
     if (argc == 5 && strcmp(argv[1], "count") == 0) {
         load(argv[3]);
-        run(&programs[strcmp(argv[2], "plain") == 0 ? PLAIN : 0], &loaded, atol(argv[4]));
+        run(work_named(argv[2]), &loaded, atol(argv[4]));
         return 0;
     }
-    fprintf(stderr, "usage: bench time FILE.. | check FILE.. | parts FILE | stack FILE | count engine|plain FILE R\n");
+    fprintf(stderr, "usage: bench time FILE.. | check FILE.. | parts FILE | stack WORK FILE | count WORK FILE R\n");
     return 2;
 }

@@ -1,8 +1,9 @@
 /* Ginghamowl: the valuation of one pension fund from one case file, every figure proved.
  *
  * "Document 01" is "The UFR curve and the solvency verdict of one fund". It says what a case file
- * is, what each figure means and what each refusal is. The functions below are those of the crate
- * `host` (crates/host/src/lib.rt), and their contracts there are proved against document 01.
+ * is, what each figure means and what each refusal is. "Document 02" has the requests that came
+ * later; ginghamowl_save and its refusal 14 are its request One. The functions below are those of
+ * the crate `host` (crates/host/src/lib.rt), and their contracts there are proved against both.
  *
  * LENT MEMORY, the same for every function:
  *
@@ -10,9 +11,9 @@
  *     240 uint64_t. A file or a listing has entries of one byte.
  *   - A pointer may be NULL only where its length is 0. Else it points to that many entries, each
  *     of which is initialised, aligned as its type asks.
- *   - Buffers that are written (factors, rates, out) overlap no other buffer of the same call, and
- *     nobody else reads or writes them while the call runs. Buffers that are only read may be
- *     shared between calls and threads.
+ *   - Buffers that are written (factors and rates of a valuation, out) overlap no other buffer of
+ *     the same call, and nobody else reads or writes them while the call runs. Buffers that are
+ *     only read, which have a `const` here, may be shared between calls and threads.
  *   - No function reads or writes outside the entries lent, keeps a pointer after it returns, uses
  *     the heap, has a state of its own, or reads anything but its arguments. So calls from several
  *     threads at once need no lock. A call needs less than 64 KiB of stack.
@@ -38,9 +39,9 @@ extern "C" {
 /* Of this header. Before 1.0 a new minor version may change what stands here; the shared library's
  * name has both numbers for that reason, libginghamowl.so.MAJOR.MINOR. */
 /* hosts/words writes: version */
-#define GINGHAMOWL_VERSION "0.3.0"
+#define GINGHAMOWL_VERSION "0.4.0"
 #define GINGHAMOWL_VERSION_MAJOR 0
-#define GINGHAMOWL_VERSION_MINOR 3
+#define GINGHAMOWL_VERSION_MINOR 4
 #define GINGHAMOWL_VERSION_PATCH 0
 /* hosts/words: end of version */
 
@@ -48,8 +49,10 @@ extern "C" {
 
 enum {
     GINGHAMOWL_TERMS = 120,        /* the terms of the curve: 1 to 120 years */
+    GINGHAMOWL_DAY_RATES = 60,     /* the zero rates of a day: terms 1 to 60 */
     GINGHAMOWL_ENTRIES = 240,      /* the least length of a factor or rate buffer */
-    GINGHAMOWL_FILE_BYTES = 9223,  /* the longest accepted file; one byte more decides a refusal */
+    GINGHAMOWL_FILE_BYTES = 9223,  /* the longest accepted file; one byte more decides a refusal, and
+                                      every saved case fits */
     GINGHAMOWL_LISTING_BYTES = 512 /* a listing always fits into so many bytes */
 };
 
@@ -59,9 +62,10 @@ enum {
 
 /* ---------------------------------------------------------------- refusals */
 
-/* Document 01's numbers. 1 to 12 are errors of the office that made the file, 13 of the host.
- * The first that applies is given, in document 01's order: 13; the map (1, then 3); each field in
- * bit order; then 2; then 6. */
+/* Document 01's numbers, and 14 of document 02. 1 to 12 are errors of the office that made the file
+ * or the case, 13 and 14 of the host. The first that applies is given. For a file the order is
+ * document 01's: 13; the map (1, then 3); each field in bit order; then 2; then 6. For a case that is
+ * saved, ginghamowl_save below has it. */
 /* hosts/words writes: refusals */
 enum {
     GINGHAMOWL_ACCEPTED = 0,
@@ -71,7 +75,7 @@ enum {
     GINGHAMOWL_REFUSED_BYTES_FOLLOW = 2,
     /* the map has a wrong bit; bits 1, 2, 5 and 6 must be set, and bits 7 to 15 must not */
     GINGHAMOWL_REFUSED_MAP = 3,
-    /* the number of days is out of limits; it must be 1 to 70 */
+    /* the number of days is out of limits; it must be 1 to 70, with 60 rates each */
     GINGHAMOWL_REFUSED_DAY_COUNT = 4,
     /* a zero rate is out of limits; each must be -1,000 to 10,000 steps of 0.00001, -1 % to 10 % */
     GINGHAMOWL_REFUSED_RATE = 5,
@@ -97,7 +101,10 @@ enum {
     GINGHAMOWL_REFUSED_PEOPLE = 12,
     /* a lent buffer is too short; the buffers for factors and for rates must have at least 240
      * entries */
-    GINGHAMOWL_REFUSED_BUFFER = 13
+    GINGHAMOWL_REFUSED_BUFFER = 13,
+    /* the lent buffer is too short for the case; it must have at least as many bytes as the
+     * case's shortest file */
+    GINGHAMOWL_REFUSED_SAVED_BUFFER = 14
 };
 /* hosts/words: end of refusals */
 
@@ -163,6 +170,38 @@ typedef struct {
     double upper;
 } ginghamowl_point;
 
+/* What the fund holds of each kind, and its currency exposure, in euros. (`private` is a keyword of
+ * C++.) */
+typedef struct {
+    uint64_t mature, emerging, private_equity, property, commodities, credit, cash, currency;
+} ginghamowl_amounts;
+
+/* Shifts and credit spread in steps of 0.00001, credit duration in tenths of a year, all others in
+ * thousandths. */
+typedef struct {
+    uint64_t up_shift, down_shift, mature_fall, emerging_fall, private_fall, property_fall;
+    uint64_t currency_fall, commodities_fall, spread_rise, correlation, spread, duration;
+} ginghamowl_shocks;
+
+/* The head count, and two ages in months. */
+typedef struct {
+    uint64_t heads, pension_age, mean_age;
+} ginghamowl_people;
+
+/* The fields of a case that are no lists. The UFR in steps of 0.00001. */
+typedef struct {
+    uint64_t ufr;
+    ginghamowl_amounts amounts;
+    ginghamowl_shocks shocks;
+    ginghamowl_people people;
+} ginghamowl_case_fields;
+
+/* `refusal` is GINGHAMOWL_ACCEPTED or a refusal. `written` counts bytes; it is 0 for a refusal. */
+typedef struct {
+    uint8_t refusal;
+    size_t written;
+} ginghamowl_saved;
+
 /* ---------------------------------------------------------------- functions */
 
 /* Values a case file. On acceptance the entries 0 to 239 of both buffers are written, lower and
@@ -195,6 +234,34 @@ ginghamowl_point ginghamowl_window_point(uint64_t point, const uint64_t *factors
  * A valuation that no call returned has a meaning too: with a `refusal` other than 0 it lists as
  * that refusal, whatever stands beside it; else a `verdict` other than 1 to 4 lists as ONBESLIST. */
 size_t ginghamowl_listing(ginghamowl_valuation valuation, uint8_t *out, size_t out_length);
+
+/* Saves a case: writes its shortest case file to the front of `out`, and tells how many bytes it
+ * wrote; later bytes keep their content. `rates` has the zero rates in steps of 0.00001, term 1 to 60
+ * of the first day, then of the next. `pension` and `bonds` have the flows in euros, from term 1 on.
+ *
+ * The file leaves out a UFR of 4,200, amounts that are all 0 and an empty list of bonds. It is
+ * accepted, and holds the same case. Two cases have the same bytes exactly when all their numbers
+ * and the lengths of their lists are equal.
+ *
+ * An input screen may hand in whatever was typed: any numbers and lengths are answered. The first
+ * refusal that applies is given, in this order:
+ *
+ *   9              the UFR
+ *   4, then 5      the count of days, which is rates_length / 60; a length that is no multiple of 60
+ *                  is 4 too; the rates
+ *   7, then 8      the count of pension flows; the flows
+ *   7, then 8      the count of bond flows, which may be 0; the flows
+ *   10, 11, 12     the amounts; the shocks; the people
+ *   6              the one-year forward rates
+ *   14             `out` is shorter than the file; exactly as long is enough, and
+ *                  GINGHAMOWL_FILE_BYTES always suffice
+ *
+ * A refusal writes no byte. */
+ginghamowl_saved ginghamowl_save(ginghamowl_case_fields fields,
+                                 const int32_t *rates, size_t rates_length,
+                                 const uint64_t *pension, size_t pension_length,
+                                 const uint64_t *bonds, size_t bonds_length,
+                                 uint8_t *out, size_t out_length);
 
 #ifdef __cplusplus
 }

@@ -16,7 +16,7 @@ static inline const char *ginghamowl_refusal_sentence(unsigned number)
     case GINGHAMOWL_REFUSED_MAP:
         return "the map has a wrong bit; bits 1, 2, 5 and 6 must be set, and bits 7 to 15 must not";
     case GINGHAMOWL_REFUSED_DAY_COUNT:
-        return "the number of days is out of limits; it must be 1 to 70";
+        return "the number of days is out of limits; it must be 1 to 70, with 60 rates each";
     case GINGHAMOWL_REFUSED_RATE:
         return "a zero rate is out of limits; each must be -1,000 to 10,000 steps of 0.00001, -1 % "
                "to 10 %";
@@ -43,6 +43,9 @@ static inline const char *ginghamowl_refusal_sentence(unsigned number)
     case GINGHAMOWL_REFUSED_BUFFER:
         return "a lent buffer is too short; the buffers for factors and for rates must have at "
                "least 240 entries";
+    case GINGHAMOWL_REFUSED_SAVED_BUFFER:
+        return "the lent buffer is too short for the case; it must have at least as many bytes as "
+               "the case's shortest file";
     default:
         return "no refusal has this number";
     }

@@ -211,9 +211,25 @@ class CommandLine(unittest.TestCase):
 
     def test_unreadable(self):
         for name in ("no such file", str(HERE), "/dev/zero"):
-            self.assertEqual(self.run_tool("encode", name)[:2], (2, b""), name)
+            for command in ("encode", "shorten"):
+                self.assertEqual(self.run_tool(command, name)[:2], (2, b""), name)
         self.assertEqual(self.run_tool()[0], 2)
         self.assertEqual(self.shell('"$@" decode - <&-')[0], 2)
+
+    def test_shorten_without_the_library(self):
+        """hosts/python/tests has the tests with it."""
+        environment = os.environ | {"GINGHAMOWL_LIBRARY": "/no/such/library.so"}
+        with tempfile.TemporaryDirectory() as folder:
+            status, out, said = self.run_tool("shorten", "-", "-o", str(Path(folder, "a.case")), given=FUND, env=environment)
+            self.assertEqual((status, out, said.count("\n"), os.listdir(folder)), (2, b"", 1, []))
+        self.assertRegex(said, r"^-: the engine's shared library can't be loaded \(.*\); hosts/build makes it")
+        self.assertEqual(self.run_tool("encode", "-", given=to_toml(read(FUND)).encode(), env=environment), (0, FUND, ""))
+
+    def test_wrong_calls(self):
+        self.assertIn("a command is needed: encode, decode, explain or shorten", self.run_tool()[2])
+        for words in ((), ("shorten",), ("shorten", "a", "b"), ("lengthen", "a"), ("explain", "a", "-o", "b")):
+            status, out, said = self.run_tool(*words)
+            self.assertEqual((status, out, said.startswith("usage: casefile")), (2, b"", True), words)
 
     def test_template_and_version(self):
         self.assertEqual(self.run_tool("--version"), (0, (ROOT / "VERSION").read_bytes(), ""))

@@ -1,4 +1,5 @@
-/* The engine's boundary under libFuzzer: each input is a case file, and is answered with lent buffers of several lengths.
+/* The engine's boundary under libFuzzer: each input is a case file, and is answered with lent buffers of several lengths. The case
+ * of an accepted one is saved, and what was saved is answered too.
  *
  * The archive carries no instrumentation, so the fuzzer sees nothing of the engine's branches. What it sees is the answer: a
  * counter for each refusal, verdict and length (`answers`), so that it keeps a file of each kind and goes on from there.
@@ -119,6 +120,110 @@ static void listed(ginghamowl_valuation v)
     take_back(shorter, length - 1);
 }
 
+/* ---------------------------------------------------------------- the case of an accepted file, saved */
+
+typedef struct {
+    ginghamowl_case_fields fields;
+    int32_t rates[70 * GINGHAMOWL_DAY_RATES];
+    uint64_t pension[120], bonds[60];
+    size_t rates_length, pension_length, bonds_length;
+} held_case;
+
+/* The number in the next bytes of a file. */
+static uint64_t taken(const uint8_t **at, int length)
+{
+    uint64_t number = 0;
+
+    while (length-- > 0)
+        number = number << 8 | *(*at)++;
+    return number;
+}
+
+static size_t take_flows(const uint8_t **at, uint64_t *flows)
+{
+    size_t count = taken(at, 1);
+
+    for (size_t i = 0; i < count; i++)
+        flows[i] = taken(at, 4);
+    return count;
+}
+
+static held_case decoded(const uint8_t *file)
+{
+    held_case c = {.bonds_length = 0};
+    uint64_t map = taken(&file, 2), numbers[24] = {4200}; /* UFR, amounts, shocks, people: as in c.fields */
+
+    if (map & 1)
+        numbers[0] = taken(&file, 2);
+    c.rates_length = GINGHAMOWL_DAY_RATES * taken(&file, 1);
+    for (size_t i = 0; i < c.rates_length; i++)
+        c.rates[i] = (int16_t)taken(&file, 2);
+    c.pension_length = take_flows(&file, c.pension);
+    if (map >> 3 & 1)
+        c.bonds_length = take_flows(&file, c.bonds);
+    for (int i = 1; i <= 8 && map >> 4 & 1; i++)
+        numbers[i] = taken(&file, 8);
+    for (int i = 9; i <= 23; i++)
+        numbers[i] = taken(&file, i == 21 ? 4 : 2); /* 21: the head count */
+    memcpy(&c.fields, numbers, sizeof numbers);
+    return c;
+}
+
+static void *lend_copy(const void *list, size_t bytes)
+{
+    void *copy = lend(bytes);
+
+    if (bytes != 0)
+        memcpy(copy, list, bytes);
+    return copy;
+}
+
+static ginghamowl_saved save(const held_case *c, uint8_t *out, size_t out_length)
+{
+    int32_t *rates = lend_copy(c->rates, 4 * c->rates_length);
+    uint64_t *pension = lend_copy(c->pension, 8 * c->pension_length), *bonds = lend_copy(c->bonds, 8 * c->bonds_length);
+    ginghamowl_saved saved = ginghamowl_save(c->fields, rates, c->rates_length, pension, c->pension_length, bonds,
+                                             c->bonds_length, out, out_length);
+
+    take_back(rates, 4 * c->rates_length);
+    take_back(pension, 8 * c->pension_length);
+    take_back(bonds, 8 * c->bonds_length);
+    return saved;
+}
+
+static int same_answers(const uint8_t *file, size_t size, const uint8_t *other, size_t other_size)
+{
+    uint64_t factors[2][GINGHAMOWL_ENTRIES];
+    int64_t rates[2][GINGHAMOWL_ENTRIES];
+    ginghamowl_valuation v = ginghamowl_value(file, size, factors[0], GINGHAMOWL_ENTRIES, rates[0], GINGHAMOWL_ENTRIES);
+    ginghamowl_valuation w = ginghamowl_value(other, other_size, factors[1], GINGHAMOWL_ENTRIES, rates[1], GINGHAMOWL_ENTRIES);
+
+    return v.refusal == GINGHAMOWL_ACCEPTED && w.refusal == GINGHAMOWL_ACCEPTED && v.verdict == w.verdict
+        && memcmp(&v.figures, &w.figures, sizeof v.figures) == 0 && memcmp(factors[0], factors[1], sizeof factors[0]) == 0
+        && memcmp(rates[0], rates[1], sizeof rates[0]) == 0;
+}
+
+/* The case of an accepted file fills a buffer of its own length with a file that is no longer and has the same answer, and leaves a
+ * buffer that is a byte shorter alone. Saved once more, it has the same bytes. */
+static void saved(const uint8_t *file, size_t size)
+{
+    uint8_t whole[GINGHAMOWL_FILE_BYTES];
+    held_case c = decoded(file);
+    size_t length = save(&c, whole, sizeof whole).written;
+
+    REQUIRE(length > 0 && length <= size && same_answers(file, size, whole, length));
+    held_case again = decoded(whole);
+    uint8_t *exact = lend(length), *shorter = lend(length - 1);
+    memset(shorter, 1, length - 1);
+    REQUIRE(save(&again, exact, length).written == length && memcmp(exact, whole, length) == 0);
+    ginghamowl_saved refused = save(&c, shorter, length - 1);
+    REQUIRE(refused.refusal == GINGHAMOWL_REFUSED_SAVED_BUFFER && refused.written == 0);
+    for (size_t i = 0; i < length - 1; i++)
+        REQUIRE(shorter[i] == 1);
+    take_back(exact, length);
+    take_back(shorter, length - 1);
+}
+
 int LLVMFuzzerTestOneInput(const uint8_t *data, size_t size)
 {
     static const size_t lengths[] = {0, 239, 240, MOST};
@@ -133,6 +238,8 @@ int LLVMFuzzerTestOneInput(const uint8_t *data, size_t size)
     ginghamowl_valuation v = valued(file, size, MOST, GINGHAMOWL_ENTRIES);
     REQUIRE((part.length == 0) == (v.refusal != GINGHAMOWL_ACCEPTED));
     listed(v);
+    if (v.refusal == GINGHAMOWL_ACCEPTED)
+        saved(file, size);
 
     size_t kind = v.refusal == GINGHAMOWL_ACCEPTED ? 12 + (size_t)v.verdict : v.refusal;
     size_t length = size < LONGEST ? size * LENGTHS / (LONGEST + 1) : LENGTHS - 1;

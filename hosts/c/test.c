@@ -1,6 +1,6 @@
-/* Hostile calls of the engine's functions. Every buffer is lent between guards, every file stands in
- * memory of exactly its length (so that valgrind sees a byte read too many), and lengths are right,
- * short, long and 0.
+/* Hostile calls of the engine's functions. Every buffer is lent between guards, every file and every
+ * list stands in memory of exactly its length (so that valgrind sees a byte read too many), and lengths
+ * are right, short, long and 0.
  *
  * Prints 'c: N checks, 0 failed' and has exit status 0, or says what failed.
  */
@@ -18,6 +18,13 @@ _Static_assert(offsetof(ginghamowl_valuation, verdict) == 1, "the verdict behind
 _Static_assert(offsetof(ginghamowl_valuation, figures) == 8, "the figures behind both");
 _Static_assert(sizeof(ginghamowl_part) == 16, "two sizes");
 _Static_assert(sizeof(ginghamowl_point) == 24, "a byte, padded to 8, and two doubles");
+_Static_assert(sizeof(ginghamowl_amounts) == 64, "eight amounts");
+_Static_assert(sizeof(ginghamowl_shocks) == 96, "twelve shocks");
+_Static_assert(sizeof(ginghamowl_people) == 24, "heads and two ages");
+_Static_assert(sizeof(ginghamowl_case_fields) == 192, "the UFR and the three above");
+_Static_assert(offsetof(ginghamowl_case_fields, people) == 168, "the people are the last");
+_Static_assert(sizeof(ginghamowl_saved) == 16, "a byte, padded to 8, and a size");
+_Static_assert(offsetof(ginghamowl_saved, written) == 8, "the count behind the refusal");
 
 static unsigned long checks, failures;
 
@@ -60,9 +67,9 @@ static const char C1_LISTING[] = "L 100000000 100000000\nB 0 0\nA 110000000 1100
                                  "S4 0 0\nS5 0 0\nS6 10000000 10000000\nS 10000000 10000000\nV VRIJ VERMOGEN\n";
 
 /* A copy in memory of exactly its length; NULL for no bytes. */
-static uint8_t *exactly(const uint8_t *bytes, size_t length)
+static void *exactly(const void *bytes, size_t length)
 {
-    uint8_t *copy = length == 0 ? NULL : malloc(length);
+    void *copy = length == 0 ? NULL : malloc(length);
 
     if (length != 0) {
         if (copy == NULL)
@@ -472,6 +479,484 @@ static void test_damaged(void)
     CHECK(accepted > 100);
 }
 
+/* ---------------------------------------------------------------- cases to save */
+
+enum { DAY = GINGHAMOWL_DAY_RATES, MOST_RATES = 257 * DAY, MOST_FLOWS = 257 }; /* 257, cut to a byte, is 1 */
+
+/* What ginghamowl_save takes, but for the buffer. */
+typedef struct {
+    ginghamowl_case_fields fields;
+    int32_t rates[MOST_RATES];
+    size_t rates_length;
+    uint64_t pension[MOST_FLOWS];
+    size_t pension_length;
+    uint64_t bonds[MOST_FLOWS];
+    size_t bonds_length;
+} held_case;
+
+/* The case of file C1. */
+static void c1_case(held_case *c)
+{
+    memset(c, 0, sizeof *c);
+    c->fields.ufr = 4200;
+    c->fields.amounts.cash = 1100000;
+    c->fields.people.heads = 100;
+    c->fields.people.pension_age = 780;
+    c->fields.people.mean_age = 460;
+    c->rates_length = DAY;
+    c->pension[0] = 1000000;
+    c->pension_length = 1;
+}
+
+/* The case of the longest file. No two amounts, shocks, people's numbers or flows of a list are alike. */
+static void largest_case(held_case *c)
+{
+    static const ginghamowl_amounts amounts = {100000000000, 99999999999, 72057594037, 4294967296, 16777217, 65537, 257, 1};
+    static const ginghamowl_shocks shocks = {1000, 999, 258, 259, 260, 261, 262, 263, 264, 265, 10000, 500};
+    static const ginghamowl_people people = {1000000, 1200, 1199};
+    size_t i;
+
+    c->fields.ufr = 5000;
+    c->fields.amounts = amounts;
+    c->fields.shocks = shocks;
+    c->fields.people = people;
+    for (i = 0; i < MOST_RATES; i++) /* from -900 upwards, a little uneven */
+        c->rates[i] = (int32_t)(20 * (i / DAY) + i * i % 11) - 900;
+    c->rates_length = 70 * DAY;
+    for (i = 0; i < MOST_FLOWS; i++) {
+        c->pension[i] = 100000000 - 388889 * i;
+        c->bonds[i] = 257 * i * i;
+    }
+    c->pension_length = 120;
+    c->bonds_length = 60;
+}
+
+static uint8_t *put(uint8_t *at, uint64_t number, int length)
+{
+    while (length-- > 0)
+        *at++ = (uint8_t)(number >> 8 * length);
+    return at;
+}
+
+static uint8_t *put_flows(uint8_t *at, const uint64_t *flows, size_t count)
+{
+    size_t i;
+
+    at = put(at, count, 1);
+    for (i = 0; i < count; i++)
+        at = put(at, flows[i], 4);
+    return at;
+}
+
+enum { MOST_BYTES = 2 + 2 + 1 + 2 * MOST_RATES + 2 * (1 + 4 * MOST_FLOWS) + 64 + 24 + 8 };
+
+/* The shortest file of a case, with no look at the limits. Returns its length. */
+static size_t shortest(const held_case *c, uint8_t file[MOST_BYTES])
+{
+    static const ginghamowl_amounts none;
+    int ufr = c->fields.ufr != 4200, bonds = c->bonds_length != 0;
+    int amounts = memcmp(&c->fields.amounts, &none, sizeof none) != 0;
+    uint64_t numbers[12];
+    uint8_t *at = put(file, 0x66 | ufr | bonds << 3 | amounts << 4, 2);
+    size_t i;
+
+    if (ufr)
+        at = put(at, c->fields.ufr, 2);
+    at = put(at, c->rates_length / DAY, 1);
+    for (i = 0; i < c->rates_length; i++)
+        at = put(at, (uint64_t)c->rates[i], 2);
+    at = put_flows(at, c->pension, c->pension_length);
+    if (bonds)
+        at = put_flows(at, c->bonds, c->bonds_length);
+    memcpy(numbers, &c->fields.amounts, sizeof c->fields.amounts);
+    for (i = 0; amounts && i < 8; i++)
+        at = put(at, numbers[i], 8);
+    memcpy(numbers, &c->fields.shocks, sizeof c->fields.shocks);
+    for (i = 0; i < 12; i++)
+        at = put(at, numbers[i], 2);
+    at = put(at, c->fields.people.heads, 4);
+    at = put(at, c->fields.people.pension_age, 2);
+    at = put(at, c->fields.people.mean_age, 2);
+    return (size_t)(at - file);
+}
+
+/* ---------------------------------------------------------------- tests of saving */
+
+/* What a buffer of bytes and its guards hold when they are lent. */
+static uint8_t pattern(size_t at)
+{
+    return (uint8_t)(37 * at + 11);
+}
+
+static int unchanged(const void *list, const void *before, size_t length)
+{
+    return length == 0 || memcmp(list, before, length) == 0;
+}
+
+/* One call with a buffer of this length: it gives this refusal, or writes these bytes. All else that was
+ * lent, and the guards, are as they were. */
+static void saves_into(const held_case *c, size_t room, uint8_t refusal, const uint8_t *bytes, size_t length)
+{
+    size_t rates_size = c->rates_length * sizeof *c->rates, pension_size = c->pension_length * sizeof *c->pension;
+    size_t bonds_size = c->bonds_length * sizeof *c->bonds, all = room + 2 * GUARDS, i;
+    int32_t *rates = exactly(c->rates, rates_size);
+    uint64_t *pension = exactly(c->pension, pension_size), *bonds = exactly(c->bonds, bonds_size);
+    uint8_t *out = malloc(all);
+    ginghamowl_saved saved;
+
+    if (out == NULL)
+        abort();
+    for (i = 0; i < all; i++)
+        out[i] = pattern(i);
+    saved = ginghamowl_save(c->fields, rates, c->rates_length, pension, c->pension_length, bonds, c->bonds_length,
+                            room == 0 ? NULL : out + GUARDS, room);
+    CHECK(saved.refusal == refusal && saved.written == length);
+    CHECK(unchanged(out + GUARDS, bytes, length));
+    for (i = 0; i < all; i++)
+        if ((i < GUARDS || i >= GUARDS + length) && out[i] != pattern(i))
+            break;
+    CHECK(i == all);
+    CHECK(unchanged(rates, c->rates, rates_size) && unchanged(pension, c->pension, pension_size)
+          && unchanged(bonds, c->bonds, bonds_size));
+    free(rates);
+    free(pension);
+    free(bonds);
+    free(out);
+}
+
+/* The case is saved where its file has room, and refused with 14 where a byte is missing. */
+static void saves(const held_case *c)
+{
+    static uint8_t file[MOST_BYTES];
+    size_t length = shortest(c, file);
+
+    CHECK(ginghamowl_refusal(file, length) == GINGHAMOWL_ACCEPTED);
+    saves_into(c, length, GINGHAMOWL_ACCEPTED, file, length);
+    saves_into(c, length + 1, GINGHAMOWL_ACCEPTED, file, length);
+    saves_into(c, GINGHAMOWL_FILE_BYTES, GINGHAMOWL_ACCEPTED, file, length);
+    saves_into(c, length - 1, GINGHAMOWL_REFUSED_SAVED_BUFFER, NULL, 0);
+    saves_into(c, 0, GINGHAMOWL_REFUSED_SAVED_BUFFER, NULL, 0);
+}
+
+/* The case is refused with this number, and also where 14 would apply. */
+static void saves_not(const held_case *c, uint8_t refusal)
+{
+    saves_into(c, GINGHAMOWL_FILE_BYTES, refusal, NULL, 0);
+    saves_into(c, 1, refusal, NULL, 0);
+    saves_into(c, 0, refusal, NULL, 0);
+}
+
+static void test_save(void)
+{
+    static held_case c;
+    uint8_t file[C1_BYTES], out[C1_BYTES];
+    uint64_t factors[240];
+    int64_t rates[240];
+    size_t room;
+
+    c1(file);
+    c1_case(&c);
+    for (room = 0; room < C1_BYTES; room++)
+        saves_into(&c, room, GINGHAMOWL_REFUSED_SAVED_BUFFER, NULL, 0);
+    for (; room < C1_BYTES + 40; room++)
+        saves_into(&c, room, GINGHAMOWL_ACCEPTED, file, C1_BYTES);
+    ginghamowl_save(c.fields, c.rates, DAY, c.pension, 1, NULL, 0, out, sizeof out);
+    CHECK(is_c1(ginghamowl_value(out, sizeof out, factors, 240, rates, 240)));
+}
+
+static void test_save_largest(void)
+{
+    static held_case c;
+    static uint8_t file[MOST_BYTES];
+
+    largest_case(&c);
+    CHECK(shortest(&c, file) == GINGHAMOWL_FILE_BYTES);
+    saves(&c);
+    saves_into(&c, GINGHAMOWL_FILE_BYTES - 1, GINGHAMOWL_REFUSED_SAVED_BUFFER, NULL, 0);
+}
+
+/* Each of the three fields left out or not. What is written is as short as can be, and a bond flow of 0 is
+ * no empty list. */
+static void test_left_out(void)
+{
+    static held_case c;
+    static uint8_t file[MOST_BYTES];
+    unsigned fields, i;
+
+    for (fields = 0; fields < 8; fields++) {
+        size_t ufr = fields & 1, bonds = fields >> 1 & 1, amounts = fields >> 2;
+
+        c1_case(&c);
+        c.fields.ufr -= ufr;
+        c.bonds_length = bonds;
+        c.fields.amounts.cash = amounts;
+        CHECK(shortest(&c, file) == 160 + 2 * ufr + 5 * bonds + 64 * amounts);
+        CHECK(file[0] == 0 && file[1] == 0x66 + ufr + 8 * bonds + 16 * amounts);
+        saves(&c);
+    }
+    for (i = 0; i < 8; i++) { /* one amount alone keeps the field */
+        uint64_t amounts[8] = {0};
+
+        amounts[i] = 1;
+        memcpy(&c.fields.amounts, amounts, sizeof amounts);
+        saves(&c);
+    }
+}
+
+/* A number of the case passes at its limits, and not beyond them, nor where a cut to fewer bytes would let it
+ * pass. */
+static void test_limit(const held_case *c, uint64_t *number, uint64_t least, uint64_t most, uint8_t refusal)
+{
+    uint64_t before = *number;
+    unsigned bits;
+
+    *number = least;
+    saves(c);
+    *number = most;
+    saves(c);
+    *number = most + 1;
+    saves_not(c, refusal);
+    *number = least - 1; /* the largest of all where the least is 0 */
+    saves_not(c, refusal);
+    for (bits = 8; bits < 64; bits += 8) {
+        *number = ((uint64_t)1 << bits) + least;
+        if (*number > most)
+            saves_not(c, refusal);
+    }
+    *number = before;
+}
+
+static void test_numbers(void)
+{
+    static held_case c;
+    ginghamowl_shocks *s = &c.fields.shocks;
+    uint64_t *const amounts[] = {&c.fields.amounts.mature, &c.fields.amounts.emerging, &c.fields.amounts.private_equity,
+                                 &c.fields.amounts.property, &c.fields.amounts.commodities, &c.fields.amounts.credit,
+                                 &c.fields.amounts.cash, &c.fields.amounts.currency};
+    uint64_t *const shocks[] = {&s->up_shift, &s->down_shift, &s->mature_fall, &s->emerging_fall, &s->private_fall,
+                                &s->property_fall, &s->currency_fall, &s->commodities_fall, &s->spread_rise, &s->correlation};
+    size_t i;
+
+    c1_case(&c);
+    c.pension_length = 3;
+    c.bonds_length = 3;
+    test_limit(&c, &c.fields.ufr, 0, 5000, GINGHAMOWL_REFUSED_UFR);
+    for (i = 0; i < 3; i++) {
+        test_limit(&c, &c.pension[i], 0, 100000000, GINGHAMOWL_REFUSED_FLOW);
+        test_limit(&c, &c.bonds[i], 0, 100000000, GINGHAMOWL_REFUSED_FLOW);
+    }
+    for (i = 0; i < 8; i++)
+        test_limit(&c, amounts[i], 0, 100000000000, GINGHAMOWL_REFUSED_AMOUNT);
+    for (i = 0; i < 10; i++)
+        test_limit(&c, shocks[i], 0, 1000, GINGHAMOWL_REFUSED_SHOCK);
+    test_limit(&c, &s->spread, 0, 10000, GINGHAMOWL_REFUSED_SHOCK);
+    test_limit(&c, &s->duration, 0, 500, GINGHAMOWL_REFUSED_SHOCK);
+    test_limit(&c, &c.fields.people.heads, 1, 1000000, GINGHAMOWL_REFUSED_PEOPLE);
+    test_limit(&c, &c.fields.people.pension_age, 0, 1200, GINGHAMOWL_REFUSED_PEOPLE);
+    test_limit(&c, &c.fields.people.mean_age, 0, 1200, GINGHAMOWL_REFUSED_PEOPLE);
+}
+
+/* Lists without an entry are lent as NULL. */
+static void test_counts(void)
+{
+    static const size_t wrong_rates[] = {0, 1, 59, 61, 119, 70 * DAY - 1, 70 * DAY + 1, 71 * DAY, 256 * DAY, 257 * DAY};
+    static const size_t wrong_pension[] = {0, 121, 256, 257}, wrong_bonds[] = {61, 256, 257};
+    static held_case c;
+    size_t i;
+
+    largest_case(&c);
+    for (i = 0; i < sizeof wrong_rates / sizeof *wrong_rates; i++) {
+        c.rates_length = wrong_rates[i];
+        saves_not(&c, GINGHAMOWL_REFUSED_DAY_COUNT);
+    }
+    for (c.rates_length = DAY; c.rates_length <= 70 * DAY; c.rates_length += 23 * DAY)
+        saves(&c);
+    c.rates_length = DAY;
+    for (i = 0; i < sizeof wrong_pension / sizeof *wrong_pension; i++) {
+        c.pension_length = wrong_pension[i];
+        saves_not(&c, GINGHAMOWL_REFUSED_FLOW_COUNT);
+    }
+    for (c.pension_length = 1; c.pension_length <= 120; c.pension_length++)
+        saves(&c);
+    c.pension_length = 1;
+    for (i = 0; i < sizeof wrong_bonds / sizeof *wrong_bonds; i++) {
+        c.bonds_length = wrong_bonds[i];
+        saves_not(&c, GINGHAMOWL_REFUSED_FLOW_COUNT);
+    }
+    for (c.bonds_length = 0; c.bonds_length <= 60; c.bonds_length++)
+        saves(&c);
+}
+
+static void flat_days(held_case *c, size_t days, int32_t first, int32_t others)
+{
+    size_t i;
+
+    c->rates_length = days * DAY;
+    for (i = 0; i < c->rates_length; i++)
+        c->rates[i] = i % DAY == 0 ? first : others;
+}
+
+static void test_rates(void)
+{
+    static const int32_t wrong[] = {-1001, 10001, 65536, -65536, 64536, INT32_MIN, INT32_MAX};
+    static const size_t places[] = {0, 59, 60, 70 * DAY - 1};
+    static held_case c;
+    size_t i, w;
+
+    c1_case(&c);
+    flat_days(&c, 70, -1000, -1000);
+    saves(&c);
+    flat_days(&c, 70, 10000, 10000);
+    saves(&c);
+    for (i = 0; i < sizeof places / sizeof *places; i++)
+        for (w = 0; w < sizeof wrong / sizeof *wrong; w++) {
+            c.rates[places[i]] = wrong[w];
+            saves_not(&c, GINGHAMOWL_REFUSED_RATE);
+            c.rates[places[i]] = 10000;
+        }
+    flat_days(&c, 1, 0, 6000); /* C8 */
+    saves(&c);
+    flat_days(&c, 1, 0, 6001);
+    saves_not(&c, GINGHAMOWL_REFUSED_GROWTH);
+    flat_days(&c, 1, 0, -1000);
+    saves(&c);
+    flat_days(&c, 1, 1, -1000);
+    saves_not(&c, GINGHAMOWL_REFUSED_GROWTH);
+    flat_days(&c, 2, 0, 6000); /* the sums over the days count */
+    c.rates[1]++;
+    c.rates[DAY + 1]--;
+    saves(&c);
+    c.rates[0]--;
+    saves_not(&c, GINGHAMOWL_REFUSED_GROWTH);
+}
+
+/* One fault of each kind, in the order of the checks. */
+enum { FAULTS = 11 };
+static const uint8_t FAULT_NUMBERS[FAULTS] = {9, 4, 5, 7, 8, 7, 8, 10, 11, 12, 6};
+
+static void spoil(held_case *c, int fault)
+{
+    switch (fault) {
+    case 0:
+        c->fields.ufr = 5001;
+        break;
+    case 1:
+        c->rates_length--;
+        break;
+    case 2:
+        c->rates[0] = -1001;
+        break;
+    case 3:
+        c->pension_length = 121;
+        break;
+    case 4:
+        c->pension[0] = 100000001;
+        break;
+    case 5:
+        c->bonds_length = 61;
+        break;
+    case 6:
+        c->bonds[0] = 100000001;
+        break;
+    case 7:
+        c->fields.amounts.mature = 100000000001;
+        break;
+    case 8:
+        c->fields.shocks.up_shift = 1001;
+        break;
+    case 9:
+        c->fields.people.heads = 0;
+        break;
+    default:
+        c->rates[2 * DAY - 1] = 10000;
+        break;
+    }
+}
+
+/* Of two faults, and of all from one on, the first is given. */
+static void test_order(void)
+{
+    static held_case c;
+    int first, second;
+
+    for (first = 0; first < FAULTS; first++) {
+        for (second = first; second < FAULTS; second++) {
+            c1_case(&c);
+            flat_days(&c, 2, 0, 0);
+            c.bonds_length = 1;
+            spoil(&c, first);
+            spoil(&c, second);
+            saves_not(&c, FAULT_NUMBERS[first]);
+        }
+        for (second = first; second < FAULTS; second++)
+            spoil(&c, second);
+        saves_not(&c, FAULT_NUMBERS[first]);
+    }
+}
+
+static uint64_t drawn(uint64_t *state)
+{
+    *state ^= *state << 13, *state ^= *state >> 7, *state ^= *state << 17;
+    return *state >> 16;
+}
+
+/* Up to three numbers, or lengths of lists, drawn anew; each fits into its bytes. */
+static void spoil_at_random(held_case *c, uint64_t *state)
+{
+    static const size_t days[] = {0, 1, 70, 71}, pension[] = {0, 1, 120, 121}, bonds[] = {0, 1, 60, 61};
+    uint64_t hits, numbers[24];
+
+    for (hits = drawn(state) % 4; hits > 0; hits--) {
+        uint64_t place = drawn(state) % 44, number = drawn(state) >> drawn(state) % 48;
+
+        memcpy(numbers, &c->fields, sizeof numbers);
+        if (place < 24) /* UFR, amounts in 8 bytes, shocks, heads in 4 bytes, ages */
+            numbers[place] = place >= 1 && place <= 8 ? number : number % ((uint64_t)1 << (place == 21 ? 32 : 16));
+        else if (place < 30)
+            c->rates[drawn(state) % (3 * DAY)] = (int16_t)number;
+        else if (place < 34)
+            c->pension[drawn(state) % 3] = number % ((uint64_t)1 << 32);
+        else if (place < 38)
+            c->bonds[drawn(state) % 3] = number % ((uint64_t)1 << 32);
+        else if (place < 40)
+            c->rates_length = days[number % 4] * DAY;
+        else if (place < 42)
+            c->pension_length = pension[number % 4];
+        else
+            c->bonds_length = bonds[number % 4];
+        memcpy(&c->fields, numbers, sizeof numbers);
+    }
+}
+
+/* A case whose numbers fit into their bytes is refused as the file is that says the same; else it is saved as
+ * that file. */
+static void test_save_as_files_are_read(void)
+{
+    static held_case c;
+    static uint8_t file[MOST_BYTES];
+    uint64_t state = 88172645463325252u;
+    unsigned long seen[13] = {0}, round;
+
+    for (round = 0; round < 3000; round++) {
+        uint8_t refusal;
+        size_t length;
+
+        largest_case(&c);
+        c.rates_length = 3 * DAY;
+        spoil_at_random(&c, &state);
+        length = shortest(&c, file);
+        refusal = ginghamowl_refusal(file, length);
+        if (refusal == GINGHAMOWL_ACCEPTED)
+            saves_into(&c, length + round % 3, refusal, file, length);
+        else
+            saves_into(&c, round % 2 * GINGHAMOWL_FILE_BYTES, refusal, NULL, 0);
+        seen[refusal]++;
+    }
+    CHECK(seen[0] > 500 && seen[1] + seen[2] + seen[3] == 0);
+    for (round = 4; round <= 12; round++)
+        CHECK(seen[round] > 10);
+}
+
 int main(void)
 {
     test_lengths();
@@ -481,6 +966,14 @@ int main(void)
     test_short_window();
     test_listing();
     test_damaged();
+    test_save();
+    test_save_largest();
+    test_left_out();
+    test_numbers();
+    test_counts();
+    test_rates();
+    test_order();
+    test_save_as_files_are_read();
     printf("c: %lu checks, %lu failed\n", checks, failures);
     return failures == 0 ? 0 : 1;
 }

@@ -9,12 +9,15 @@ use Rattle.model.specs.declared.figures.Verdict.{Verdict}
 use Rattle.model.specs.declared.figures.Verdict.the-variants.{Dekkingstekort, Reservetekort, VrijVermogen, Onbeslist}
 use Rattle.model.specs.declared.figures.Valuation.{Valuation}
 use Rattle.model.specs.declared.figures.Valuation.the-variants.{Refused, Valued}
+use Rattle.model.specs.declared.saved.Saved.{Saved}
+use Rattle.model.specs.declared.saved.Saved.the-variants as Saved
 use Rattle.model.specs.declared.window.Point.{Point}
 use Rattle.model.specs.declared.window.Point.the-variants.{Factor, Money, Blank}
 use Rattle.flat.specs.declared.HostBracket.{HostBracket}
 use Rattle.flat.specs.declared.HostFigures.{HostFigures}
 use Rattle.flat.specs.declared.HostValuation.{HostValuation}
 use Rattle.flat.specs.declared.HostPoint.{HostPoint}
+use Rattle.flat.specs.declared.HostSaved.{HostSaved}
 
 -- figures to a host, and back
 abbrev pub hostBracket : Bracket → HostBracket
@@ -98,3 +101,8 @@ abbrev pub hostPoint : Point → HostPoint
 hostPoint Blank = record { kind = 0; lower = ofBits binary64 0; upper = ofBits binary64 0 }
 hostPoint (Factor lower upper) = record { kind = 1; lower = lower; upper = upper }
 hostPoint (Money lower upper) = record { kind = 2; lower = lower; upper = upper }
+
+-- "The writer returns the count of bytes written."; a refusal has written none
+abbrev pub hostSaved : Saved → HostSaved
+hostSaved (Saved.Written count) = record { refusal = 0; written = count }
+hostSaved (Saved.Refused r) = record { refusal = r; written = 0 }

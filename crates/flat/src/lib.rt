@@ -4,9 +4,10 @@ use model::figures::Bracket;
 use model::figures::Figures;
 use model::figures::Valuation;
 use model::figures::Verdict;
+use model::saved::Saved;
 use model::window::Point;
 ghost use mathlib.Core.Path.{_≡_};
-ghost use Rattle.flat.specs.Flat.{hostBracket, bracketFrom, hostFigures, figuresFrom, noFigures, verdictNumber, verdictFrom, hostValuation, valuationFrom, hostPoint};
+ghost use Rattle.flat.specs.Flat.{hostBracket, bracketFrom, hostFigures, figuresFrom, noFigures, verdictNumber, verdictFrom, hostValuation, valuationFrom, hostPoint, hostSaved};
 
 // Cents.
 #[repr(C)]
@@ -43,6 +44,13 @@ pub struct HostPoint {
     pub kind: u8,
     pub lower: f64,
     pub upper: f64,
+}
+
+// `refusal` is 0 for a case that is saved. `written` counts bytes, and is 0 for a refused one.
+#[repr(C)]
+pub struct HostSaved {
+    pub refusal: u8,
+    pub written: usize,
 }
 
 fn flat_bracket(b: Bracket) -> HostBracket
@@ -214,6 +222,21 @@ pub fn flat_point(p: Point) -> HostPoint
             kind: 2,
             lower,
             upper,
+        },
+    }
+}
+
+pub fn flat_saved(s: Saved) -> HostSaved
+    ensures { λ r. ⌜ r ≡ hostSaved s ⌝ }
+{
+    match s {
+        Saved::Written(written) => HostSaved {
+            refusal: 0,
+            written,
+        },
+        Saved::Refused(refusal) => HostSaved {
+            refusal,
+            written: 0,
         },
     }
 }

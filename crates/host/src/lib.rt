@@ -5,21 +5,26 @@ use casefile::refusal_of;
 use engine::value;
 use flat::HostFigures;
 use flat::HostPoint;
+use flat::HostSaved;
 use flat::HostValuation;
 use flat::figures_from;
 use flat::flat_point;
+use flat::flat_saved;
 use flat::flat_valuation;
 use flat::valuation_from;
 use listing::write_listing;
+use model::case::CaseFields;
 use scan::places::find;
 use window::window_point;
+use writer::save;
 ghost use mathlib.Core.Path.{_≡_};
 ghost use lib.ListN.{length, take, drop};
 ghost use Rattle.model.specs.Buffers.{valuationOf, factorsAfter, ratesAfter};
 ghost use Rattle.model.specs.Refusals.{refusal, ratesPart};
 ghost use Rattle.model.specs.Window.{windowPoint};
 ghost use Rattle.model.specs.Listing.{listingAfter, listingLength};
-ghost use Rattle.flat.specs.Flat.{hostValuation, hostPoint, figuresFrom, valuationFrom};
+ghost use Rattle.model.specs.Saving.{given, saveAnswer, savedAfter};
+ghost use Rattle.flat.specs.Flat.{hostValuation, hostPoint, figuresFrom, valuationFrom, hostSaved};
 ghost use Rattle.host.specs.Part.{hostPart};
 
 // `length` bytes of the file, from `offset` on.
@@ -103,4 +108,25 @@ pub extern "C" fn ginghamowl_listing(valuation: HostValuation, out: &mut [u8]) -
 {
     let v = valuation_from(valuation);
     write_listing(v, out)
+}
+
+// Saves a case, as `writer::save` does: writes its shortest file to the front of a lent buffer, and answers its length.
+#[no_mangle]
+pub extern "C" fn ginghamowl_save(
+    fields: CaseFields,
+    rates: &[i32],
+    pension: &[u64],
+    bonds: &[u64],
+    out: &mut [u8],
+) -> HostSaved
+    ensures { λ r. ⌜
+        r ≡ hostSaved
+        (saveAnswer (given fields (now (rates .entry)) (now (pension .entry)) (now (bonds .entry))) (length (now (out .entry))))
+        ⌝ }
+    ensures buffer { λ _. ⌜
+        now (out .exit) ≡ savedAfter (given fields (now (rates .entry)) (now (pension .entry)) (now (bonds .entry))) (now (out .entry))
+        ⌝ }
+{
+    let saved = save(fields, rates, pension, bonds, out);
+    flat_saved(saved)
 }

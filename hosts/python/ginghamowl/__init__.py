@@ -6,11 +6,13 @@
         valuation = ginghamowl.value(file.read())
     print(valuation.verdict.word, valuation.figures.l, valuation.factor(30))
 
+Case.read(data) takes a case file apart, and Case.save() writes the shortest file of a case.
+
 "Document 01" is "The UFR curve and the solvency verdict of one fund": it says what a case file is and
-what each figure means. The numbers come from the proved engine, through the shared library
-libginghamowl.so, which `hosts/build` puts beside this file and a wheel contains; the environment variable
-GINGHAMOWL_LIBRARY may name another place. The first call loads it, and raises LibraryError where that fails.
-Nothing but the standard library is needed.
+what each figure means. Saving a case is request One of document 02. The numbers and the saved bytes come
+from the proved engine, through the shared library libginghamowl.so, which `hosts/build` puts beside this file
+and a wheel contains; the environment variable GINGHAMOWL_LIBRARY may name another place. The first call loads
+it, and raises LibraryError where that fails. Nothing but the standard library is needed.
 """
 
 from collections.abc import Iterator, Sequence
@@ -18,30 +20,19 @@ from dataclasses import dataclass, fields
 from enum import Enum
 from typing import Any
 
+from . import _given
 from . import _library as _c
-from ._library import LibraryError
-from ._words import NO_REFUSAL, SENTENCES, VERDICT_SENTENCES, VERDICT_WORDS
+from ._case import Amounts, Case, People, Shocks
+from ._given import Refused, refusal
+from ._library import FILE_BYTES, LibraryError
+from ._words import SENTENCES, VERDICT_SENTENCES, VERDICT_WORDS
 from ._words import VERSION as __version__
 
-__all__ = ["FILE_BYTES", "SENTENCES", "TERMS", "Bracket", "Figures", "Kind", "LibraryError", "Point", "Refused",
-           "Valuation", "Verdict", "__version__", "rates_part", "refusal", "value"]
+__all__ = ["FILE_BYTES", "SENTENCES", "TERMS", "Amounts", "Bracket", "Case", "Figures", "Kind", "LibraryError", "People",
+           "Point", "Refused", "Shocks", "Valuation", "Verdict", "__version__", "rates_part", "refusal", "value"]
 
 #: The terms of the curve are 1 to this, in years.
 TERMS = 120
-
-#: The longest accepted file has so many bytes. Of a longer one, the first FILE_BYTES + 1 decide the refusal.
-FILE_BYTES = 9223
-
-
-class Refused(Exception):
-    """A case file that document 01 refuses; `number` is its refusal, and the text says what is wrong."""
-
-    def __init__(self, number: int) -> None:
-        super().__init__(f"refused, {number}: {SENTENCES.get(number, NO_REFUSAL)}")
-        self.number = number
-
-    def __reduce__(self) -> tuple[type, tuple[int]]:
-        return type(self), (self.number,)
 
 
 class Verdict(Enum):
@@ -156,7 +147,7 @@ class Valuation:
 
         In a valuation that the caller made, a point is blank also where an end is above 2^53, which a double need not hold.
         """
-        _require_int(number, "a point's number")
+        _given.require_int(number, "a point's number")
         if len(self.factors) != TERMS:
             raise ValueError(f"a valuation has {TERMS} factors, not {len(self.factors)}")
         ends = [end for factor in self.factors for end in _unsigned_ends(factor)]
@@ -169,7 +160,7 @@ class Valuation:
 
 def value(data: bytes) -> Valuation:
     """The valuation of a case file; raises Refused with document 01's number where it has one."""
-    file = _bytes(data)
+    file = _given.file_bytes(data)
     factors, rates = (_c.c_uint64 * _c.ENTRIES)(), (_c.c_int64 * _c.ENTRIES)()
     answer = _c.engine().value(file, len(file), factors, len(factors), rates, len(rates))
     if answer.refusal:
@@ -180,39 +171,18 @@ def value(data: bytes) -> Valuation:
     return Valuation(_brackets(factors), _brackets(rates), figures, Verdict(answer.verdict))
 
 
-def refusal(data: bytes) -> int:
-    """The number that a case file is refused with, 1 to 12; 0 where it is accepted."""
-    file = _bytes(data)
-    return int(_c.engine().refusal(file, len(file)))
-
-
 def rates_part(data: bytes) -> bytes:
     """The part of an accepted case file that holds the zero rates, 120 bytes for each day; raises Refused."""
-    file = _bytes(data)
-    number = refusal(file)
-    if number:
-        raise Refused(number)
+    file = _given.accepted(data)
     part = _c.engine().rates_part(file, len(file))
     return file[part.offset:part.offset + part.length]
 
 
-def _bytes(data: bytes) -> bytes:
-    """The file as bytes; a bytearray or a memoryview serves as well, a text or a number does not."""
-    if not isinstance(data, (bytes, bytearray, memoryview)):
-        raise TypeError(f"a case file is bytes, not {type(data).__name__}")
-    return bytes(data)
-
-
 def _place(term: int) -> int:
-    _require_int(term, "a term")
+    _given.require_int(term, "a term")
     if not 1 <= term <= TERMS:
         raise ValueError(f"a term is 1 to {TERMS}, not {term}")
     return term - 1
-
-
-def _require_int(number: int, what: str) -> None:
-    if isinstance(number, bool) or not isinstance(number, int):
-        raise TypeError(f"{what} is an int, not {type(number).__name__}")
 
 
 def _brackets(entries: Sequence[int]) -> tuple[Bracket, ...]:
@@ -227,7 +197,7 @@ def _ends(bracket: Bracket) -> list[int]:
 def _unsigned_ends(bracket: Bracket) -> list[int]:
     """The ends as the engine takes them. A caller may have made the bracket, and ctypes cuts numbers without a word."""
     for end in _ends(bracket):
-        _require_int(end, "an end of a bracket")
+        _given.require_int(end, "an end of a bracket")
         if not 0 <= end < 2 ** 64:
             raise ValueError(f"an end of a bracket is 0 to 2^64 - 1, not {end}")
     return _ends(bracket)

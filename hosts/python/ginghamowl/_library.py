@@ -4,11 +4,15 @@ The library is loaded at the first call and not at the import, so that a program
 """
 
 import os
-from ctypes import CDLL, POINTER, Structure, c_char_p, c_double, c_int64, c_size_t, c_uint8, c_uint64
+from ctypes import CDLL, POINTER, Structure, c_char_p, c_double, c_int32, c_int64, c_size_t, c_uint8, c_uint64
 from functools import cache
 from pathlib import Path
 from typing import Any, NamedTuple
 
+#: The longest accepted file has so many bytes. Of a longer one, the first FILE_BYTES + 1 decide the refusal.
+FILE_BYTES = 9223
+
+DAY_RATES = 60
 ENTRIES = 240
 LISTING_BYTES = 512
 
@@ -37,6 +41,28 @@ class HostPoint(Structure):
     _fields_ = [("kind", c_uint8), ("lower", c_double), ("upper", c_double)]
 
 
+class HostAmounts(Structure):
+    _fields_ = [(name, c_uint64) for name in "mature emerging private_equity property commodities credit cash currency".split()]
+
+
+class HostShocks(Structure):
+    _fields_ = [(name, c_uint64) for name in (
+        "up_shift down_shift mature_fall emerging_fall private_fall property_fall "
+        "currency_fall commodities_fall spread_rise correlation spread duration").split()]
+
+
+class HostPeople(Structure):
+    _fields_ = [(name, c_uint64) for name in "heads pension_age mean_age".split()]
+
+
+class HostCaseFields(Structure):
+    _fields_ = [("ufr", c_uint64), ("amounts", HostAmounts), ("shocks", HostShocks), ("people", HostPeople)]
+
+
+class HostSaved(Structure):
+    _fields_ = [("refusal", c_uint8), ("written", c_size_t)]
+
+
 class Engine(NamedTuple):
     """The functions of ginghamowl.h, without the name's beginning."""
 
@@ -45,17 +71,20 @@ class Engine(NamedTuple):
     rates_part: Any
     window_point: Any
     listing: Any
+    save: Any
 
 
 _FILE = c_char_p, c_size_t  # a pointer to the bytes themselves: zeros in them are as good as any other byte
-_FACTORS = POINTER(c_uint64), c_size_t
+_FACTORS = _FLOWS = POINTER(c_uint64), c_size_t
+_OUT = POINTER(c_uint8), c_size_t
 
 _RESULT_AND_ARGUMENTS: dict[str, tuple[Any, ...]] = {
     "value": (HostValuation, *_FILE, *_FACTORS, POINTER(c_int64), c_size_t),
     "refusal": (c_uint8, *_FILE),
     "rates_part": (HostPart, *_FILE),
     "window_point": (HostPoint, c_uint64, *_FACTORS, HostFigures),
-    "listing": (c_size_t, HostValuation, POINTER(c_uint8), c_size_t),
+    "listing": (c_size_t, HostValuation, *_OUT),
+    "save": (HostSaved, HostCaseFields, POINTER(c_int32), c_size_t, *_FLOWS, *_FLOWS, *_OUT),
 }
 
 

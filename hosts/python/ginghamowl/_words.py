@@ -3,16 +3,16 @@
 Written by hosts/words from hosts/words.toml and VERSION: change those, and run it.
 """
 
-VERSION = "0.3.0"
+VERSION = "0.4.0"
 
 NO_REFUSAL = "no refusal has this number"
 
-#: What is wrong with a file that is refused with a number, and document 01's limit.
+#: What is wrong with a file or a case that is refused with a number, and its limit.
 SENTENCES: dict[int, str] = {
     1: "the file is too short; its map, and each field that the map announces, must be whole",
     2: "bytes follow the last field; the file must end there",
     3: "the map has a wrong bit; bits 1, 2, 5 and 6 must be set, and bits 7 to 15 must not",
-    4: "the number of days is out of limits; it must be 1 to 70",
+    4: "the number of days is out of limits; it must be 1 to 70, with 60 rates each",
     5: "a zero rate is out of limits; each must be -1,000 to 10,000 steps of 0.00001, -1 % to 10 %",
     6: "a one-year forward rate is out of limits; t x s(t) - (t - 1) x s(t-1), with s(t) the sum of term t's "
         "rates over the n days, must be -2,000 x n to 12,000 x n steps at each term, -2 % to 12 %",
@@ -27,6 +27,8 @@ SENTENCES: dict[int, str] = {
     12: "the head count or an age is out of limits; heads must be 1 to 1,000,000, and ages at most 1,200 "
         "months",
     13: "a lent buffer is too short; the buffers for factors and for rates must have at least 240 entries",
+    14: "the lent buffer is too short for the case; it must have at least as many bytes as the case's "
+        "shortest file",
 }
 
 #: The verdicts as document 01 writes them.

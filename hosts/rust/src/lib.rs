@@ -1,8 +1,9 @@
 //! The valuation of one pension fund from one case file, every figure proved.
 //!
 //! "Document 01" is "The UFR curve and the solvency verdict of one fund": it says what a case file is, what each figure
-//! means and what each refusal is. This crate wraps the functions of `include/ginghamowl.h`; it is safe to call with any
-//! bytes, and depends on nothing but the standard library and the engine's archive.
+//! means and what each refusal is. "Document 02" has the requests that came later; saving a case is its request One. This
+//! crate wraps the functions of `include/ginghamowl.h`; it is safe to call with any bytes and numbers, and depends on
+//! nothing but the standard library and the engine's archive.
 //!
 //! ```
 //! match ginghamowl::value(b"") {
@@ -14,9 +15,11 @@
 use std::error::Error;
 use std::fmt;
 
+mod case;
 mod raw;
 mod words;
 
+pub use case::{Amounts, Case, People, Shocks};
 pub use words::{refusal_sentence, verdict_sentence, verdict_word};
 
 /// The version of this crate, which is that of the repository.
@@ -24,6 +27,9 @@ pub const VERSION: &str = env!("CARGO_PKG_VERSION");
 
 /// The longest accepted file has so many bytes. Of a longer one, the first `FILE_BYTES + 1` decide the refusal.
 pub const FILE_BYTES: usize = 9223;
+
+/// A day of a case has the zero rates of the terms 1 to this.
+pub const DAY_RATES: usize = 60;
 
 /// The terms of the curve, in years, are 1 to this.
 pub const TERMS: usize = 120;
@@ -63,7 +69,7 @@ pub enum Verdict {
     Onbeslist = 4,
 }
 
-/// Why a file is refused, by document 01's numbers.
+/// Why a file or a case is refused, by document 01's numbers; 14 is document 02's.
 #[derive(Clone, Copy, Debug, PartialEq, Eq)]
 #[repr(u8)]
 pub enum Refusal {
@@ -80,6 +86,7 @@ pub enum Refusal {
     Shock = 11,
     People = 12,
     Buffer = 13,
+    SavedBuffer = 14,
 }
 
 /// The money figures and the verdict of an accepted file.
@@ -240,7 +247,7 @@ impl fmt::Display for Verdict {
 
 impl Refusal {
     /// Every refusal, by its number from 1 on.
-    pub const ALL: [Refusal; 13] = [
+    pub const ALL: [Refusal; 14] = [
         Refusal::EndsEarly,
         Refusal::BytesFollow,
         Refusal::Map,
@@ -254,14 +261,15 @@ impl Refusal {
         Refusal::Shock,
         Refusal::People,
         Refusal::Buffer,
+        Refusal::SavedBuffer,
     ];
 
-    /// Document 01's number.
+    /// The number in document 01, or in document 02.
     pub fn number(self) -> u8 {
         self as u8
     }
 
-    /// What is wrong, and document 01's limit.
+    /// What is wrong, and the limit.
     pub fn sentence(self) -> &'static str {
         refusal_sentence(self.number())
     }
@@ -275,7 +283,7 @@ impl Refusal {
     }
 }
 
-/// The number, what is wrong, and document 01's limit.
+/// The number, what is wrong, and the limit.
 impl fmt::Display for Refusal {
     fn fmt(&self, f: &mut fmt::Formatter<'_>) -> fmt::Result {
         write!(f, "refused, {}: {}", self.number(), self.sentence())

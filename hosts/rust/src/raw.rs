@@ -1,5 +1,5 @@
 //! include/ginghamowl.h for Rust.
-use crate::{Bracket, Figures, Judged, Refusal};
+use crate::{Amounts, Bracket, Figures, Judged, People, Refusal, Shocks};
 
 pub const LISTING_BYTES: usize = 512;
 
@@ -46,6 +46,21 @@ pub struct HostPoint {
     pub upper: f64,
 }
 
+/// The three records have the header's layout themselves.
+#[repr(C)]
+pub struct HostCaseFields {
+    pub ufr: u64,
+    pub amounts: Amounts,
+    pub shocks: Shocks,
+    pub people: People,
+}
+
+#[repr(C)]
+pub struct HostSaved {
+    pub refusal: u8,
+    pub written: usize,
+}
+
 extern "C" {
     pub fn ginghamowl_value(
         file: *const u8,
@@ -64,6 +79,17 @@ extern "C" {
         figures: HostFigures,
     ) -> HostPoint;
     pub fn ginghamowl_listing(valuation: HostValuation, out: *mut u8, out_length: usize) -> usize;
+    pub fn ginghamowl_save(
+        fields: HostCaseFields,
+        rates: *const i32,
+        rates_length: usize,
+        pension: *const u64,
+        pension_length: usize,
+        bonds: *const u64,
+        bonds_length: usize,
+        out: *mut u8,
+        out_length: usize,
+    ) -> HostSaved;
 }
 
 impl From<HostBracket> for Bracket<u64> {

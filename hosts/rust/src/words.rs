@@ -1,14 +1,14 @@
 //! The refusals and the verdicts in words.
 //! Written by hosts/words from hosts/words.toml and VERSION: change those, and run it.
 
-/// What is wrong with a file that is refused with this number, and document 01's limit.
+/// What is wrong with a file or a case that is refused with this number, and its limit.
 #[rustfmt::skip]
 pub fn refusal_sentence(number: u8) -> &'static str {
     match number {
         1 => "the file is too short; its map, and each field that the map announces, must be whole",
         2 => "bytes follow the last field; the file must end there",
         3 => "the map has a wrong bit; bits 1, 2, 5 and 6 must be set, and bits 7 to 15 must not",
-        4 => "the number of days is out of limits; it must be 1 to 70",
+        4 => "the number of days is out of limits; it must be 1 to 70, with 60 rates each",
         5 => "a zero rate is out of limits; each must be -1,000 to 10,000 steps of 0.00001, -1 % to 10 %",
         6 => "a one-year forward rate is out of limits; t x s(t) - (t - 1) x s(t-1), with s(t) the sum of term t's rates over the n days, must be -2,000 x n to 12,000 x n steps at each term, -2 % to 12 %",
         7 => "the number of flows is out of limits; there must be 1 to 120 pension flows, and 1 to 60 bond flows where their bit is set",
@@ -18,6 +18,7 @@ pub fn refusal_sentence(number: u8) -> &'static str {
         11 => "a shock is out of limits; shifts must be at most 1,000 steps, falls, spread rise and correlation at most 1,000 thousandths, the credit spread at most 10,000 steps and the credit duration at most 500 tenths of a year",
         12 => "the head count or an age is out of limits; heads must be 1 to 1,000,000, and ages at most 1,200 months",
         13 => "a lent buffer is too short; the buffers for factors and for rates must have at least 240 entries",
+        14 => "the lent buffer is too short for the case; it must have at least as many bytes as the case's shortest file",
         _ => "no refusal has this number",
     }
 }

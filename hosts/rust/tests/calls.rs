@@ -1,8 +1,8 @@
 //! Calls with buffers and files of every kind, and the example files of cases/, whose numbers are those of
 //! tests/reference.py.
 use ginghamowl::{
-    listing, rates_part, refusal, refusal_sentence, value, value_into, verdict_word, window_point, Bracket, Judged,
-    Point, Refusal, Verdict, ENTRIES, FILE_BYTES, VERSION,
+    listing, rates_part, refusal, refusal_sentence, value, value_into, verdict_word, window_point, Amounts, Bracket,
+    Case, Judged, People, Point, Refusal, Shocks, Verdict, DAY_RATES, ENTRIES, FILE_BYTES, VERSION,
 };
 use std::fs;
 use std::path::PathBuf;
@@ -146,12 +146,168 @@ fn listings() {
     assert_eq!(listing(Err(Refusal::Buffer)), "R 13\n");
 }
 
+/// The case of file C1.
+fn c1_case() -> Case {
+    Case {
+        ufr: 4_200,
+        days: vec![[0; DAY_RATES]],
+        pension: vec![1_000_000],
+        bonds: vec![],
+        amounts: Amounts { cash: 1_100_000, ..Amounts::default() },
+        shocks: Shocks {
+            up_shift: 0,
+            down_shift: 0,
+            mature_fall: 0,
+            emerging_fall: 0,
+            private_fall: 0,
+            property_fall: 0,
+            currency_fall: 0,
+            commodities_fall: 0,
+            spread_rise: 0,
+            correlation: 0,
+            spread: 0,
+            duration: 0,
+        },
+        people: People { heads: 100, pension_age: 780, mean_age: 460 },
+    }
+}
+
+/// The case `up` of tests/examples.py, whose numbers are all unlike; but for its days.
+fn up_case(days: Vec<[i32; DAY_RATES]>) -> Case {
+    Case {
+        ufr: 4_321,
+        days,
+        pension: vec![31_415_927, 27_182_818, 16_180_339],
+        bonds: vec![9_876_543, 0, 45_678_912, 0, 34_567_891],
+        amounts: Amounts {
+            mature: 1_234_567,
+            emerging: 765_433,
+            private_equity: 543_211,
+            property: 987_659,
+            commodities: 321_987,
+            credit: 654_321,
+            cash: 111_213,
+            currency: 61_718_191,
+        },
+        shocks: Shocks {
+            up_shift: 320,
+            down_shift: 180,
+            mature_fall: 251,
+            emerging_fall: 353,
+            private_fall: 307,
+            property_fall: 149,
+            currency_fall: 457,
+            commodities_fall: 349,
+            spread_rise: 509,
+            correlation: 401,
+            spread: 2_345,
+            duration: 73,
+        },
+        people: People { heads: 1_237, pension_age: 804, mean_age: 541 },
+    }
+}
+
+#[test]
+fn cases_by_their_fields() {
+    assert_eq!(Case::read(&file("c1")), Ok(c1_case()));
+    assert_eq!(c1_case().save(), Ok(file("c1")));
+    let up = Case::read(&file("up")).unwrap();
+    assert_eq!(up, up_case(up.days.clone()));
+    assert_eq!((up.days.len(), up.days[0][0], up.days[1][59], up.days[2][59]), (3, 206, 751, 542));
+    assert_eq!(up.save(), Ok(file("up")));
+    assert_eq!(Case::read(&file("c4")).unwrap().days, [[-1_000; DAY_RATES]]);
+}
+
+/// Each example is read and saved; what was saved holds the same case, is worth the same and is no longer.
+#[test]
+fn stored_cases_saved() {
+    for (name, file, _) in cases() {
+        let read = Case::read(&file);
+        assert_eq!(read.as_ref().err(), refusal(&file).as_ref(), "{name}");
+        if let Ok(case) = read {
+            let saved = case.save().unwrap();
+            assert!(saved.len() <= file.len(), "{name}");
+            assert_eq!(Case::read(&saved), Ok(case), "{name}");
+            assert_eq!(value(&saved), value(&file), "{name}");
+        }
+    }
+    assert_eq!(Case::read(&file("largest")).unwrap().save().unwrap().len(), FILE_BYTES);
+}
+
+#[test]
+fn fields_left_out() {
+    let mut case = c1_case();
+    case.amounts.cash = 0;
+    let shortest = case.save().unwrap();
+    assert_eq!((shortest.len(), shortest[1]), (160, 0x66));
+    case.ufr = 4_201;
+    case.bonds = vec![0];
+    case.amounts.currency = 1;
+    let whole = case.save().unwrap();
+    assert_eq!((whole.len(), whole[1]), (160 + 2 + 5 + 64, 0x7f));
+    assert_eq!(Case::read(&whole), Ok(case));
+
+    let mut longer = shortest.clone(); // the same case with a UFR of 4,200 and amounts of 0 written out
+    longer[1] = 0x77;
+    longer.splice(128..128, [0; 64]);
+    longer.splice(2..2, [0x10, 0x68]);
+    assert_eq!(Case::read(&longer).unwrap().save(), Ok(shortest));
+}
+
+/// A refusal, and what brings a case to it.
+type Fault = (u8, fn(&mut Case));
+
+/// A fault of each kind in the order of the checks. Of two, the first is given.
+#[test]
+fn refused_cases() {
+    let faults: [Fault; 13] = [
+        (9, |case| case.ufr = 5_001),
+        (4, |case| case.days.resize(71, [0; DAY_RATES])),
+        (4, |case| case.days.clear()),
+        (5, |case| case.days.iter_mut().for_each(|day| day[59] = 65_536)),
+        (7, |case| case.pension.clear()),
+        (8, |case| case.pension.push(1 << 32)),
+        (7, |case| case.bonds = vec![0; 61]),
+        (8, |case| case.bonds.push(u64::MAX)),
+        (10, |case| case.amounts.private_equity = 100_000_000_001),
+        (11, |case| case.shocks.duration = 501),
+        (12, |case| case.people.mean_age = 1_201),
+        (12, |case| case.people.heads = 0),
+        (6, |case| case.days.iter_mut().for_each(|day| day[58] = 10_000)),
+    ];
+    for (first, (number, spoil)) in faults.iter().enumerate() {
+        for (_, spoil_again) in &faults[first..] {
+            let mut case = c1_case();
+            spoil_again(&mut case);
+            spoil(&mut case);
+            assert_eq!(case.save().unwrap_err().number(), *number);
+            assert_eq!(case.save_into(&mut []).unwrap_err().number(), *number);
+        }
+    }
+}
+
+#[test]
+fn saving_into_buffers() {
+    let c1 = file("c1");
+    for room in [0, 1, 223, 224, 225, 1000] {
+        let mut out = vec![7; room];
+        let answer = c1_case().save_into(&mut out);
+        if room < c1.len() {
+            assert_eq!(answer, Err(Refusal::SavedBuffer));
+            assert!(out.iter().all(|&byte| byte == 7));
+        } else {
+            assert_eq!((answer, &out[..224]), (Ok(224), &c1[..]));
+            assert!(out[224..].iter().all(|&byte| byte == 7));
+        }
+    }
+}
+
 #[test]
 fn words_and_version() {
     let repository = PathBuf::from(env!("CARGO_MANIFEST_DIR")).join("../..");
     assert_eq!(VERSION, fs::read_to_string(repository.join("VERSION")).unwrap().trim());
     assert_eq!(
-        (refusal_sentence(0), refusal_sentence(14)),
+        (refusal_sentence(0), refusal_sentence(15)),
         ("no refusal has this number", "no refusal has this number")
     );
     assert_eq!((verdict_word(3), verdict_word(5)), ("VRIJ VERMOGEN", "no verdict has this number"));

@@ -1,23 +1,22 @@
 -- The checks that the code goes through are those of the fields that the case's shortest file has, in their order: a field that is left
 -- out would pass its checks. So the number after the last is the case's refusal. Assumes nothing.
-use Prim.Native.Nat.{ℕ, zero, suc, _*_, _≤_, _<_}
-use mathlib.Core.Path.{_≡_, refl, ap, sym, _∙_, subst}
+use Prim.Native.Nat.{ℕ, zero, suc}
+use mathlib.Core.Path.{_≡_, refl, ap, sym, _∙_}
 use mathlib.Core.Bool.{Bool, true, false, _&&_, cond}
 use mathlib.Core.List.{List, [], _∷_, _++_}
 use native.Mathlib.Omega.{arith}
 use borrow.Author.Tests.{le-leb, lt-ltb}
-use lib.Dec.{T, leb, ltb}
+use lib.Dec.{leb, ltb}
 use lib.ListN.{length}
-use lib.IntN.{ℤ}
 use Rattle.model.specs.Case.{FileCase}
-use Rattle.model.specs.Fields.{Check, within, numberOf, field, rightAll}
-use Rattle.model.specs.Layout.{flow, amounts, noAmounts, shocks, people, layout, partsOf}
+use Rattle.model.specs.Fields.{Check, within, rightAll}
+use Rattle.model.specs.Layout.{flow, amounts, shocks, people, layout, partsOf}
 use Rattle.model.specs.Refusals.{firstOf, forwardsRight}
-use Rattle.model.specs.Saving.{daysIn, daysOf, needed, caseChecks, caseRefusal}
+use Rattle.model.specs.Saving.{needed, caseChecks, caseRefusal}
 use Rattle.model.specs.inner.Positions.{day, ufrField, daysField, pensionField, bondsField, amountsField}
 use Rattle.theory.proofs.acceptance.Checks.{Hold, hold-parts, none-hold, after-none, after-some}
 use Rattle.theory.proofs.acceptance.Within.{layout-limited}
-use Rattle.theory.proofs.general.Lists.{_also_, and-second}
+use Rattle.theory.proofs.general.Lists.{_also_}
 use Rattle.theory.proofs.saving.Saved.{agrees-needed}
 use Rattle.checks.specs.inner.After.{after, afterAll}
 use Rattle.checks.proofs.order.Kept.{first-after, then}

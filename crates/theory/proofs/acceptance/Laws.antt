@@ -11,7 +11,7 @@ use native.Mathlib.Omega.{arith}
 use borrow.Author.Tests.{le-leb, leb-true, eqb-true, eq-eqb}
 use lib.Dec.{T, leb, eqb}
 use lib.ListN.{length, getD, drop, length-append}
-use Rattle.model.specs.Numbers.{number, bytesOf, Bytes}
+use Rattle.model.specs.Numbers.{bytesOf, Bytes}
 use Rattle.model.specs.Fields.{within, Fixed, numberOf, pairOf, bytesAll, valueAll, rightAll, several, named}
 use Rattle.model.specs.Fields.{Field, field, counted, optional, _then_}
 use Rattle.theory.proofs.general.Lists.{_also_, and-first, and-second, and-both}

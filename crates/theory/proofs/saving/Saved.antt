@@ -2,7 +2,7 @@
 -- bytes are read as the same case; two cases have the same bytes exactly when they are equal; no file of the case is shorter; and 14 is
 -- given exactly where the case is within the limits and the buffer is too short.
 use mathlib.Core.Path.{_≡_, refl, ap, sym, _∙_, subst}
-use mathlib.Core.Bool.{Bool, true, false, _&&_, not, cond}
+use mathlib.Core.Bool.{Bool, true, false}
 use mathlib.Core.List.{List, [], _∷_, _++_}
 use Prim.Native.Nat.{ℕ, zero, suc, _+_, _≤_, _<_}
 use native.Mathlib.Omega.{arith}
@@ -17,11 +17,10 @@ use Rattle.model.specs.Fields.{Check, Field, numberOf, field, counted, optional
 use Rattle.model.specs.Layout.{flow, amountsFrom, amountsInOrder, amounts, noAmounts, shocks, people, Present, mapOf, layout, partsOf}
 use Rattle.model.specs.Layout.{fileOf, caseOf, Agrees, Keeps}
 use Rattle.model.specs.inner.Positions.{ufrField, daysField, pensionField, bondsField, amountsField}
-use Rattle.model.specs.declared.case.Amounts.{Amounts}
 use Rattle.model.specs.Refusals.{firstOf, forwardsRight, refusal}
 use Rattle.model.specs.Saving.{allZero, needed, shortest, caseChecks, caseRefusal, saveRefusal}
 use Rattle.theory.proofs.general.Lists.{and-first, and-second, _also_}
-use Rattle.theory.proofs.acceptance.Checks.{Hold, numbered, numbered-append, hold-append, hold-parts, none-hold, hold-none, after-none, after-some}
+use Rattle.theory.proofs.acceptance.Checks.{numbered, numbered-append, hold-append, hold-parts, none-hold, hold-none, after-none, after-some}
 use Rattle.theory.proofs.acceptance.Checks.{below, first-below}
 use Rattle.theory.proofs.acceptance.Encoding.{length-bytes}
 use Rattle.theory.proofs.acceptance.Within.{forwards-true, forwards-test, PartsWithin, PartsLimited, layout-limited, parts-limits, limits-parts}

@@ -1,7 +1,6 @@
 -- `given::order::case_check` meets its contract: each number is that after the checks of a field, and 6 is tested on sums that are those
 -- of the days where no check before it fails. Assumes nothing.
-use Prim.Native.Nat.{ℕ}
-use mathlib.Core.Path.{_≡_, ap, sym, _∙_}
+use mathlib.Core.Path.{ap, sym, _∙_}
 use native.Mathlib.Omega.{arith}
 use borrow.Author.Needs.{needs}
 use Rattle.model.specs.Saving.{given}

@@ -6,7 +6,6 @@ it, the reference reads the case from it, and of some the engine's valuation is 
 difference, or if one of the refusals 4 to 12 and 14 was not seen.
 """
 
-import ctypes
 import glob
 import os
 import random
@@ -14,97 +13,32 @@ import reprlib
 import struct
 import sys
 from collections import Counter
-from ctypes import Structure, c_char_p, c_int32, c_int64, c_size_t, c_uint8, c_uint64
-from types import SimpleNamespace
+from ctypes import c_int64, c_uint8, c_uint64
 
 import files
 import programs
 import reference
 import to_save
-from reference import AMOUNTS, SHOCKS, Refusal, Saved, encode
+from library import HandedIn, loaded
+from reference import SHOCKS, Refusal, Saved, encode
 
 SEED = 14
 REFUSALS = [*range(4, 13), 14]
-LIBRARY = "hosts/target/libginghamowl.so"
 GUARD = 32  # so many bytes on each side of the lent buffer are compared with it
 ENTRIES = 242  # of a lent buffer for factors or rates: two more than are written
 VALUED = 10  # every so many cases whose file was shortened are valued
 SHOWN = 5  # so many differences of a kind are printed
 
 
-# ---------------------------------------------------------------- the engine, as in include/ginghamowl.h
-
-class HostAmounts(Structure):
-    _fields_ = [(name, c_uint64) for name in AMOUNTS]
-
-
-class HostShocks(Structure):
-    _fields_ = [(name, c_uint64) for name in SHOCKS]
-
-
-class HostPeople(Structure):
-    _fields_ = [(name, c_uint64) for name in ("heads", "pension_age", "mean_age")]
-
-
-class HostFields(Structure):
-    _fields_ = [("ufr", c_uint64), ("amounts", HostAmounts), ("shocks", HostShocks), ("people", HostPeople)]
-
-
-class HostSaved(Structure):
-    _fields_ = [("refusal", c_uint8), ("written", c_size_t)]
-
-
-class HostPart(Structure):
-    _fields_ = [("offset", c_size_t), ("length", c_size_t)]
-
-
-class HostValuation(Structure):
-    _fields_ = [("refusal", c_uint8), ("verdict", c_uint8), ("figures", c_uint64 * 20)]
-
-
-def lent(kind):
-    return ctypes.POINTER(kind), c_size_t
-
-
-FILE = c_char_p, c_size_t
-FUNCTIONS = {  # by name: the result, then the arguments
-    "save": (HostSaved, HostFields, *lent(c_int32), *lent(c_uint64), *lent(c_uint64), *lent(c_uint8)),
-    "refusal": (c_uint8, *FILE),
-    "rates_part": (HostPart, *FILE),
-    "value": (HostValuation, *FILE, *lent(c_uint64), *lent(c_int64)),
-}
-
-
-def loaded():
-    """The functions of the shared library."""
-    path = os.path.join(programs.ROOT, LIBRARY)
-    if not os.path.exists(path):
-        sys.exit(f"{LIBRARY} is missing: hosts/build makes it")
-    library, engine = ctypes.CDLL(path), SimpleNamespace()
-    for name, (result, *arguments) in FUNCTIONS.items():
-        if not hasattr(library, f"ginghamowl_{name}"):
-            sys.exit(f"{LIBRARY} is an old one, without ginghamowl_{name}: hosts/build makes it")
-        function = getattr(library, f"ginghamowl_{name}")
-        function.restype, function.argtypes = result, arguments
-        setattr(engine, name, function)
-    return engine
-
-
-def fields_of(given):
-    return HostFields(given.ufr, HostAmounts(**given.amounts), HostShocks(**given.shocks),
-                      HostPeople(given.heads, given.pension_age, given.mean_age))
-
+# ---------------------------------------------------------------- the engine
 
 def save(engine, given, memory):
     """Has the engine save a case into memory, of which GUARD bytes at each end are not lent. Its answer, with the whole memory, and
     whether the lists that were handed in are as before."""
-    lists = [(kind * len(values))(*values) for kind, values in (
-        (c_int32, given.rates), (c_uint64, given.pension), (c_uint64, given.bonds))]
-    before, memory = [bytes(one) for one in lists], bytearray(memory)
+    handed_in, memory = HandedIn(given), bytearray(memory)
     out = (c_uint8 * (len(memory) - 2 * GUARD)).from_buffer(memory, GUARD)
-    handed_in = [argument for one in lists for argument in (one or None, len(one))]  # NULL where the length is 0
-    answer = engine.save(fields_of(given), *handed_in, out, len(out))
-    return Saved(answer.refusal, answer.written, bytes(memory)), [bytes(one) for one in lists] == before
+    answer = engine.save(*handed_in.arguments, out, len(out))
+    return Saved(answer.refusal, answer.written, bytes(memory)), handed_in.kept()
 
 
 def valued(engine, data):
@@ -291,4 +225,4 @@ def main(engine, quick):
 
 if __name__ == "__main__":
     quick = programs.asked("--quick")
-    main(loaded(), quick)
+    main(loaded("save", "refusal", "rates_part", "value"), quick)

@@ -102,8 +102,12 @@ def check_day_count(n):
     refuse_unless(1 <= n <= 70, 4)
 
 
+def rates_within_limits(rates):
+    return all(-1_000 <= rate <= 10_000 for rate in rates)
+
+
 def check_rates(rates):
-    refuse_unless(all(-1_000 <= rate <= 10_000 for rate in rates), 5)
+    refuse_unless(rates_within_limits(rates), 5)
 
 
 def check_flow_count(count, most):

@@ -14,8 +14,9 @@ import compare_save
 import files
 import reference
 import to_save
-from compare_save import GUARD, Comparison, HostPart, HostSaved, HostValuation
-from reference import AMOUNTS, SHOCKS, Given, Refusal, Saved, encode
+from compare_save import GUARD, Comparison
+from library import HostPart, HostSaved, HostValuation, given_from
+from reference import Refusal, Saved, encode
 
 
 class Fake:
@@ -24,12 +25,9 @@ class Fake:
     def __init__(self, saving):
         self.saving = saving
 
-    def save(self, fields, rates, rates_length, pension, pension_length, bonds, bonds_length, out, out_length):
-        people = fields.people
-        given = Given(fields.ufr, list(rates or []), list(pension or []), list(bonds or []),
-                      {name: getattr(fields.amounts, name) for name in AMOUNTS},
-                      {name: getattr(fields.shocks, name) for name in SHOCKS}, people.heads, people.pension_age, people.mean_age)
-        refusal, written, after = self.saving(given, bytes(out))
+    def save(self, *arguments):
+        *case, out, out_length = arguments
+        refusal, written, after = self.saving(given_from(*case), bytes(out))
         ctypes.memmove(ctypes.addressof(out), after, min(len(after), out_length + GUARD))
         return HostSaved(refusal, written)
 

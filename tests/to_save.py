@@ -177,22 +177,22 @@ def spoiled(given, faults):
     return given
 
 
-def two_faults(given):
+def two_faults(given, faults=FAULTS):
     """Every pair of faults that two checks find."""
-    return [spoiled(given, [first, second]) for at, (_, ways) in enumerate(FAULTS) for first in ways
-            for _, later in FAULTS[at + 1:] for second in later]
+    return [spoiled(given, [first, second]) for at, (_, ways) in enumerate(faults) for first in ways
+            for _, later in faults[at + 1:] for second in later]
 
 
-def several_faults(rng, given):
+def several_faults(rng, given, faults=FAULTS):
     """Faults that three to six checks find."""
-    chosen = sorted(rng.sample(range(len(FAULTS)), rng.randint(3, 6)))
-    return spoiled(given, [rng.choice(FAULTS[at][1]) for at in chosen])
+    chosen = sorted(rng.sample(range(len(faults)), rng.randint(3, 6)))
+    return spoiled(given, [rng.choice(faults[at][1]) for at in chosen])
 
 
-def order_rows():
+def order_rows(given=SMALL, faults=FAULTS):
     """Two faults each, of checks that follow each other: the first that applies is given."""
-    for (first, ways), (second, later) in zip(FAULTS, FAULTS[1:]):
-        yield f"{first} before {second}", spoiled(SMALL, [ways[0], later[0]])
+    for (first, ways), (second, later) in zip(faults, faults[1:]):
+        yield f"{first} before {second}", spoiled(given, [ways[0], later[0]])
 
 
 # ---------------------------------------------------------------- what is left out

@@ -87,6 +87,26 @@ def given_term(case):
     return " ".join(["given", *map(argument, (fields, *lists))])
 
 
+def day_or_name(day, names):
+    """The 60 rates of a day by their name, if they have one."""
+    return names.get(tuple(day)) or list_term(day, integer)
+
+
+def ring_term(rates, names):
+    """The rates of a ring of slots. Those of a slot by their name, if they have one; all others in a row are written as one list."""
+    slots = [rates[at:at + 60] for at in range(0, len(rates), 60)]
+    parts = []
+    for name, run in groupby(slots, lambda slot: names.get(tuple(slot))):
+        parts += [name for _ in run] if name else [list_term(sum(run, []), integer)]
+    return " ++ ".join(parts)
+
+
+def window_term(window, names):
+    """A rolling window; `windowOf` takes its numbers in order. names: of days, as tuples."""
+    rates, sums = argument(ring_term(window.rates, names)), argument(day_or_name(window.sums, names))
+    return f"windowOf {window.count} {window.start} {rates} {sums}"
+
+
 def record(fields, indent="  "):
     """A record literal, a field a line; fields is a list of (name, term)."""
     quoted = lambda name: f"«{name}»" if "_" in name else name

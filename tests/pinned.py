@@ -1,4 +1,4 @@
-"""Writes numbers of tests/reference.py as computed statements about the definitions, in six files (PATHS below).
+"""Writes numbers of tests/reference.py and tests/rolling.py as computed statements about the definitions, in eight files (PATHS below).
 
 Command line: python3 tests/pinned.py           writes the files
               python3 tests/pinned.py --check   ends with 1 if one of them is another
@@ -12,9 +12,11 @@ from types import SimpleNamespace
 import examples
 import limits
 import reference
+import rolling
 import to_save
-from antt import (PEOPLE, argument, both_ends, case_definition, computed, computed_fraction, definition, file_term, given_term, holds,
-                  integer, record, refusal, refuted, short_list)
+import windows
+from antt import (PEOPLE, argument, both_ends, case_definition, computed, computed_fraction, day_or_name, definition, file_term, given_term,
+                  holds, integer, list_term, record, refusal, refuted, short_list, window_term)
 from reference import AMOUNTS, LOWER, MONEY, SHOCKS, UPPER, Exact, ExactCurve, Rounded, encode
 
 ROOT = os.path.join(os.path.dirname(os.path.abspath(__file__)), "..")
@@ -102,14 +104,18 @@ FILES_HEAD = """\
 use Prim.Native.String.{String}
 use mathlib.Core.Path.{_≡_, refl}
 use mathlib.Core.List.{List, [], _∷_}
+use lib.ListN.{replicate, take}
 use lib.IntN.{pos, negℤ}
 use Rattle.arith.specs.Rounding.{low, high}
 use Rattle.model.specs.Curve.{up, down}
 use Rattle.model.specs.Rounded as Rounded
 use Rattle.model.specs.Buffers.{valuationOf}
+use Rattle.model.specs.Rolling.{windowRatesAfter}
 use Rattle.model.specs.Listing.{listing}
 use Rattle.model.proofs.Computing.{text, all}
 use Rattle.model.proofs.Pinned.{bentCurve, upFile, downFile, long}
+use Rattle.model.proofs.SavedCases.{small}
+use Rattle.model.proofs.RollingCases.{flatDays}
 """
 
 SAVED_HEAD = """\
@@ -128,6 +134,60 @@ use Rattle.model.specs.declared.case.Shocks.{Shocks}
 use Rattle.model.specs.declared.case.CaseFields.{CaseFields}
 use Rattle.model.specs.declared.saved.Saved.the-variants.{Written, Refused}
 use Rattle.model.proofs.Computing.{pairs, all}
+"""
+
+ROLLING_WRITTEN = WRITTEN.replace("tests/reference.py", "tests/rolling.py")
+
+ROLLING_HEAD = """\
+-- Rolling windows: which are right, the refusals of a change and of a valuation, the window after a change, and what a valuation leaves in
+-- the lent buffers, as computed statements about the definitions.
+""" + ROLLING_WRITTEN + """\
+use Prim.Native.Nat.{ℕ}
+use Prim.Native.String.{String}
+use mathlib.Core.Path.{_≡_, refl}
+use mathlib.Core.Bool.{true, false}
+use mathlib.Core.List.{List, [], _∷_, _++_, map}
+use lib.ListN.{replicate, take, drop}
+use lib.IntN.{ℤ, pos, negℤ}
+use Rattle.model.specs.Case.{FileCase}
+use Rattle.model.specs.Saving.{given}
+use Rattle.model.specs.Rolling.{
+  daysHeld,
+  emptyWindow,
+  windowRight,
+  addRefusal,
+  dropRefusal,
+  addDay,
+  dropDay,
+  add,
+  dropOldest,
+  changedBy,
+  queuedBy,
+  windowRefusal,
+  windowValuation,
+  windowFactorsAfter,
+  windowRatesAfter,
+}
+use Rattle.model.specs.Listing.{listing}
+use Rattle.model.specs.declared.rolling.RollingWindow.{RollingWindow}
+use Rattle.model.specs.declared.rolling.ChangedWindow.{ChangedWindow}
+use Rattle.model.proofs.Computing.{text, all}
+use Rattle.model.proofs.SavedCases.{amountsOf, shocksOf, fieldsOf, noAmounts, noShocks, small}
+"""
+
+ROLLING_TABLE_HEAD = """\
+-- The refusals of rolling windows that take longer to compute: the whole order of checks of a valuation, and a day added to 69.
+""" + ROLLING_WRITTEN + """\
+use Prim.Native.Nat.{ℕ}
+use mathlib.Core.Path.{_≡_, refl}
+use mathlib.Core.List.{List, [], _∷_, _++_}
+use lib.ListN.{replicate}
+use lib.IntN.{pos, negℤ}
+use Rattle.model.specs.Saving.{given}
+use Rattle.model.specs.Rolling.{addRefusal, windowRefusal}
+use Rattle.model.proofs.Computing.{all}
+use Rattle.model.proofs.SavedCases.{amountsOf, shocksOf, fieldsOf, noAmounts, noShocks, small}
+use Rattle.model.proofs.RollingCases.{windowOf, someDay, oneDayLeft, flatDays}
 """
 
 TITLES = {
@@ -431,6 +491,154 @@ def saved():
     return "\n".join([SAVED_HEAD, *makers(), *groups, *shortest_statements(), *buffer_statements()])
 
 
+# ---------------------------------------------------------------- crates/model/proofs/RollingCases.antt
+
+DAY_NAMES = {tuple(day): name for name, day in windows.DAYS.items()}
+
+
+def day_argument(day):
+    return argument(day_or_name(day, DAY_NAMES))
+
+
+def window_argument(window):
+    """By its name, if it has one."""
+    names = [name for name, one in windows.WINDOWS.items() if one == window] + ["emptyWindow"] * (window == rolling.EMPTY)
+    return names[0] if names else argument(window_term(window, DAY_NAMES))
+
+
+def case_argument(given):
+    return "small" if given == to_save.SMALL else argument(given_term(given))
+
+
+def window_definitions():
+    """The structs of a window and of a change, and the days and windows that have a name."""
+    return [maker("windowOf", ["ℕ", "ℕ", "List ℤ", "List ℤ", "RollingWindow"], list(zip(rolling.Window._fields, "abcd")),
+                  "count, start, rates and sums"),
+            maker("changedTo", ["ℕ", "RollingWindow", "ChangedWindow"], list(zip(rolling.Changed._fields, "ab")),
+                  "the refusal, or 0, and the window"),
+            *(definition(name, "List ℤ", list_term(day, integer)) for name, day in windows.DAYS.items()),
+            *(definition(name, "RollingWindow", window_term(window, DAY_NAMES)) for name, window in windows.WINDOWS.items())]
+
+
+def right_statements():
+    """What an empty window is, 27 or not, and the days held."""
+    rows = list(windows.right_rows())
+    told = short_list("false" if rolling.damaged(window) else "true" for _, window in rows)
+    held = short_list(map(day_argument, rolling.days_held(windows.OVER_THE_END)))
+    return [computed("empty-window", f"emptyWindow ≡ {window_term(rolling.EMPTY, DAY_NAMES)}"),
+            definition("windows", "List RollingWindow", listed([(what, window_argument(window)) for what, window in rows]),
+                       "At the limits of 27, on both sides; past a limit nothing else is wrong."),
+            computed("windows-right", f"map windowRight windows ≡ {told}"),
+            computed("days-held", f"daysHeld overTheEnd ≡ {held}")]
+
+
+def number_table(name, rows, what):
+    """Refusals that are computed; rows is a list of (what, term, number)."""
+    terms = listed([(row, term) for row, term, _ in rows])
+    return [definition(f"{name}Refusals", "List ℕ", terms, what),
+            computed(f"{name}-refusals", f"{name}Refusals ≡ {short_list(number for *_, number in rows)}")]
+
+
+def add_row(what, window, day):
+    return what, f"addRefusal {window_argument(window)} {day_argument(day)}", rolling.add(window, day).refusal
+
+
+def drop_row(what, window):
+    return what, f"dropRefusal {window_argument(window)}", rolling.drop(window).refusal
+
+
+def value_row(what, call):
+    refused = rolling.value(call.window, call.given, *([0] * length for length in call.lengths)).refusal
+    return what, f"windowRefusal {window_argument(call.window)} {case_argument(call.given)} {call.lengths[0]} {call.lengths[1]}", refused
+
+
+def full_statement(name, row):
+    """A window of that many days has a statement of its own, since the steps of a statement are limited."""
+    what, term, number = add_row(*row)
+    return f"-- {what}\n" + computed(name, f"{term} ≡ {number}")
+
+
+def changed_statement(name, window, day):
+    """The window after a change; a drop where the day is None."""
+    if day is None:
+        call, changed = f"dropDay {window_argument(window)}", rolling.drop(window)
+    else:
+        call, changed = f"addDay {window_argument(window)} {day_argument(day)}", rolling.add(window, day)
+    return computed(name, f"{call} ≡ changedTo {changed.refusal} {window_argument(changed.window)}")
+
+
+def queued(days, changes):
+    """The days after a list of changes; one that is refused changes nothing."""
+    for day in changes:
+        try:
+            days = rolling.dropped(days) if day is None else rolling.added(days, day)
+        except reference.Refused:
+            pass
+    return days
+
+
+def queue_equation(before, changes, term):
+    """term takes a list of days."""
+    changed = short_list("dropOldest" if day is None else f"add {day_argument(day)}" for day in changes)
+    return f"queuedBy {term(before)} ({changed}) ≡ {term(queued(before, changes))}"
+
+
+def queue_statement():
+    """A drop from an empty list, and a day that is refused; one day too many, and one in the place of the oldest."""
+    some, limit, high = windows.SOME, windows.LIMITS, windows.HIGH
+    in_a_row = lambda days: argument(list_term(days, day_argument))
+    return computed("queued-days", queue_equation([], [None, some, high, limit, None], in_a_row),
+                    queue_equation([some] * rolling.MOST_DAYS, [limit, None, limit], in_a_row))
+
+
+def strings(lines):
+    return "\n    ∷ ".join([f'"{line}"' for line in lines] + ["[]"])
+
+
+def into_buffers(*lengths):
+    """A valuation into buffers of these lengths, all of whose entries are 7: its arguments, and both buffers afterwards."""
+    held = [[7] * length for length in lengths]
+    valued = rolling.value(windows.FLAT, to_save.SMALL, *held)
+    return f"flatDays small {argument(list_term(held[0]))} {argument(list_term(held[1], integer))}", valued.factors, valued.rates
+
+
+def value_statements():
+    """The answer and both buffers, except zero rates, which take longer."""
+    case = rolling.case_with(to_save.SMALL, rolling.days_held(windows.FLAT))
+    lines = reference.listing(encode(case, *reference.needed_fields(case))).decode().splitlines()
+    long, factors, rates = into_buffers(242, 241)
+    short_rates, same_factors, _ = into_buffers(240, 239)
+    short_factors, _, same_rates = into_buffers(239, 240)
+    return [definition("flatListing", "List String", strings(lines)),
+            computed("flat-listing", "listing (windowValuation flatDays small 240 240) ≡ text flatListing"),
+            computed("window-factors", f"take 2 (windowFactorsAfter {long}) ≡ {list_term(factors[:2])}"),
+            computed("window-kept", f"drop 240 (windowFactorsAfter {long}) ≡ {list_term(factors[240:])}",
+                     f"drop 240 (windowRatesAfter {long}) ≡ {list_term(rates[240:], integer)}"),
+            computed("window-untouched", f"windowFactorsAfter {short_rates} ≡ {list_term(same_factors)}",
+                     f"windowRatesAfter {short_factors} ≡ {list_term(same_rates, integer)}")]
+
+
+def rolling_cases():
+    full, _ = windows.full_rows()
+    return "\n".join([ROLLING_HEAD, *window_definitions(), *right_statements(),
+                      *number_table("add", [add_row(*row) for row in windows.add_rows()], "The order of checks of an addition."),
+                      full_statement("full-window", full),
+                      *number_table("drop", [drop_row(*row) for row in windows.drop_rows()], "The order of checks of a drop."),
+                      *(changed_statement(*row) for row in windows.change_rows()), queue_statement(),
+                      *number_table("value", [value_row(*row) for row in windows.quick_value_rows()],
+                                    "The order of checks of a valuation, up to the case's own, and after them."),
+                      *value_statements()])
+
+
+# ---------------------------------------------------------------- crates/refusals/proofs/Rolling.antt
+
+def rolling_refused():
+    _, one_less = windows.full_rows()
+    rows = [value_row(*row) for row in windows.value_rows()]
+    return "\n".join([ROLLING_TABLE_HEAD, full_statement("one-day-left", one_less),
+                      *number_table("value-order", rows, "The order of checks of a valuation.")])
+
+
 # ---------------------------------------------------------------- crates/refusals/proofs/Accepted.antt
 
 def accepted():
@@ -451,9 +659,7 @@ def rate_statement(rounded, t, of=("low", "high")):
 
 
 def listing_statement(name, data):
-    lines = reference.listing(data).decode().splitlines()
-    strings = "\n    ∷ ".join([f'"{line}"' for line in lines] + ["[]"])
-    return [definition(f"{name}Listing", "List String", strings),
+    return [definition(f"{name}Listing", "List String", strings(reference.listing(data).decode().splitlines())),
             computed(f"{name}-listing", f"listing (valuationOf 240 240 {name}File) ≡ text {name}Listing")]
 
 
@@ -466,6 +672,12 @@ def shifted_figures():
     return out
 
 
+def window_rates():
+    """The zero rate of term 1, after the valuation of a rolling window."""
+    into, _, rates = into_buffers(240, 240)
+    return computed("window-rates", f"take 2 (windowRatesAfter {into}) ≡ {list_term(rates[:2], integer)}")
+
+
 def files():
     bent = Rounded(examples.bent())
     out = [FILES_HEAD]
@@ -474,13 +686,13 @@ def files():
     for t in (40, 60, 61, 120):
         out.append(computed(f"bent-factor-{t}", *both_ends(f"Rounded.factor bentCurve {{e}} {t}", bent.factors[t])))
     out += [rate_statement(bent, 1), rate_statement(bent, 2), rate_statement(bent, 3), rate_statement(bent, 21, ("high",))]
-    return "\n".join(out + shifted_figures())
+    return "\n".join(out + shifted_figures() + [window_rates()])
 
 
 PATHS = {"crates/model/proofs/Pinned.antt": pinned, "crates/model/proofs/Refused.antt": refused_quickly,
-         "crates/model/proofs/SavedCases.antt": saved,
+         "crates/model/proofs/SavedCases.antt": saved, "crates/model/proofs/RollingCases.antt": rolling_cases,
          "crates/pinned/proofs/Files.antt": files, "crates/refusals/proofs/Accepted.antt": accepted,
-         "crates/refusals/proofs/Refused.antt": refused}
+         "crates/refusals/proofs/Refused.antt": refused, "crates/refusals/proofs/Rolling.antt": rolling_refused}
 
 
 def others():

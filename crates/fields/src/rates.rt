@@ -8,7 +8,8 @@ ghost use Prim.Native.Nat.{_+_, _*_, _≤_};
 ghost use lib.ListN.{length};
 ghost use Rattle.model.specs.Fields.{bytesAll, rightAll};
 ghost use Rattle.model.specs.Saving.{daysOf};
-ghost use Rattle.model.specs.inner.Positions.{dailyRate, daysField};
+ghost use Rattle.model.specs.Layout.{dailyRate};
+ghost use Rattle.model.specs.inner.Positions.{daysField};
 ghost use Rattle.output.specs.inner.Wrote.{Wrote};
 ghost use Rattle.fields.specs.inner.Days.{RightDays};
 

@@ -5,8 +5,7 @@ use Prim.Native.Nat.{ℕ, zero, suc, _+_, _*_, _≤_}
 use native.Mathlib.Omega.{arith}
 use lib.ListN.{length, take, drop, length-drop}
 use lib.Seq.{length-take-le}
-use Rattle.model.specs.Layout.{caseOf}
-use Rattle.model.specs.inner.Positions.{day}
+use Rattle.model.specs.Layout.{day, caseOf}
 use Rattle.model.specs.Refusals.{refusal, ratesPartAfter, ratesPart, daysAt, dayCount}
 use Rattle.theory.proofs.acceptance.Acceptance.{within-limits, days-reach}
 use Rattle.theory.proofs.acceptance.Runs.{values-length}

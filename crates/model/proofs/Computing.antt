@@ -16,6 +16,8 @@ use Rattle.model.specs.Exact as Exact
 use Rattle.model.specs.Rounded as Rounded
 use Rattle.model.specs.Margins.{weightedSum}
 use Rattle.model.specs.Buffers.{valuationRefusal, byTerm, factorEntries, factorsAfter, ratesAfter, rateEntries, valuationOf}
+use Rattle.model.specs.Rolling.{daysHeld, sumsOf, windowRight, addRefusal, dropRefusal, added, dropped, addDay, dropDay, changedBy, queuedBy}
+use Rattle.model.specs.Rolling.{windowRefusal, windowValuation, windowFactorsAfter, windowRatesAfter}
 use Rattle.model.specs.Window.{windowPoint}
 use Rattle.model.specs.Listing.{ascii, digits, decimal, word, line, listing}
 
@@ -40,5 +42,7 @@ unfolding
     Rounded.scaled Rounded.growth Rounded.weighed Rounded.factor largest smallest Rounded.rateOf Rounded.worth Rounded.judge
     divide root rootOfDigits size
     weightedSum valuationRefusal byTerm factorEntries rateEntries factorsAfter ratesAfter valuationOf windowPoint
+    daysHeld sumsOf windowRight addRefusal dropRefusal added dropped addDay dropDay changedBy queuedBy
+    windowRefusal windowValuation windowFactorsAfter windowRatesAfter
     ascii digits decimal word line listing
 all = 0

@@ -6,4 +6,5 @@ pub mod Worked
 pub mod Refused
 pub mod Pinned
 pub mod SavedCases
+pub mod RollingCases
 pub mod Widths

@@ -8,6 +8,7 @@ use lib.IntN.{ℤ, pos}
 use Rattle.arith.specs.Rounding.{End, low, high}
 use Rattle.model.specs.Constants.{lastTerm}
 use Rattle.model.specs.Case.{FileCase}
+use Rattle.model.specs.Fields.{Check}
 use Rattle.model.specs.Layout.{caseOf}
 use Rattle.model.specs.Refusals.{firstOf, checks}
 use Rattle.model.specs.Curve.{base, curve}
@@ -15,10 +16,13 @@ use Rattle.model.specs.Rounded as Rounded
 use Rattle.model.specs.declared.figures.Valuation.{Valuation}
 use Rattle.model.specs.declared.figures.Valuation.the-variants.{Refused, Valued}
 
--- "13: the lent buffer for factors or for rates has fewer than 240 entries."; "Order: 13; then ..": 13 or the file's own refusal, by
--- the lengths of the two buffers and the file
+-- "13: the lent buffer for factors or for rates has fewer than 240 entries.": by the lengths of the two buffers
+abbrev pub buffersCheck : ℕ → ℕ → Check
+buffersCheck factors rates = (leb 240 factors && leb 240 rates, 13)
+
+-- "Order: 13; then ..": 13 or the file's own refusal
 unfoldable pub valuationRefusal : ℕ → ℕ → List ℕ → ℕ
-valuationRefusal factors rates file = firstOf ((leb 240 factors && leb 240 rates, 13) ∷ checks file)
+valuationRefusal factors rates file = firstOf (buffersCheck factors rates ∷ checks file)
 
 -- "lower, upper, term by term", of the terms 1 to t
 unfoldable pub byTerm : {A : Type 0} → (End → ℕ → A) → ℕ → List A

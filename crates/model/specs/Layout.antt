@@ -25,6 +25,13 @@ rate w scale = record {
   right = withinZ (negℤ (pos (1000 * scale))) (pos (10000 * scale));
 }
 
+-- "60 zero rates, terms 1 to 60, each 2 bytes": a rate in whole steps, and a day of them
+abbrev pub dailyRate : Fixed ℤ
+dailyRate = rate 2 1
+
+abbrev pub day : Fixed (List ℤ)
+day = several lastMarketTerm dailyRate
+
 -- "flows of 4 bytes, 0 to 100,000,000 euros"
 abbrev pub flow : Fixed ℕ
 flow = numberOf 4 0 100000000
@@ -124,8 +131,8 @@ abbrev pub layout : Present → Field Parts
 layout p =
     -- "Bit 0, UFR: 2 bytes, in rate steps, 0 to 5,000. A file without this field has a UFR of 4,200."; refusal 9
     optional (p .ufr) defaultUfr (field 9 (numberOf 2 0 5000))
-    -- "Bit 1, days: a byte n, 1 to 70; then n days of 60 zero rates, terms 1 to 60, each 2 bytes"; refusals 4 and 5
-    then counted 70 4 5 (several lastMarketTerm (rate 2 1))
+    -- "Bit 1, days: a byte n, 1 to 70; then n days"; refusals 4 and 5
+    then counted 70 4 5 day
     -- "Bit 2, pension flows: a byte m, 1 to 120; then m flows"; refusals 7 and 8
     then counted 120 7 8 flow
     -- "Bit 3, bond flows: a byte k, 1 to 60; then k flows, the same form and limit. Absent: k = 0."; refusals 7 and 8

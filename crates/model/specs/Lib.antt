@@ -1,4 +1,4 @@
--- Document 01 as definitions, a file a section, in its order; Saving is request One of document 02. All of it has to be believed, except what is in inner.
+-- Document 01 as definitions, a file a section, in its order; Saving and Rolling are requests One and Two of document 02. All of it has to be believed, except what is in inner.
 pub mod Constants
 pub mod Numbers
 pub mod Case
@@ -16,6 +16,7 @@ pub mod Rounded
 pub mod Margins
 pub mod Demand3
 pub mod Buffers
+pub mod Rolling
 pub mod Window
 pub mod Listing
 pub mod inner

@@ -2,5 +2,6 @@
 // definitions, and the theorems about them, stand in specs/ and proofs/.
 pub mod case;
 pub mod figures;
+pub mod rolling;
 pub mod saved;
 pub mod window;

@@ -4,14 +4,18 @@
 use Prim.Native.String.{String}
 use mathlib.Core.Path.{_≡_, refl}
 use mathlib.Core.List.{List, [], _∷_}
+use lib.ListN.{replicate, take}
 use lib.IntN.{pos, negℤ}
 use Rattle.arith.specs.Rounding.{low, high}
 use Rattle.model.specs.Curve.{up, down}
 use Rattle.model.specs.Rounded as Rounded
 use Rattle.model.specs.Buffers.{valuationOf}
+use Rattle.model.specs.Rolling.{windowRatesAfter}
 use Rattle.model.specs.Listing.{listing}
 use Rattle.model.proofs.Computing.{text, all}
 use Rattle.model.proofs.Pinned.{bentCurve, upFile, downFile, long}
+use Rattle.model.proofs.SavedCases.{small}
+use Rattle.model.proofs.RollingCases.{flatDays}
 
 abbrev pub upListing : List String
 upListing =
@@ -99,3 +103,7 @@ long-down-L : (Rounded.L long down low ≡ 88818888762)
     × (Rounded.L long down high ≡ 88818888920)
 unfolding all
 long-down-L = (refl, refl)
+
+window-rates : take 2 (windowRatesAfter flatDays small (replicate 240 7) (replicate 240 (pos 7))) ≡ (pos 100 ∷ pos 101 ∷ [])
+unfolding all
+window-rates = refl

@@ -8,9 +8,9 @@ use lib.ListN.{length, length-append}
 use lib.IntN.{ℤ}
 use Rattle.model.specs.Numbers.{bytesOf, unsigned}
 use Rattle.model.specs.Fields.{numberOf, bytesAll}
-use Rattle.model.specs.Layout.{flow, amountsInOrder, amounts, shocksInOrder, shocks, people, Present, mapOf, fileOf}
+use Rattle.model.specs.Layout.{dailyRate, day, flow, amountsInOrder, amounts, shocksInOrder, shocks, people, Present, mapOf, fileOf}
 use Rattle.model.specs.Saving.{daysOf, given}
-use Rattle.model.specs.inner.Positions.{dailyRate, day, ufrField, daysField, pensionField, bondsField}
+use Rattle.model.specs.inner.Positions.{ufrField, daysField, pensionField, bondsField}
 use Rattle.model.specs.declared.case.Amounts.{Amounts}
 use Rattle.model.specs.declared.case.Shocks.{Shocks}
 use Rattle.model.specs.declared.case.People.{People}

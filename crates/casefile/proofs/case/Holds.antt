@@ -10,11 +10,11 @@ use Rattle.model.specs.Numbers.{table}
 use Rattle.model.specs.Case.{s}
 use Rattle.model.specs.Curve.{base, movedSum, curve, natural, P}
 use Rattle.model.specs.Fields.{valueAll}
-use Rattle.model.specs.Layout.{flow, caseOf}
+use Rattle.model.specs.Layout.{day, flow, caseOf}
 use Rattle.model.specs.Refusals.{daysAt, dayCount}
 use Rattle.model.specs.Held.{padded, held}
 use Rattle.theory.proofs.acceptance.Runs.{values-length}
-use Rattle.model.specs.inner.Positions.{present, pensionAt, pensionCount, bondsAt, bondCount, day}
+use Rattle.model.specs.inner.Positions.{present, pensionAt, pensionCount, bondsAt, bondCount}
 use Rattle.scan.specs.inner.Found.{Found}
 use Rattle.scan.specs.inner.Sums.{daysFrom, sumAt, Summed}
 use Rattle.scan.specs.declared.places.Places.{Places}

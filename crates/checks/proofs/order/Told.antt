@@ -6,10 +6,10 @@ use native.Mathlib.Omega.{arith}
 use lib.ListN.{length, getD}
 use Rattle.model.specs.Numbers.{every}
 use Rattle.model.specs.Fields.{valueAll, rightAll}
-use Rattle.model.specs.Layout.{caseOf}
+use Rattle.model.specs.Layout.{day, caseOf}
 use Rattle.model.specs.Refusals.{forwardsRight, daysAt, dayCount}
 use Rattle.theory.proofs.acceptance.Runs.{values-length}
-use Rattle.model.specs.inner.Positions.{pensionAt, pensionCount, bondsAt, day, daysField, pensionField}
+use Rattle.model.specs.inner.Positions.{pensionAt, pensionCount, bondsAt, daysField, pensionField}
 use Rattle.scan.specs.inner.Found.{Found}
 use Rattle.scan.specs.inner.Sums.{daysFrom, Summed, forwardRight}
 use Rattle.scan.specs.declared.places.Places.{Places}

@@ -14,7 +14,7 @@ use mir.Syntax.{w32}
 use mir.Val.{toZ, ofZ}
 use mir.ValLaws.{toZ-ofZ}
 use Rattle.model.specs.Numbers.{bytesOf, unsigned}
-use Rattle.model.specs.inner.Positions.{dailyRate}
+use Rattle.model.specs.Layout.{dailyRate}
 use Rattle.theory.proofs.general.Lists.{and-first}
 use Rattle.output.specs.inner.Wrote.{Wrote}
 use Rattle.given.specs.inner.Raised.{raisedOr}

@@ -7,7 +7,7 @@ use lib.ListN.{length}
 use lib.IntN.{ℤ}
 use Rattle.model.specs.Fields.{rightAll}
 use Rattle.model.specs.Saving.{daysOf}
-use Rattle.model.specs.inner.Positions.{day}
+use Rattle.model.specs.Layout.{day}
 
 -- it has a day or more, and its rates are within their limits
 pub record RightDays (rates : List ℤ) : Type 0 where

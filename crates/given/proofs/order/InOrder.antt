@@ -10,10 +10,10 @@ use lib.Dec.{leb, ltb}
 use lib.ListN.{length}
 use Rattle.model.specs.Case.{FileCase}
 use Rattle.model.specs.Fields.{Check, within, rightAll}
-use Rattle.model.specs.Layout.{flow, amounts, shocks, people, layout, partsOf}
+use Rattle.model.specs.Layout.{day, flow, amounts, shocks, people, layout, partsOf}
 use Rattle.model.specs.Refusals.{firstOf, forwardsRight}
 use Rattle.model.specs.Saving.{needed, caseChecks, caseRefusal}
-use Rattle.model.specs.inner.Positions.{day, ufrField, daysField, pensionField, bondsField, amountsField}
+use Rattle.model.specs.inner.Positions.{ufrField, daysField, pensionField, bondsField, amountsField}
 use Rattle.theory.proofs.acceptance.Checks.{Hold, hold-parts, none-hold, after-none, after-some}
 use Rattle.theory.proofs.acceptance.Within.{layout-limited}
 use Rattle.theory.proofs.general.Lists.{_also_}

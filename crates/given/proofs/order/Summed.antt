@@ -12,7 +12,8 @@ use Rattle.model.specs.Fields.{within, rightAll}
 use Rattle.model.specs.Numbers.{every}
 use Rattle.model.specs.Refusals.{forwardsRight}
 use Rattle.model.specs.Saving.{daysIn, daysOf}
-use Rattle.model.specs.inner.Positions.{day, daysField}
+use Rattle.model.specs.Layout.{day}
+use Rattle.model.specs.inner.Positions.{daysField}
 use Rattle.theory.proofs.general.Lists.{and-second, and-false}
 use Rattle.scan.specs.inner.Sums.{forwardRight, EachAtMost}
 use Rattle.scan.specs.declared.rates.Sums.{Sums}

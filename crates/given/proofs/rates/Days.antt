@@ -14,7 +14,7 @@ use lib.IntN.{ℤ, pos, _+ℤ_}
 use Rattle.model.specs.Case.{s}
 use Rattle.model.specs.Fields.{rightAll}
 use Rattle.model.specs.Saving.{daysIn, daysOf}
-use Rattle.model.specs.inner.Positions.{dailyRate, day}
+use Rattle.model.specs.Layout.{dailyRate, day}
 use Rattle.theory.proofs.acceptance.Runs.{right-more}
 use Rattle.theory.proofs.general.Differences.{Diff, again, diff-sum}
 use Rattle.scan.proofs.rates.Days.{s-more}

@@ -14,7 +14,7 @@ use lib.IntN.{ℤ, pos}
 use Rattle.model.specs.Case.{s}
 use Rattle.model.specs.Fields.{rightAll}
 use Rattle.model.specs.Saving.{daysIn}
-use Rattle.model.specs.inner.Positions.{dailyRate}
+use Rattle.model.specs.Layout.{dailyRate}
 use Rattle.theory.proofs.acceptance.Runs.{right-front}
 use Rattle.theory.proofs.general.Differences.{Diff}
 use Rattle.theory.proofs.general.Lists.{and-first, and-second}

@@ -11,7 +11,7 @@ use mir.Syntax.{w32}
 use mir.Val.{SFits, toZ, ofZ}
 use mir.ValLaws.{toZ-ofZ}
 use Rattle.model.specs.Curve.{natural}
-use Rattle.model.specs.inner.Positions.{dailyRate}
+use Rattle.model.specs.Layout.{dailyRate}
 use Rattle.theory.proofs.general.Differences.{Diff}
 use Rattle.theory.proofs.general.Lists.{and-first}
 use Rattle.scan.specs.inner.Sums.{rateRight}

@@ -10,7 +10,7 @@ use Rattle.model.specs.Case.{s}
 use Rattle.model.specs.Curve.{natural}
 use Rattle.model.specs.Fields.{rightAll}
 use Rattle.model.specs.Saving.{daysIn}
-use Rattle.model.specs.inner.Positions.{dailyRate, day}
+use Rattle.model.specs.Layout.{dailyRate, day}
 use Rattle.theory.proofs.general.Differences.{Diff}
 use Rattle.scan.specs.inner.Sums.{EachAtMost}
 use Rattle.scan.specs.declared.rates.Sums.{Sums}

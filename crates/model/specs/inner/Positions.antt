@@ -4,17 +4,11 @@ use mathlib.Core.Bool.{cond}
 use mathlib.Core.List.{List, []}
 use lib.ListN.{getD}
 use lib.IntN.{ℤ}
-use Rattle.model.specs.Constants.{defaultUfr, lastMarketTerm}
-use Rattle.model.specs.Fields.{Fixed, numberOf, several, Field, field, counted, optional}
-use Rattle.model.specs.Layout.{rate, flow, amounts, noAmounts, shocks, Present, presentIn, fileMap}
+use Rattle.model.specs.Constants.{defaultUfr}
+use Rattle.model.specs.Fields.{numberOf, Field, field, counted, optional}
+use Rattle.model.specs.Layout.{day, flow, amounts, noAmounts, shocks, Present, presentIn, fileMap}
 use Rattle.model.specs.Refusals.{daysAt}
 use Rattle.model.specs.declared.case.Amounts.{Amounts}
-
-abbrev pub dailyRate : Fixed ℤ
-dailyRate = rate 2 1
-
-abbrev pub day : Fixed (List ℤ)
-day = several lastMarketTerm dailyRate
 
 abbrev pub ufrField : Present → Field ℕ
 ufrField p = optional (p .ufr) defaultUfr (field 9 (numberOf 2 0 5000))

@@ -9,7 +9,7 @@ use lib.Seq.{drop-cons, getD-at}
 use lib.IntN.{ℤ, pos, _+ℤ_, +ℤ-assoc, +ℤ-idl, +ℤ-idr}
 use Rattle.model.specs.Case.{s}
 use Rattle.model.specs.Fields.{valueAll}
-use Rattle.model.specs.inner.Positions.{dailyRate, day}
+use Rattle.model.specs.Layout.{dailyRate, day}
 use Rattle.model.specs.Numbers.{number, table, twosComplement}
 use Rattle.theory.proofs.acceptance.Runs.{values-last, values-table}
 use Rattle.theory.proofs.general.Differences.{Diff, again, diff-sum}

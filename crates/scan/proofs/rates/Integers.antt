@@ -11,7 +11,7 @@ use lib.IntN.{ℤ, pos, negℤ, _+ℤ_, _-ℤ_}
 use lib.Signed.{leZ}
 use Rattle.model.specs.Curve.{natural}
 use Rattle.model.specs.Fields.{withinZ}
-use Rattle.model.specs.inner.Positions.{dailyRate}
+use Rattle.model.specs.Layout.{dailyRate}
 use Rattle.model.specs.Numbers.{twosComplement}
 use Rattle.theory.proofs.general.Differences.{Diff, again, diff-pos, diff-sum, diff-neg, diff-minus, diff-le, le-diff, natural-is}
 use Rattle.scan.specs.inner.Sums.{raisedRate, rateRight}

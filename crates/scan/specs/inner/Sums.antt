@@ -12,7 +12,7 @@ use Rattle.model.specs.Numbers.{table}
 use Rattle.model.specs.Case.{s}
 use Rattle.model.specs.Curve.{natural}
 use Rattle.model.specs.Fields.{valueAll, rightAll}
-use Rattle.model.specs.inner.Positions.{day}
+use Rattle.model.specs.Layout.{day}
 use Rattle.scan.specs.declared.rates.Sums.{Sums}
 
 -- 100,000 and a rate of 2 bytes, two's complement

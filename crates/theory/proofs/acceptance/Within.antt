@@ -15,8 +15,8 @@ use Rattle.model.specs.Numbers.{number, unsigned}
 use Rattle.model.specs.Case.{FileCase}
 use Rattle.model.specs.Limits.{Between, FlowsWithin, DayWithin, forward, AmountsWithin, ShocksWithin, PeopleWithin, WithinLimits}
 use Rattle.model.specs.Fields.{withinZ, numberOf, counted}
-use Rattle.model.specs.Layout.{rate, flow, amountsFrom, amountsInOrder, amounts, noAmounts, shocksFrom, shocksInOrder, shocks}
-use Rattle.model.specs.inner.Positions.{day, daysField}
+use Rattle.model.specs.Layout.{day, rate, flow, amountsFrom, amountsInOrder, amounts, noAmounts, shocksFrom, shocksInOrder, shocks}
+use Rattle.model.specs.inner.Positions.{daysField}
 use Rattle.model.specs.Layout.{peopleFrom, peopleInOrder, people, Present, Parts, layout, partsOf, Agrees}
 use Rattle.model.specs.Refusals.{forwardsRight}
 use Rattle.theory.proofs.general.Lists.{and-first, and-second, every-at, every-all}

@@ -1,5 +1,5 @@
 -- `checks::order::days_check` meets its contract. Assumes nothing.
-use Rattle.model.specs.inner.Positions.{day}
+use Rattle.model.specs.Layout.{day}
 use Rattle.checks.proofs.order.Kept.{counted-checks}
 use borrow.Author.Needs.{needs}
 use Rattle.checks.proofs.order.days_check.Statement.{statement}

@@ -6,7 +6,7 @@ use native.Mathlib.Omega.{arith}
 use lib.ListN.{length, take, getD}
 use lib.IntN.{pos}
 use Rattle.model.specs.Fields.{bytesAll}
-use Rattle.model.specs.inner.Positions.{dailyRate}
+use Rattle.model.specs.Layout.{dailyRate}
 use Rattle.output.specs.inner.Wrote.{Wrote}
 use Rattle.encode.proofs.Runs.{one-stored, all-stored}
 use Rattle.fields.proofs.rates.Bits.{held-bits}

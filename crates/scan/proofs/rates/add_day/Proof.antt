@@ -9,7 +9,7 @@ use native.Mathlib.Omega.{arith}
 use lib.ListN.{length, getD, drop}
 use borrow.Author.Needs.{needs}
 use Rattle.model.specs.Fields.{valueAll, rightAll}
-use Rattle.model.specs.inner.Positions.{dailyRate, day}
+use Rattle.model.specs.Layout.{dailyRate, day}
 use Rattle.model.specs.Numbers.{number, table}
 use Rattle.theory.proofs.acceptance.Runs.{right-last}
 use Rattle.theory.proofs.general.Lists.{length-table, getD-table, table-filled, all-filled}

@@ -1,7 +1,7 @@
 -- What specs/Guarantee.antt says, of every list of bytes and all buffers.
 -- Assumes nothing.
 use Prim.Native.Nat.{ℕ, zero, suc, _+_, _*_, _≤_, _<_}
-use mathlib.Core.Path.{_≡_, refl, ap, sym, _∙_}
+use mathlib.Core.Path.{_≡_, refl, sym, _∙_}
 use mathlib.Core.Bool.{Bool, true, false, _&&_}
 use mathlib.Core.List.{List, _∷_, _++_}
 use native.Mathlib.Omega.{arith}
@@ -23,12 +23,12 @@ use Rattle.model.specs.Rounded as Rounded
 use Rattle.model.specs.Buffers.{valuationRefusal, byTerm, factorEntries, rateEntries, factorsAfter, ratesAfter, answered, valuationOf, refusalNumber}
 use Rattle.model.specs.declared.figures.Figures.{Figures}
 use Rattle.model.specs.declared.figures.Verdict.{Verdict}
-use Rattle.model.specs.declared.figures.Valuation.{Valuation}
-use Rattle.model.specs.declared.figures.Valuation.the-variants.{Refused, Valued}
+use Rattle.model.specs.declared.figures.Valuation.the-variants.{Valued}
 use Rattle.theory.proofs.acceptance.Acceptance.{accepted-keeps, keeps-accepted}
 use Rattle.theory.proofs.demand3.Demand3Proved.{IsRounded}
-use Rattle.theory.proofs.general.Entries.{length-byTerm, lower-in, upper-in, by-term}
+use Rattle.theory.proofs.general.Entries.{length-byTerm, lower-in, upper-in}
 use Rattle.theory.proofs.demand3.Files.{demand3-of-files}
+use Rattle.theory.proofs.demand3.Written.{written-rounded}
 use Rattle.theory.proofs.general.Lists.{and-first, and-second}
 use Rattle.casefile.proofs.AcceptedReading.{slice-bytes}
 use Rattle.engine.specs.Guarantee.{given, RefusedCall, AcceptedCall, AcceptedExactly, Call}
@@ -46,18 +46,10 @@ split false rest h = absurd (never (sym (fails false rest refl) ∙ h))
     never : _≡_ {A = ℕ} 13 0 → ⊥
     never e = omega arith
 
--- the number of an answer, and the figures and the verdict of one that has them
+-- the number of an answer
 answered-number : (r : ℕ) (k : FileCase) → refusalNumber (answered r k) ≡ r
 answered-number zero k = refl
 answered-number (suc r) k = refl
-
-abbrev figuresOr : Figures → Valuation → Figures
-figuresOr none (Refused r) = none
-figuresOr none (Valued figures verdict) = figures
-
-abbrev verdictOr : Verdict → Valuation → Verdict
-verdictOr none (Refused r) = none
-verdictOr none (Valued figures verdict) = verdict
 
 module _ (file : List ℕ) (factors : List ℕ) (rates : List ℤ) where
   enough : valuationRefusal (length factors) (length rates) file ≡ 0 → (240 ≤ length factors) × (240 ≤ length rates) × (refusal file ≡ 0)
@@ -101,12 +93,10 @@ module _ (file : List ℕ) (factors : List ℕ) (rates : List ℤ) where
     -- what the call gives is that of the rounded working
     is-rounded : (figures : Figures) (verdict : Verdict) → valuationOf (length factors) (length rates) file ≡ Valued figures verdict
         → IsRounded (caseOf file) (given figures verdict (factorsAfter file factors rates) (ratesAfter file factors rates))
-    is-rounded figures verdict e = record {
-      figures = ap (figuresOr figures) (sym e ∙ answer-is);
-      verdict = ap (verdictOr verdict) (sym e ∙ answer-is);
-      factor = by-term 0 (factorsAfter file factors rates) (Rounded.factor (curve (caseOf file) base)) 120 lower-factor upper-factor;
-      rate = by-term (pos 0) (ratesAfter file factors rates) (Rounded.zeroRate (curve (caseOf file) base)) 120 lower-rate upper-rate;
-    }
+    unfolding factorEntries rateEntries
+    is-rounded figures verdict e =
+        written-rounded (caseOf file) figures verdict (factorsAfter file factors rates) (drop 240 factors) (ratesAfter file factors rates)
+        (drop 240 rates) (sym e ∙ answer-is) factors-are rates-are
 
     accepted-call : Bytes file → AcceptedCall file factors rates
     accepted-call b =

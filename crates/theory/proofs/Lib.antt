@@ -1,9 +1,10 @@
 -- Theorems about the definitions of `model`, in folders; each folder cites those above it, and its own file says what it holds. Demand 3
 -- of every accepted file is in demand3.Files, acceptance both ways in acceptance.Acceptance,
--- of a case that is saved in saving.Saved.
+-- of a case that is saved in saving.Saved, of a rolling window in rolling.Holds and rolling.Valued.
 pub mod general
 pub mod acceptance
 pub mod saving
+pub mod rolling
 pub mod curve
 pub mod money
 pub mod demand3

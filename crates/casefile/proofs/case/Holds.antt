@@ -2,18 +2,15 @@
 use mathlib.Core.Path.{_≡_, refl, ap, ap₂, sym, _∙_}
 use mathlib.Core.Bool.{Bool, true, false, cond}
 use mathlib.Core.List.{List, []}
-use Prim.Native.Nat.{ℕ, suc, _+_, _*_}
+use Prim.Native.Nat.{ℕ, _+_}
 use lib.ListN.{length, getD}
-use lib.IntN.{pos, _+ℤ_, +ℤ-idr, *ℤ-zero}
-use Rattle.model.specs.Constants.{stepsPerOne}
 use Rattle.model.specs.Numbers.{table}
-use Rattle.model.specs.Case.{s}
-use Rattle.model.specs.Curve.{base, movedSum, curve, natural, P}
 use Rattle.model.specs.Fields.{valueAll}
 use Rattle.model.specs.Layout.{day, flow, caseOf}
 use Rattle.model.specs.Refusals.{daysAt, dayCount}
 use Rattle.model.specs.Held.{padded, held}
 use Rattle.theory.proofs.acceptance.Runs.{values-length}
+use Rattle.theory.proofs.curve.CaseCurves.{base-sum}
 use Rattle.model.specs.inner.Positions.{present, pensionAt, pensionCount, bondsAt, bondCount}
 use Rattle.scan.specs.inner.Found.{Found}
 use Rattle.scan.specs.inner.Sums.{daysFrom, sumAt, Summed}
@@ -39,14 +36,6 @@ module _ (file : List ℕ) where
   unfolding caseOf pensionCount pensionAt daysAt
   pension-are = refl
 
-  -- the base curve adds no shift
-  sum-is : (t : ℕ) → sumAt (caseOf file .days) (length (caseOf file .days)) t ≡ P (curve (caseOf file) base) (suc t)
-  unfolding P curve movedSum
-  sum-is t =
-      let days = caseOf file .days in
-      let none = ap (λ z. s days (suc t) +ℤ z) (*ℤ-zero (pos (length days))) ∙ +ℤ-idr (s days (suc t)) in
-      ap (λ z. natural (pos (stepsPerOne * length days) +ℤ z)) (sym none)
-
 module _ (file : List ℕ) (p : Places) (f : Found file p) where
   pub days-held : p .days ≡ length (caseOf file .days)
   days-held = f .daysMany ∙ sym (values-length day file (daysAt file + 1) (dayCount file)) ∙ ap length (days-are file)
@@ -71,4 +60,4 @@ module _ (file : List ℕ) (p : Places) (f : Found file p) where
       h .sums
       ∙ ap₂ (λ at n. table (sumAt (daysFrom file (at + 1) n) n) 60) (f .daysIs) (f .daysMany)
       ∙ ap₂ (λ days n. table (sumAt days n) 60) (days-are file) (sym (f .daysMany) ∙ days-held)
-      ∙ ap (λ (g : ℕ → ℕ). table g 60) (λ i t. sum-is file t i)
+      ∙ ap (λ (g : ℕ → ℕ). table g 60) (λ i t. base-sum (caseOf file) t i)

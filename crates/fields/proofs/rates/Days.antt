@@ -2,12 +2,11 @@
 use mathlib.Core.Path.{_≡_, refl, ap, sym, _∙_}
 use mathlib.Core.Bool.{Bool, true, false}
 use mathlib.Core.List.{List, [], _∷_, _++_}
-use Prim.Native.Nat.{ℕ, zero, suc, _*_, _/_, _%_, _≤_, _<_}
-use native.Mathlib.Nat.{not-suc-le-zero, le-of-suc-le-suc}
+use Prim.Native.Nat.{ℕ, zero, suc, _*_, _/_, _%_, _≤_}
 use native.Mathlib.Omega.{arith}
 use borrow.Author.Tests.{eqb-true, eqb-false}
 use lib.Dec.{eqb}
-use lib.ListN.{length, getD, take, drop, take-append-drop, length-drop}
+use lib.ListN.{length, take, drop, take-append-drop, length-drop}
 use lib.IntN.{ℤ}
 use Rattle.model.specs.Fields.{Fixed, bytesAll, rightAll}
 use Rattle.model.specs.Saving.{daysIn, daysOf}
@@ -24,12 +23,6 @@ module _ {A : Type 0} (x : Fixed A) where
   right-parts (u ∷ us) vs h k =
       and-both (x .right u) (rightAll x (us ++ vs)) (and-first (x .right u) (rightAll x us) h)
       (right-parts us vs (and-second (x .right u) (rightAll x us) h) k)
-
-  -- one of a run
-  pub right-at : (vs : List A) (i : ℕ) (d : A) → i < length vs → rightAll x vs ≡ true → x .right (getD vs i d) ≡ true
-  right-at [] i d l h = absurd (not-suc-le-zero l)
-  right-at (v ∷ vs) zero d l h = and-first (x .right v) (rightAll x vs) h
-  right-at (v ∷ vs) (suc i) d l h = right-at vs i d (le-of-suc-le-suc l) (and-second (x .right v) (rightAll x vs) h)
 
 -- ---- n days
 

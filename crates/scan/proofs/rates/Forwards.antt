@@ -14,14 +14,9 @@ use Rattle.model.specs.Limits.{forward}
 use Rattle.model.specs.Numbers.{every}
 use Rattle.model.specs.Refusals.{forwardsRight}
 use Rattle.theory.proofs.general.Differences.{Diff, again, diff-minus, diff-times}
+use Rattle.theory.proofs.general.Lists.{every-same}
 use Rattle.scan.specs.inner.Sums.{weighted, nextRight, forwardRight}
 use Rattle.scan.proofs.rates.Integers.{within-raised}
-
--- tests of the same truth
-every-same : (f g : ℕ → Bool) (n : ℕ) → ((i : ℕ) → i < n → f i ≡ g i) → every f n ≡ every g n
-unfolding every
-every-same f g zero h = refl
-every-same f g (suc n) h = ap₂ (λ a b. a && b) (every-same f g n (λ i l. h i (omega arith))) (h n (omega arith))
 
 module _ (days : List (List ℤ)) (n : ℕ) (sums : List ℕ)
     (is : (t : ℕ) → t < 60 → Diff (s days (suc t)) (getD sums t 0) (100000 * n)) where

@@ -1,33 +1,46 @@
 -- A file is accepted exactly when it keeps the layout and limits, and the case that is read is the case that it holds. Where it is
 -- accepted, each of its checks holds; so the case read is within the limits, and its bytes are the file. Where it is the bytes of a case
--- within the limits, its map announces the fields that were written, that case is what is read, and each check holds.
+-- whose fields are within the limits, its map announces the fields that were written, that case is what is read, and each check holds but
+-- for 6, which its days decide. The bytes of a case without days get 4.
 use mathlib.Core.Path.{_≡_, refl, ap, sym, _∙_, subst}
 use mathlib.Core.Bool.{true}
-use mathlib.Core.List.{List, [], _∷_, _++_, append-nil}
+use mathlib.Core.List.{List, [], _∷_, _++_, append-nil, append-assoc}
 use Prim.Native.Nat.{ℕ, _≤_}
 use native.Mathlib.Omega.{arith}
 use borrow.Author.Tests.{le-leb, leb-true}
 use lib.Dec.{T, leb, lit<, lit≤}
-use lib.ListN.{length, length-drop, drop-of-length-le}
+use lib.ListN.{length, drop, length-drop, drop-of-length-le}
+use lib.IntN.{ℤ}
 use Rattle.model.specs.Numbers.{Bytes}
 use Rattle.model.specs.Case.{FileCase}
 use Rattle.model.specs.Limits.{WithinLimits}
-use Rattle.model.specs.Fields.{Check}
-use Rattle.model.specs.Layout.{Present, mapOf, presentIn, fileMap, layout, caseFrom, partsOf, fileOf, caseOf}
-use Rattle.model.specs.inner.Positions.{ufrField, daysField}
+use Rattle.model.specs.Fields.{Check, Field, field, _then_}
+use Rattle.model.specs.Layout.{day, shocks, people, Present, mapOf, presentIn, fileMap, layout, caseFrom, partsOf, fileOf, caseOf}
+use Rattle.model.specs.inner.Positions.{ufrField, daysField, pensionField, bondsField, amountsField}
 use Rattle.model.specs.Layout.{Agrees, Keeps}
-use Rattle.model.specs.Refusals.{bitsRight, mapChecks, forwardsRight, checks, refusal, daysAt}
+use Rattle.model.specs.Refusals.{firstOf, bitsRight, mapChecks, forwardsRight, checks, refusal, daysAt}
+use Rattle.model.specs.declared.case.Amounts.{Amounts}
+use Rattle.model.specs.declared.case.Shocks.{Shocks}
+use Rattle.model.specs.declared.case.People.{People}
 use Rattle.theory.proofs.general.Lists.{_also_}
-use Rattle.theory.proofs.acceptance.Checks.{Hold, numbered, hold-append, hold-parts, numbered-append, none-hold, hold-none}
+use Rattle.theory.proofs.acceptance.Checks.{Hold, numbered, hold-parts, numbered-append, none-hold, hold-none, after-hold}
 use Rattle.theory.proofs.acceptance.Encoding.{number-small, number-written}
 use Rattle.theory.proofs.acceptance.Bitmap.{map-of-present, announced}
-use Rattle.theory.proofs.acceptance.Laws.{field-lawful}
-use Rattle.theory.proofs.acceptance.Within.{forwards-true, forwards-test, upto-lawful, layout-lawful, parts-limits, limits-parts}
+use Rattle.theory.proofs.acceptance.Laws.{field-lawful, none-refused}
+use Rattle.theory.proofs.acceptance.Within.{forwards-true, forwards-test, upto-lawful, UfrWithin, ufr-lawful}
+use Rattle.theory.proofs.acceptance.Within.{PartsWithin, layout-lawful, parts-limits, limits-parts}
+
+-- "then 6": of the days
+abbrev pub sixth : List (List ℤ) → List Check
+sixth days = (forwardsRight (length days) days, 6) ∷ []
 
 -- after the checks of the map and those of the fields: "then 2; then 6"
 abbrev lastChecks : List ℕ → Present → List Check
-lastChecks file p =
-    (leb (length file) (layout p .end file 2), 2) ∷ (forwardsRight (length (caseOf file .days)) (caseOf file .days), 6) ∷ []
+lastChecks file p = (leb (length file) (layout p .end file 2), 2) ∷ sixth (caseOf file .days)
+
+-- the fields after the days
+abbrev laterFields : Present → Field (List ℕ × (List ℕ × (Amounts × (Shocks × People))))
+laterFields p = pensionField then bondsField p then amountsField p then field 11 shocks then field 12 people
 
 -- no check of a file has the number 0
 pub checks-numbered : (file : List ℕ) → T (numbered (checks file))
@@ -86,34 +99,65 @@ accepted-keeps file b h =
     let (w, a) = limits file h in
     (record { present = presentIn (fileMap file); held = caseOf file; within = w; agrees = a; bytes = sym (written-back file h b) }, refl)
 
+-- ---- the bytes of a case
+
+module _ (file : List ℕ) (p : Present) (k : FileCase) (e : file ≡ fileOf p k) where
+  -- the map is read as a field of 2 bytes, and it announces the fields that were written: their checks are left
+  fields-left : (presentIn (fileMap file) ≡ p) × (drop 2 file ≡ layout p .bytes (partsOf k))
+      × (refusal file ≡ firstOf (layout p .checks file 2 ++ lastChecks file p))
+  unfolding refusal checks fileMap fileOf
+  fields-left =
+      let (right, small, present) = announced p in
+      let (m, after, reach) =
+      field-lawful 3 tt (lit≤ tt) (upto-lawful 2 65535 (lit< tt)) .read file 0 (mapOf p) (layout p .bytes (partsOf k)) small e in
+      let s : presentIn (fileMap file) ≡ p = ap presentIn m ∙ present in
+      let rest : Present → List Check = λ q. layout q .checks file 2 ++ lastChecks file q in
+      let map : Hold (mapChecks file) = reach .0 also subst (λ i. bitsRight i ≡ true) (sym m) right also tt in
+      (s, after, after-hold (mapChecks file) (rest (presentIn (fileMap file))) map ∙ ap (λ (q : Present). firstOf (rest q)) s)
+
+  -- where its fields are within their limits, the case is the one read, and of all checks only 6 is left
+  pub case-read : PartsWithin p (partsOf k) → (refusal file ≡ firstOf (sixth (k .days))) × (caseOf file ≡ k)
+  unfolding caseOf
+  case-read parts =
+      let (s, after, left) = fields-left in
+      let bytes = layout p .bytes (partsOf k) in
+      let (value, none, fields) = layout-lawful p .read file 2 (partsOf k) [] parts (after ∙ sym (append-nil bytes)) in
+      let is : caseOf file ≡ k = ap (λ (q : Present). caseFrom (layout q .value file 2)) s ∙ ap caseFrom value in
+      let end = layout p .end file 2 in
+      let short : length file ≤ end = omega (arith, sym (length-drop end file) ∙ ap length none) in
+      let two : Hold ((leb (length file) end, 2) ∷ []) = le-leb (length file) end short also tt in (
+        left
+            ∙ after-hold (layout p .checks file 2) (lastChecks file p) fields
+            ∙ after-hold ((leb (length file) end, 2) ∷ []) (sixth (caseOf file .days)) two
+            ∙ ap (λ (c : FileCase). firstOf (sixth (c .days))) is,
+        is,
+      )
+
+  -- where it has no days, their count is 0, so 4 refuses the file: the UFR before it is read
+  pub no-days-refused : UfrWithin p (k .ufr) → k .days ≡ [] → refusal file ≡ 4
+  no-days-refused ufr none =
+      let (s, after, left) = fields-left in
+      let behind = laterFields p .bytes (partsOf k .1 .1) in
+      let (value, days, held) = ufr-lawful p .read file 2 (k .ufr) (daysField .bytes (k .days) ++ behind) ufr after in
+      let at = ufrField p .end file 2 in
+      let first = ufrField p .checks file 2 in
+      let counted = daysField .checks file at in
+      let later = laterFields p .checks file (daysField .end file at) in
+      let last = lastChecks file p in
+      left
+      ∙ ap firstOf (append-assoc first (counted ++ later) last)
+      ∙ after-hold first (counted ++ later ++ last) held
+      ∙ ap firstOf (append-assoc counted later last)
+      ∙ none-refused day 70 4 5 file at behind (later ++ last) (days ∙ ap (λ (ds : List (List ℤ)). daysField .bytes ds ++ behind) none)
+
 -- ---- a file that keeps the layout and limits
 
--- it is accepted, and the case that it holds is the one read; its map is read as a field of 2 bytes
+-- it is accepted, and the case that it holds is the one read
 pub keeps-accepted : (file : List ℕ) (x : Keeps file) → (refusal file ≡ 0) × (caseOf file ≡ x .held)
-unfolding refusal checks fileMap fileOf caseOf
 keeps-accepted file x =
-    let p = x .present in
     let k = x .held in
-    let bytes = layout p .bytes (partsOf k) in
-    let (right, small, present) = announced p in
-    let (m, after, reach) = field-lawful 3 tt (lit≤ tt) (upto-lawful 2 65535 (lit< tt)) .read file 0 (mapOf p) bytes small (x .bytes) in
-    let s : presentIn (fileMap file) ≡ p = ap presentIn m ∙ present in
-    let parts = limits-parts p k (x .within) (x .agrees) in
-    let (value, none, fields) = layout-lawful p .read file 2 (partsOf k) [] parts (after ∙ sym (append-nil bytes)) in
-    let is : caseOf file ≡ k = ap (λ (q : Present). caseFrom (layout q .value file 2)) s ∙ ap caseFrom value in
-    let end : length file ≤ layout p .end file 2 = omega (arith, sym (length-drop (layout p .end file 2) file) ∙ ap length none) in
-    let six = forwards-test (k .days) (x .within .days .forwards) in
-    let last : Hold (lastChecks file p) =
-    le-leb (length file) (layout p .end file 2) end
-    also subst (λ (c : FileCase). forwardsRight (length (c .days)) (c .days) ≡ true) (sym is) six
-    also tt in
-    let all = hold-append (layout p .checks file 2) (lastChecks file p) fields last in (
-      hold-none (checks file)
-          (reach .0
-          also subst (λ i. bitsRight i ≡ true) (sym m) right
-          also subst (λ (q : Present). Hold (layout q .checks file 2 ++ lastChecks file q)) (sym s) all),
-      is,
-    )
+    let (six, is) = case-read file (x .present) k (x .bytes) (limits-parts (x .present) k (x .within) (x .agrees)) in
+    (six ∙ hold-none (sixth (k .days)) (forwards-test (k .days) (x .within .days .forwards) also tt), is)
 
 -- so no file holds two cases
 pub one-case : (file : List ℕ) (x y : Keeps file) → x .held ≡ y .held

@@ -55,13 +55,13 @@ hold-none (c ∷ cs) h = rw (h .0) (hold-none cs (h .1))
 
 -- ---- one list of checks after another
 
-pub after-none : (cs ds : List Check) → T (numbered cs) → firstOf cs ≡ 0 → firstOf (cs ++ ds) ≡ firstOf ds
+pub after-hold : (cs ds : List Check) → Hold cs → firstOf (cs ++ ds) ≡ firstOf ds
 unfolding firstOf
-after-none cs ds t h = passed cs (none-hold cs t h)
-  where
-    passed : (cs : List Check) → Hold cs → firstOf (cs ++ ds) ≡ firstOf ds
-    passed [] h = refl
-    passed (c ∷ cs) h = rw (h .0) (passed cs (h .1))
+after-hold [] ds h = refl
+after-hold (c ∷ cs) ds h = rw (h .0) (after-hold cs ds (h .1))
+
+pub after-none : (cs ds : List Check) → T (numbered cs) → firstOf cs ≡ 0 → firstOf (cs ++ ds) ≡ firstOf ds
+after-none cs ds t h = after-hold cs ds (none-hold cs t h)
 
 pub after-some : (cs ds : List Check) (r : ℕ) → firstOf cs ≡ suc r → firstOf (cs ++ ds) ≡ suc r
 unfolding firstOf

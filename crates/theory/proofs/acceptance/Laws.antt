@@ -9,11 +9,12 @@ use Prim.Native.Nat.{ℕ, zero, suc, _+_, _*_, _^_, _≤_, _<_}
 use native.Mathlib.Nat.{lt-of-le-of-lt, mul-le-mul}
 use native.Mathlib.Omega.{arith}
 use borrow.Author.Tests.{le-leb, leb-true, eqb-true, eq-eqb}
-use lib.Dec.{T, leb, eqb}
+use lib.Dec.{T, leb, eqb, lit<, lit≤}
 use lib.ListN.{length, getD, drop, length-append}
 use Rattle.model.specs.Numbers.{bytesOf, Bytes}
-use Rattle.model.specs.Fields.{within, Fixed, numberOf, pairOf, bytesAll, valueAll, rightAll, several, named}
+use Rattle.model.specs.Fields.{Check, within, Fixed, numberOf, pairOf, bytesAll, valueAll, rightAll, several, named}
 use Rattle.model.specs.Fields.{Field, field, counted, optional, _then_}
+use Rattle.model.specs.Refusals.{firstOf}
 use Rattle.theory.proofs.general.Lists.{_also_, and-first, and-second, and-both}
 use Rattle.theory.proofs.acceptance.Checks.{Hold, hold-append, hold-parts, numbered, numbered-append}
 use Rattle.theory.proofs.acceptance.Encoding.{length-bytes, number-written, number-read, byte-written, byte-read, behind, reached}
@@ -172,6 +173,15 @@ counted-lawful {x = x} most c r t fits some l = record {
       let right = ap (rightAll x) is ∙ all-tested l vs (h .2) in
       rw n (is, end, first also within-test 1 most (length vs) (h .0, h .1) also run .0 also right also tt);
 }
+
+-- a run of none is refused by its count
+pub none-refused : {A : Type 0} (x : Fixed A) (most c r : ℕ) (file : List ℕ) (at : ℕ) (rest : List ℕ) (others : List Check)
+    → drop at file ≡ counted most c r x .bytes [] ++ rest → firstOf (counted most c r x .checks file at ++ others) ≡ c
+unfolding bytesOf firstOf
+none-refused x most c r file at rest others e =
+    let n : getD file at 0 ≡ 0 = byte-read file at 0 rest (lit< tt) e in
+    let reach = reached file at 1 (bytesOf 1 0) rest (length-bytes 1 0) (lit≤ tt) e in
+    rw (le-leb (at + 1) (length file) reach, n)
 
 -- within the limits where the field is there, and else the known value
 abbrev pub IfThere : {A : Type 0} → Bool → A → (A → Type 0) → A → Type 0

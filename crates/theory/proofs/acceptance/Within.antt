@@ -16,7 +16,7 @@ use Rattle.model.specs.Case.{FileCase}
 use Rattle.model.specs.Limits.{Between, FlowsWithin, DayWithin, forward, AmountsWithin, ShocksWithin, PeopleWithin, WithinLimits}
 use Rattle.model.specs.Fields.{withinZ, numberOf, counted}
 use Rattle.model.specs.Layout.{day, rate, flow, amountsFrom, amountsInOrder, amounts, noAmounts, shocksFrom, shocksInOrder, shocks}
-use Rattle.model.specs.inner.Positions.{daysField}
+use Rattle.model.specs.inner.Positions.{ufrField, daysField}
 use Rattle.model.specs.Layout.{peopleFrom, peopleInOrder, people, Present, Parts, layout, partsOf, Agrees}
 use Rattle.model.specs.Refusals.{forwardsRight}
 use Rattle.theory.proofs.general.Lists.{and-first, and-second, every-at, every-all}
@@ -75,6 +75,12 @@ module _ {A : Type 0} (W : A → Type 0) (d : A) where
 -- a number that may be 0
 pub upto-lawful : (w most : ℕ) → most < 256 ^ w → LawfulFixed (numberOf w 0 most) (λ v. v ≤ most)
 upto-lawful w most fits = fixed-as (λ v h. h .1) (λ v h. (omega arith, h)) (number-lawful w 0 most fits)
+
+abbrev pub UfrWithin : Present → ℕ → Type 0
+UfrWithin p = IfThere (p .ufr) defaultUfr (λ u. u ≤ 5000)
+
+pub ufr-lawful : (p : Present) → Lawful (ufrField p) (UfrWithin p)
+ufr-lawful p = optional-lawful (p .ufr) defaultUfr (field-lawful 9 tt (lit≤ tt) (upto-lawful 2 5000 (lit< tt)))
 
 -- 20,000 × scale is twice the upper limit of a rate, so each rate is below half of the numbers of w bytes or above it
 rate-lawful : (w scale : ℕ) → 20000 * scale < 256 ^ w
@@ -160,7 +166,7 @@ people-lawful =
 
 abbrev pub PartsWithin : Present → Parts → Type 0
 PartsWithin p v =
-    IfThere (p .ufr) defaultUfr (λ u. u ≤ 5000) (v .0)
+    UfrWithin p (v .0)
     × (DaysCounted (v .1 .0)
     × (FlowsCounted 120 (v .1 .1 .0)
     × (IfThere (p .bonds) [] (FlowsCounted 60) (v .1 .1 .1 .0)
@@ -169,7 +175,7 @@ PartsWithin p v =
 
 pub layout-lawful : (p : Present) → Lawful (layout p) (PartsWithin p)
 layout-lawful p =
-    optional-lawful (p .ufr) defaultUfr (field-lawful 9 tt (lit≤ tt) (upto-lawful 2 5000 (lit< tt)))
+    ufr-lawful p
     thenLawful days-lawful
     thenLawful flows-lawful 120 (lit< tt)
     thenLawful optional-lawful (p .bonds) [] (flows-lawful 60 (lit< tt))

@@ -3,12 +3,12 @@
 -- most 1,000 steps, so it moves every bound by 0.01 × N at most.
 -- Assumes nothing.
 use Prim.Native.Nat.{ℕ, zero, suc, _+_, _*_, _-_, _≤_, _<_}
-use mathlib.Core.Path.{_≡_, refl, ap, sym, subst}
+use mathlib.Core.Path.{_≡_, refl, ap, sym, _∙_, subst}
 use mathlib.Core.List.{List, [], _∷_}
 use native.Mathlib.Omega.{arith}
 use native.Mathlib.Nat.{mul-le-mul-left}
 use lib.ListN.{length, getD}
-use lib.IntN.{ℤ, pos, negsuc, negℤ, _+ℤ_, _-ℤ_, _*ℤ_}
+use lib.IntN.{ℤ, pos, negsuc, negℤ, _+ℤ_, _-ℤ_, _*ℤ_, +ℤ-idr, *ℤ-zero}
 use lib.Signed.{_≤ℤ_}
 use Rattle.model.specs.Constants.{stepsPerOne}
 use Rattle.model.specs.Case.{FileCase, s}
@@ -30,6 +30,14 @@ raised n (negsuc m) h =
     natural-is (pos n +ℤ negsuc m) (n + 0) (0 + suc m) (n - suc m) (diff-sum (pos n) (negsuc m) n 0 0 (suc m) (diff-pos n) (omega arith)) (omega arith)
     in
     rw e (omega arith)
+
+-- P(t) of the base curve: no shift is added
+pub base-sum : (k : FileCase) (t : ℕ)
+    → natural (pos (stepsPerOne * length (k .days)) +ℤ s (k .days) (suc t)) ≡ P (curve k base) (suc t)
+unfolding P curve movedSum
+base-sum k t =
+    let none = ap (λ z. s (k .days) (suc t) +ℤ z) (*ℤ-zero (pos (length (k .days)))) ∙ +ℤ-idr (s (k .days) (suc t)) in
+    ap (λ z. natural (pos (stepsPerOne * length (k .days)) +ℤ z)) (sym none)
 
 -- ---- the sum of a term over the days: with 100,000 for each day, refusal 5 in natural numbers
 record Raised (z : ℤ) (n : ℕ) : Type 0 where

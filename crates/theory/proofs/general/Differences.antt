@@ -20,6 +20,13 @@ pub again : (z : ℤ) (a b c d : ℕ) → Diff z a b → a + d ≡ c + b → Dif
 again (pos n) a b c d h e = omega arith
 again (negsuc n) a b c d h e = omega arith
 
+-- of two numbers there is one difference
+pub one-diff : (y z : ℤ) (a b : ℕ) → Diff y a b → Diff z a b → y ≡ z
+one-diff (pos n) (pos m) a b h k = let e : n ≡ m = omega arith in ap pos e
+one-diff (pos n) (negsuc m) a b h k = absurd (let never : ⊥ = omega arith in never)
+one-diff (negsuc n) (pos m) a b h k = absurd (let never : ⊥ = omega arith in never)
+one-diff (negsuc n) (negsuc m) a b h k = let e : n ≡ m = omega arith in ap negsuc e
+
 diff-sub : (a b : ℕ) → Diff (subℕ a b) a b
 diff-sub a b = go (ltb a b) (λ t. ltb→lt a b t) (λ t. nltb→le a b t)
   where

@@ -1,5 +1,5 @@
 -- Laws of `every` and `table`, of tests that hold together, and of an array that a loop fills.
-use mathlib.Core.Path.{_≡_, refl, ap, sym, _∙_, subst}
+use mathlib.Core.Path.{_≡_, refl, ap, ap₂, sym, _∙_, subst}
 use mathlib.Core.Bool.{Bool, true, false, _&&_}
 use mathlib.Core.Logic.{⊎-elim}
 use mathlib.Core.List.{List, [], _∷_, _++_, append-nil}
@@ -9,8 +9,8 @@ use native.Mathlib.Numerals.{add-one}
 use native.Mathlib.Omega.{arith}
 use borrow.Author.Tests.{leb-true}
 use lib.Dec.{T, leb}
-use lib.ListN.{length, getD, drop, set, length-append, List·getD-append}
-use lib.Seq.{getD-at, ext-getD, drop-cons, drop-length, append-snoc, set-at}
+use lib.ListN.{length, getD, take, drop, set, length-append, length-drop, List·getD-append}
+use lib.Seq.{take-suc, length-take-le, getD-drop, getD-at, ext-getD, drop-cons, drop-length, append-snoc, set-at}
 use Rattle.model.specs.Numbers.{every, table}
 
 -- a pair, written between its parts
@@ -33,6 +33,10 @@ pub and-false : (a b : Bool) → b ≡ false → (a && b) ≡ false
 and-false true b h = h
 and-false false b h = refl
 
+pub and-true : (a : Bool) → (a && true) ≡ a
+and-true true = refl
+and-true false = refl
+
 -- a test of each index below n holds of one of them, and conversely
 pub every-at : (test : ℕ → Bool) (n i : ℕ) → every test n ≡ true → i < n → test i ≡ true
 unfolding every
@@ -51,6 +55,12 @@ unfolding every
 every-all test zero h = refl
 every-all test (suc n) h = and-both (every test n) (test n) (every-all test n (λ i l. h i (omega arith))) (h n (le-refl (suc n)))
 
+-- tests of the same truth
+pub every-same : (f g : ℕ → Bool) (n : ℕ) → ((i : ℕ) → i < n → f i ≡ g i) → every f n ≡ every g n
+unfolding every
+every-same f g zero h = refl
+every-same f g (suc n) h = ap₂ (λ a b. a && b) (every-same f g n (λ i l. h i (omega arith))) (h n (le-refl (suc n)))
+
 module _ {A : Type 0} where
   pub length-table : (f : ℕ → A) (n : ℕ) → length (table f n) ≡ n
   unfolding table
@@ -64,6 +74,19 @@ module _ {A : Type 0} where
       ⊎-elim (λ e. getD-at (table f n) (f n) [] d i (length-table f n ∙ sym e) ∙ ap f (sym e))
       (λ k. List·getD-append (table f n) (f n ∷ []) d i (subst (λ (m : ℕ). i < m) (sym (length-table f n)) k) ∙ getD-table f n i d k)
       (eq-or-lt-of-le (le-of-suc-le-suc l))
+
+  -- one value more at the front
+  pub table-first : (f : ℕ → A) (n : ℕ) → table f (suc n) ≡ f 0 ∷ table (λ i. f (suc i)) n
+  unfolding table
+  table-first f zero = refl
+  table-first f (suc n) = ap (λ (l : List A). l ++ (f (suc n) ∷ [])) (table-first f n)
+
+  -- the same values below n
+  pub table-same : (f g : ℕ → A) (n : ℕ) → ((i : ℕ) → i < n → f i ≡ g i) → table f n ≡ table g n
+  unfolding table
+  table-same f g zero h = refl
+  table-same f g (suc n) h =
+      ap₂ (λ (l : List A) (v : A). l ++ (v ∷ [])) (table-same f g n (λ i l. h i (omega arith))) (h n (le-refl (suc n)))
 
 -- ---- an array that a loop fills: the first i entries are written, and the rest is as it was held
 module _ {A : Type 0} where
@@ -85,6 +108,16 @@ module _ {A : Type 0} where
       → set out i v ≡ table f (i + 1) ++ drop (i + 1) held
   unfolding table
   table-filled f held out i v h k e = one-filled held out (table f i) i v (length-table f i) h e ∙ rw (add-one, k)
+
+  -- the same of a run of a list, from a position on
+  pub run-filled : (xs held out : List A) (at i : ℕ) (v d : A) → at + i < length xs → i < length held → v ≡ getD xs (at + i) d
+      → out ≡ take i (drop at xs) ++ drop i held → set out i v ≡ take (i + 1) (drop at xs) ++ drop (i + 1) held
+  run-filled xs held out at i v d l h k e =
+      let long : i < length (drop at xs) = rw length-drop (omega arith) in
+      one-filled held out (take i (drop at xs)) i v (length-take-le i (drop at xs) (omega arith)) h e
+      ∙ ap (λ (y : A). (take i (drop at xs) ++ (y ∷ [])) ++ drop (i + 1) held) (k ∙ sym (getD-drop at xs i d))
+      ∙ ap (λ (front : List A). front ++ drop (i + 1) held) (sym (take-suc (drop at xs) i d long))
+      ∙ ap (λ (n : ℕ). take n (drop at xs) ++ drop (i + 1) held) (sym (add-one i))
 
   -- a list is the table of its entries
   pub table-of : (xs : List A) (n : ℕ) (d : A) → length xs ≡ n → table (λ i. getD xs i d) n ≡ xs

@@ -17,14 +17,14 @@ use Rattle.model.specs.Fields.{Check, Field, numberOf, field, counted, optional
 use Rattle.model.specs.Layout.{flow, amountsFrom, amountsInOrder, amounts, noAmounts, shocks, people, Present, mapOf, layout, partsOf}
 use Rattle.model.specs.Layout.{fileOf, caseOf, Agrees, Keeps}
 use Rattle.model.specs.inner.Positions.{ufrField, daysField, pensionField, bondsField, amountsField}
-use Rattle.model.specs.Refusals.{firstOf, forwardsRight, refusal}
+use Rattle.model.specs.Refusals.{firstOf, refusal}
 use Rattle.model.specs.Saving.{allZero, needed, shortest, caseChecks, caseRefusal, saveRefusal}
 use Rattle.theory.proofs.general.Lists.{and-first, and-second, _also_}
 use Rattle.theory.proofs.acceptance.Checks.{numbered, numbered-append, hold-append, hold-parts, none-hold, hold-none, after-none, after-some}
 use Rattle.theory.proofs.acceptance.Checks.{below, first-below}
 use Rattle.theory.proofs.acceptance.Encoding.{length-bytes}
 use Rattle.theory.proofs.acceptance.Within.{forwards-true, forwards-test, PartsWithin, PartsLimited, layout-limited, parts-limits, limits-parts}
-use Rattle.theory.proofs.acceptance.Acceptance.{keeps-accepted}
+use Rattle.theory.proofs.acceptance.Acceptance.{sixth, keeps-accepted}
 
 -- ---- the fields that are left out
 
@@ -57,13 +57,10 @@ module _ (k : FileCase) where
   abbrev fieldChecks : List Check
   fieldChecks = layout (needed k) .limits (partsOf k)
 
-  abbrev sixth : List Check
-  sixth = (forwardsRight (length (k .days)) (k .days), 6) ∷ []
-
   -- no check of a case has the number 0
   pub case-numbered : T (numbered (caseChecks k))
   unfolding caseChecks
-  case-numbered = numbered-append fieldChecks sixth (layout-limited (needed k) .counts (partsOf k)) tt
+  case-numbered = numbered-append fieldChecks (sixth (k .days)) (layout-limited (needed k) .counts (partsOf k)) tt
 
   -- a case is accepted exactly when it is within the limits
   pub case-accepted : WithinLimits k → caseRefusal k ≡ 0
@@ -73,12 +70,12 @@ module _ (k : FileCase) where
       let limited : PartsLimited (needed k) (partsOf k) = search in
       let six = forwards-test (k .days) (w .days .forwards) in
       hold-none (caseChecks k)
-      (hold-append fieldChecks sixth (layout-limited (needed k) .tested (partsOf k) limited) (six also tt))
+      (hold-append fieldChecks (sixth (k .days)) (layout-limited (needed k) .tested (partsOf k) limited) (six also tt))
 
   pub case-within : caseRefusal k ≡ 0 → WithinLimits k
   unfolding caseRefusal caseChecks
   case-within h =
-      let (fields, six) = hold-parts fieldChecks sixth (none-hold (caseChecks k) case-numbered h) in
+      let (fields, six) = hold-parts fieldChecks (sixth (k .days)) (none-hold (caseChecks k) case-numbered h) in
       let (u, (d, (m, (b, (a, s))))) = layout-limited (needed k) .within (partsOf k) fields in
       let agrees = agrees-needed k in
       let within : PartsWithin (needed k) (partsOf k) = ((u, agrees .ufrAbsent), (d, (m, ((b, agrees .bondsAbsent), ((a, agrees .amountsAbsent), s))))) in
@@ -162,7 +159,7 @@ unfolding caseRefusal caseChecks
 under-fourteen k =
     first-below 14 (caseChecks k) (lit< tt) (go (needed k .ufr) (needed k .bonds) (needed k .amounts))
   where
-    go : (u b a : Bool) → T (below 14 (layout (record { ufr = u; bonds = b; amounts = a }) .limits (partsOf k) ++ sixth k))
+    go : (u b a : Bool) → T (below 14 (layout (record { ufr = u; bonds = b; amounts = a }) .limits (partsOf k) ++ sixth (k .days)))
     go true true true = tt
     go true true false = tt
     go true false true = tt

@@ -5,12 +5,12 @@ use mathlib.Core.Path.{_≡_, refl}
 use native.Mathlib.Omega.{arith}
 use lib.ListN.{length, take, getD}
 use lib.IntN.{pos}
+use Rattle.theory.proofs.acceptance.Runs.{right-at}
 use Rattle.model.specs.Fields.{bytesAll}
 use Rattle.model.specs.Layout.{dailyRate}
 use Rattle.output.specs.inner.Wrote.{Wrote}
 use Rattle.encode.proofs.Runs.{one-stored, all-stored}
 use Rattle.fields.proofs.rates.Bits.{held-bits}
-use Rattle.fields.proofs.rates.Days.{right-at}
 use Rattle.fields.proofs.rates.put_rates.Statement.{statement}
 use Rattle.fields.proofs.rates.put_rates.Tie as tie
 

@@ -1,4 +1,3 @@
--- Signed: a rate of 32 bits as a natural. Days: the days of a list. Loops: one day added to the sums, rate by rate.
+-- Signed: a rate of 32 bits as a natural. Days: the days of a list, and the sums of days.
 pub mod Signed
 pub mod Days
-pub mod Loops

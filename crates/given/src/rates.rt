@@ -5,8 +5,10 @@ use scan::runs::both;
 ghost use mathlib.Core.Path.{_≡_};
 ghost use Prim.Native.Nat.{_+_, _*_, _<_, _≤_};
 ghost use lib.ListN.{length};
-ghost use Rattle.model.specs.Saving.{daysOf};
-ghost use Rattle.given.specs.inner.Raised.{raisedOr, SummedDays};
+ghost use Rattle.model.specs.Rolling.{dayIn};
+ghost use Rattle.model.specs.Saving.{daysIn, daysOf};
+ghost use Rattle.scan.specs.inner.Sums.{EachAtMost};
+ghost use Rattle.given.specs.inner.Raised.{raisedOr, summed, withDay};
 
 // 100,000 steps and the rate; 0 for a rate outside its limits.
 pub fn raised(rate: i32) -> u64
@@ -32,31 +34,41 @@ pub fn day_count(rates: &[i32]) -> usize
     }
 }
 
-// The sums of the first `d` days with one day more.
-fn add_day(rates: &[i32], d: usize, held: Sums) -> Sums
-    requires { ⌜ (d < 70) × (60 * d + 60 ≤ length (now rates)) × SummedDays (now rates) d held ⌝ }
-    ensures { λ r. ⌜ SummedDays (now (rates .entry)) (d + 1) r ⌝ }
+// The rates of day `d`.
+fn day_at(rates: &[i32], d: usize) -> [i32; 60]
+    requires { ⌜ (d < 70) × (60 * d + 60 ≤ length (now rates)) ⌝ }
+    ensures { λ r. ⌜ r ≡ dayIn (now (rates .entry)) d ⌝ }
 {
-    let mut within = true;
-    let mut out = held.sums;
+    let mut day = [0i32; 60];
     let mut t: usize = 0;
     while t < 60 {
-        let rate = raised(rates[60 * d + t]);
-        out[t] += rate;
-        let right = rate_right(rate);
-        within = both(within, right);
+        day[t] = rates[60 * d + t];
         t += 1;
     }
-    Sums {
-        within: both(held.within, within),
-        sums: out,
+    day
+}
+
+// The sums of up to 69 days with one day more.
+pub fn add_day(held: Sums, day: [i32; 60]) -> Sums
+    requires { ⌜ EachAtMost 7590000 (held .sums) ⌝ }
+    ensures { λ r. ⌜ r ≡ withDay held day ⌝ }
+{
+    let mut within = held.within;
+    let mut sums = held.sums;
+    let mut t: usize = 0;
+    while t < 60 {
+        let rate = raised(day[t]);
+        sums[t] += rate;
+        within = both(within, rate_right(rate));
+        t += 1;
     }
+    Sums { within, sums }
 }
 
 // The sums of the first `days` days of a list.
 pub fn sum_rates(rates: &[i32], days: usize) -> Sums
     requires { ⌜ (days ≤ 70) × (60 * days ≤ length (now rates)) ⌝ }
-    ensures { λ r. ⌜ SummedDays (now (rates .entry)) days r ⌝ }
+    ensures { λ r. ⌜ r ≡ summed (daysIn days (now (rates .entry))) ⌝ }
 {
     let mut r = Sums {
         within: true,
@@ -64,7 +76,8 @@ pub fn sum_rates(rates: &[i32], days: usize) -> Sums
     };
     let mut d: usize = 0;
     while d < days {
-        r = add_day(rates, d, r);
+        let day = day_at(rates, d);
+        r = add_day(r, day);
         d += 1;
     }
     r

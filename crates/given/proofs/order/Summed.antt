@@ -19,8 +19,8 @@ use Rattle.scan.specs.inner.Sums.{forwardRight, EachAtMost}
 use Rattle.scan.specs.declared.rates.Sums.{Sums}
 use Rattle.scan.proofs.rates.Forwards.{forwards-are}
 use Rattle.checks.specs.inner.After.{after, afterAll}
-use Rattle.given.specs.inner.Raised.{SummedDays}
-use Rattle.given.proofs.rates.Days.{days-are}
+use Rattle.given.specs.inner.Raised.{summed}
+use Rattle.given.proofs.rates.Days.{days-count, days-are, summed-most, summed-diff}
 
 -- a number that is there is kept
 decided : (q : ℕ) (b c : Bool) → after (after q false 4) b 5 ≡ after (after q false 4) c 5
@@ -39,12 +39,16 @@ module _ (rates : List ℤ) {n m : ℕ} (isN : n ≡ length (daysOf rates)) (isM
   all-summed : leb n 70 ≡ true → m ≡ length (daysOf rates)
   all-summed e = isM ∙ ap (λ (b : Bool). cond b n 0) e ∙ isN
 
-  module _ (s : Sums) (h : SummedDays rates m s) where
+  module _ (s : Sums) (h : s ≡ summed (daysIn m rates)) where
     pub sums-most : EachAtMost 33855585 (s .sums)
-    sums-most = record { each = λ t l. omega (arith, h .most .each t l, sums-asked .0) }
+    sums-most = rw h (summed-most (daysIn m rates) 33855585 (omega (arith, days-count m rates, sums-asked .0)))
 
     days-summed : leb n 70 ≡ true → daysIn m rates ≡ daysOf rates
     days-summed e = ap (λ (i : ℕ). daysIn i rates) (all-summed e) ∙ sym (days-are rates .0)
+
+    within-is : s .within ≡ rightAll day (daysIn m rates)
+    unfolding summed
+    within-is = ap (λ (r : Sums). r .within) h
 
     -- the checks of the days
     pub days-told : (u : ℕ) {c d : ℕ} → c ≡ after u (within 1 70 n) 4 → d ≡ after c (s .within) 5 → d ≡ afterAll u (daysField .limits (daysOf rates))
@@ -54,7 +58,7 @@ module _ (rates : List ℤ) {n m : ℕ} (isN : n ≡ length (daysOf rates)) (isM
         counted = ec ∙ ap (λ (i : ℕ). after u (within 1 70 i) 4) isN
 
         go : (b : Bool) → leb n 70 ≡ b → d ≡ afterAll u (daysField .limits (daysOf rates))
-        go true e = ed ∙ ap₂ (λ q b. after q b 5) counted (h .within ∙ ap (rightAll day) (days-summed e))
+        go true e = ed ∙ ap₂ (λ q b. after q b 5) counted (within-is ∙ ap (rightAll day) (days-summed e))
         go false e =
             let none : c ≡ after u false 4 = ec ∙ ap (λ (b : Bool). after u b 4) (and-false (leb 1 n) (leb n 70) e) in
             ed
@@ -68,5 +72,7 @@ module _ (rates : List ℤ) {n m : ℕ} (isN : n ≡ length (daysOf rates)) (isM
     forwards-told (counted, right) =
         let few = ap (λ (i : ℕ). leb i 70) isN ∙ and-second (leb 1 (length (daysOf rates))) (leb (length (daysOf rates)) 70) counted in
         let is = days-summed few in
-        forwards-are (daysIn m rates) m (s .sums) (h .sums (h .within ∙ ap (rightAll day) is ∙ right))
+        let all = ap (rightAll day) is ∙ right in
+        ap (λ (r : Sums). every (forwardRight (r .sums) m) 60) h
+        ∙ forwards-are (daysIn m rates) m (summed (daysIn m rates) .sums) (λ t l. rw days-count at (summed-diff (daysIn m rates) t l all))
         ∙ ap₂ forwardsRight (all-summed few) is

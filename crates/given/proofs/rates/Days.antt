@@ -1,25 +1,29 @@
--- The days of a list of rates: how many there are, and one day more at the end. Assumes nothing.
+-- The days of a list of rates: how many there are, and one day more at the end; and the sums of days. Assumes nothing.
 use Prim.Native.Nat.{ℕ, zero, suc, _+_, _*_, _/_, _%_, _≤_, _<_}
-use mathlib.Core.Path.{_≡_, refl, ap, _∙_}
+use mathlib.Core.Path.{_≡_, refl, ap, ap₂, sym, _∙_}
 use mathlib.Core.Bool.{Bool, true, false, _&&_, cond}
 use mathlib.Core.List.{List, [], _∷_, _++_}
 use native.Mathlib.Nat.{div-add-mod'}
 use native.Mathlib.Numerals.{add-one}
 use native.Mathlib.Omega.{arith}
-use borrow.Author.Tests.{eq-eqb, ne-eqb}
+use borrow.Author.Tests.{eq-eqb, ne-eqb, eqb-true}
 use lib.Dec.{eqb}
-use lib.ListN.{length, getD, take, drop, length-drop}
-use lib.Seq.{drop-drop, getD-take, getD-drop, length-take-le}
+use lib.ListN.{length, getD, take, drop, replicate, length-drop}
+use lib.Seq.{drop-drop, length-take-le}
 use lib.IntN.{ℤ, pos, _+ℤ_}
+use Rattle.model.specs.Numbers.{table}
 use Rattle.model.specs.Case.{s}
 use Rattle.model.specs.Fields.{rightAll}
+use Rattle.model.specs.Rolling.{dayIn}
 use Rattle.model.specs.Saving.{daysIn, daysOf}
 use Rattle.model.specs.Layout.{dailyRate, day}
-use Rattle.theory.proofs.acceptance.Runs.{right-more}
+use Rattle.theory.proofs.acceptance.Runs.{right-more, right-front, right-at}
 use Rattle.theory.proofs.general.Differences.{Diff, again, diff-sum}
-use Rattle.scan.proofs.rates.Days.{s-more}
-use Rattle.given.specs.inner.Raised.{raisedOr}
-use Rattle.given.proofs.rates.Signed.{raised-diff}
+use Rattle.theory.proofs.general.Lists.{and-first, and-second, length-table, getD-table, table-same}
+use Rattle.scan.specs.inner.Sums.{EachAtMost}
+use Rattle.scan.specs.declared.rates.Sums.{Sums}
+use Rattle.given.specs.inner.Raised.{raisedOr, raisedSum, summed, withDay}
+use Rattle.given.proofs.rates.Signed.{raised-most, raised-diff}
 
 pub days-count : (n : ℕ) (rates : List ℤ) → length (daysIn n rates) ≡ n
 days-count zero rates = refl
@@ -55,33 +59,79 @@ days-more (suc n) rates =
     (days-more n (drop 60 rates)
     ∙ ap (λ (l : List ℤ). daysIn n (drop 60 rates) ++ (take 60 l ∷ [])) (drop-drop (60 * n) 60 rates ∙ ap (λ i. drop i rates) e))
 
-module _ (rates : List ℤ) (d : ℕ) where
-  -- the rate of the term t + 1 on day d
-  abbrev rateOn : ℕ → ℤ
-  rateOn t = getD rates (60 * d + t) (pos 0)
+-- ---- the sums of days
 
-  pub sum-next : (t a : ℕ) → t < 60 → dailyRate .right (rateOn t) ≡ true → Diff (s (daysIn d rates) (suc t)) a (100000 * d)
-      → Diff (s (daysIn (d + 1) rates) (suc t)) (a + raisedOr (rateOn t)) (100000 * (d + 1))
-  sum-next t a l right h =
-      let held = s (daysIn d rates) (suc t) in
-      let on : getD (take 60 (drop (60 * d) rates)) t (pos 0) ≡ rateOn t = getD-take 60 (drop (60 * d) rates) t (pos 0) l ∙ getD-drop (60 * d) rates t (pos 0) in
-      let more : s (daysIn (d + 1) rates) (suc t) ≡ held +ℤ rateOn t =
-      ap (λ (i : ℕ). s (daysIn i rates) (suc t)) (add-one d)
-      ∙ ap (λ (days : List (List ℤ)). s days (suc t)) (days-more d rates)
-      ∙ s-more (daysIn d rates) (take 60 (drop (60 * d) rates)) t
-      ∙ ap (λ (z : ℤ). held +ℤ z) on
-      in
-      rw more
-      (again (held +ℤ rateOn t) (a + raisedOr (rateOn t)) (100000 * d + 100000) (a + raisedOr (rateOn t)) (100000 * (d + 1))
-      (diff-sum held (rateOn t) a (100000 * d) (raisedOr (rateOn t)) 100000 h (raised-diff (rateOn t) right)) (omega arith))
+-- no day, and one more at the end
+pub none-summed : record { within = true; sums = replicate 60 0 } ≡ summed []
+unfolding summed table raisedSum
+none-summed = refl
 
-  -- a day of 60 rates is right if each of them is
-  pub right-more-days : 60 * d + 60 ≤ length rates
-      → rightAll day (daysIn (d + 1) rates) ≡ (rightAll day (daysIn d rates) && rightAll dailyRate (take 60 (drop (60 * d) rates)))
-  right-more-days l =
-      let last = take 60 (drop (60 * d) rates) in
-      let long : length last ≡ 60 = length-take-le 60 (drop (60 * d) rates) (rw length-drop (omega arith)) in
-      ap (λ (i : ℕ). rightAll day (daysIn i rates)) (add-one d)
-      ∙ ap (rightAll day) (days-more d rates)
-      ∙ right-more day (daysIn d rates) last
-      ∙ ap (λ (b : Bool). rightAll day (daysIn d rates) && (b && rightAll dailyRate last)) (eq-eqb (length last) 60 long)
+raised-more : (days : List (List ℤ)) (new : List ℤ) (t : ℕ) → raisedSum (days ++ (new ∷ [])) t ≡ raisedSum days t + raisedOr (getD new t (pos 0))
+unfolding raisedSum
+raised-more [] new t = omega arith
+raised-more (first ∷ days) new t = omega (arith, raised-more days new t)
+
+pub summed-more : (days : List (List ℤ)) (new : List ℤ) → length new ≡ 60 → withDay (summed days) new ≡ summed (days ++ (new ∷ []))
+unfolding summed withDay
+summed-more days new long =
+    let right : day .right new ≡ rightAll dailyRate new = ap (λ b. b && rightAll dailyRate new) (eq-eqb (length new) 60 long) in
+    let sum : ℕ → ℕ = λ t. getD (table (raisedSum days) 60) t 0 + raisedOr (getD new t (pos 0)) in
+    ap₂ (λ (b : Bool) (sums : List ℕ). record { within = b; sums = sums })
+    (ap (λ b. rightAll day days && b) (sym right) ∙ sym (right-more day days new))
+    (table-same sum (raisedSum (days ++ (new ∷ []))) 60
+    (λ t l. ap (λ n. n + raisedOr (getD new t (pos 0))) (getD-table (raisedSum days) 60 t 0 l) ∙ sym (raised-more days new t)))
+
+pub summed-length : (days : List (List ℤ)) → length (summed days .sums) ≡ 60
+unfolding summed
+summed-length days = length-table (raisedSum days) 60
+
+-- no sum is above 110,000 for each day: 100,000 and the largest rate
+raised-sum-most : (days : List (List ℤ)) (t : ℕ) → raisedSum days t ≤ 110000 * length days
+unfolding raisedSum
+raised-sum-most [] t = omega arith
+raised-sum-most (first ∷ days) t = omega (arith, raised-most (getD first t (pos 0)), raised-sum-most days t)
+
+pub summed-most : (days : List (List ℤ)) (most : ℕ) → 110000 * length days ≤ most → EachAtMost most (summed days .sums)
+unfolding summed
+summed-most days most h = record { each = λ t l. omega (arith, getD-table (raisedSum days) 60 t 0 l, raised-sum-most days t) }
+
+-- where each rate is within its limits, each sum has 100,000 more for each day
+raised-sum-diff : (days : List (List ℤ)) (t : ℕ) → t < 60 → rightAll day days ≡ true → Diff (s days (suc t)) (raisedSum days t) (100000 * length days)
+unfolding s raisedSum
+raised-sum-diff [] t l h = omega arith
+raised-sum-diff (first ∷ days) t l h =
+    let z = getD first t (pos 0) in
+    let right = and-first (day .right first) (rightAll day days) h in
+    let long : length first ≡ 60 = eqb-true (length first) 60 (and-first (eqb (length first) 60) (rightAll dailyRate first) right) in
+    let one = raised-diff z (right-at dailyRate first t (pos 0) (omega arith) (and-second (eqb (length first) 60) (rightAll dailyRate first) right)) in
+    let rest = raised-sum-diff days t l (and-second (day .right first) (rightAll day days) h) in
+    again (z +ℤ s days (suc t)) (raisedOr z + raisedSum days t) (100000 + 100000 * length days) (raisedOr z + raisedSum days t)
+    (100000 * suc (length days))
+    (diff-sum z (s days (suc t)) (raisedOr z) 100000 (raisedSum days t) (100000 * length days) one rest)
+    (omega arith)
+
+pub summed-diff : (days : List (List ℤ)) (t : ℕ) → t < 60 → rightAll day days ≡ true
+    → Diff (s days (suc t)) (getD (summed days .sums) t 0) (100000 * length days)
+unfolding summed
+summed-diff days t l h = rw (getD-table (raisedSum days) 60 t 0 l) (raised-sum-diff days t l h)
+
+-- ---- a loop over the days of a list, and over the rates of a day
+
+pub next-summed : (rates : List ℤ) (d : ℕ) {new : List ℤ} {held r : Sums} → 60 * d + 60 ≤ length rates → held ≡ summed (daysIn d rates)
+    → new ≡ dayIn rates d → r ≡ withDay held new → r ≡ summed (daysIn (d + 1) rates)
+next-summed rates d room h e f =
+    let long : length (dayIn rates d) ≡ 60 = length-take-le 60 (drop (60 * d) rates) (rw length-drop (omega arith)) in
+    f ∙ ap₂ withDay h e ∙ summed-more (daysIn d rates) (dayIn rates d) long ∙ rw (add-one d, days-more d rates)
+
+-- a day is tested rate by rate
+pub one-tested : (before within : Bool) (new : List ℤ) (t : ℕ) → t < length new → within ≡ (before && rightAll dailyRate (take t new))
+    → (within && dailyRate .right (getD new t (pos 0))) ≡ (before && rightAll dailyRate (take (t + 1) new))
+one-tested before within new t l e =
+    let right = dailyRate .right (getD new t (pos 0)) in
+    ap (λ b. b && right) e
+    ∙ together before (rightAll dailyRate (take t new)) right
+    ∙ ap (λ b. before && b) (rw add-one (sym (right-front dailyRate new t (pos 0) l)))
+  where
+    together : (a b c : Bool) → ((a && b) && c) ≡ (a && (b && c))
+    together true b c = refl
+    together false b c = refl

@@ -1,61 +1,67 @@
 -- `given::rates::add_day` meets its contract: after t turns the first t rates of the day are tested, and added to the first t sums.
 -- Assumes nothing.
-use mathlib.Core.Path.{_≡_, ap, _∙_, subst}
+use Prim.Native.Nat.{ℕ, _+_, _-_, _≤_}
+use mathlib.Core.Path.{_≡_, refl, ap, ap₂, sym, _∙_}
 use mathlib.Core.Bool.{Bool, _&&_}
-use Prim.Native.Nat.{_+_, _*_, _-_, _≤_}
+use mathlib.Core.List.{List, _++_}
 use native.Mathlib.Omega.{arith}
-use lib.ListN.{length}
+use lib.ListN.{length, getD, take, drop, length-set}
+use lib.IntN.{ℤ, pos}
+use lib.Seq.{take-all}
 use borrow.Author.Needs.{needs}
 use mir.Syntax.{w32}
 use mir.ValLaws.{toZ-ofZ}
-use Rattle.given.specs.inner.Raised.{raisedOr, SummedDays}
-use Rattle.given.proofs.rates.Signed.{raised-most}
-use Rattle.given.proofs.rates.Loops.{Partial, none-yet, one-more, all-added}
+use Rattle.model.specs.Fields.{rightAll}
+use Rattle.model.specs.Layout.{dailyRate}
+use Rattle.model.specs.Numbers.{table}
+use Rattle.theory.proofs.general.Lists.{and-true, table-filled, all-filled}
+use Rattle.scan.specs.inner.Sums.{rateRight, EachAtMost}
+use Rattle.scan.proofs.rates.Days.{entry-kept}
+use Rattle.given.specs.inner.Raised.{raisedOr, withDay}
+use Rattle.given.proofs.rates.Signed.{raised-most, raised-right}
+use Rattle.given.proofs.rates.Days.{one-tested}
 use Rattle.given.proofs.rates.add_day.Statement.{statement}
 use Rattle.given.proofs.rates.add_day.Tie as tie
 
 abbrev Inv-loop : tie.InvT-loop
-Inv-loop rates d held within₀ out₀ t₀ within out t =
-    Partial rates d held within out t × (60 * d + 60 ≤ length rates) × (d ≤ 70) × SummedDays rates d held
+Inv-loop day within₀ sums₀ t₀ within sums t =
+    (t ≤ 60) × (length day ≡ 60) × (length sums ≡ 60) × (length sums₀ ≡ 60) × EachAtMost 7590000 sums₀
+    × (within ≡ (within₀ && rightAll dailyRate (take t day)))
+    × (sums ≡ table (λ i. getD sums₀ i 0 + raisedOr (getD day i (pos 0))) t ++ drop t sums₀)
 
 abbrev μ-loop : tie.MeasureT-loop
-μ-loop rates d held within₀ out₀ t₀ within out t = 60 - t
+μ-loop day within₀ sums₀ t₀ within sums t = 60 - t
 
 loop-holds : tie.Need-loop-holds Inv-loop μ-loop
-loop-holds c =
-    let h = c .before .pre in
-    (none-yet _ _ _ (h .2), h .1, omega arith, h .2)
+unfolding table
+loop-holds c = (omega arith, search needs, search needs, search needs, c .before .pre, sym (and-true _), refl)
 
 mul-raised : tie.Need-mul-raised Inv-loop μ-loop
 mul-raised c = search needs
 
-add-raised : tie.Need-add-raised Inv-loop μ-loop
-add-raised c = search needs
-
-mul-raised-2 : tie.Need-mul-raised-2 Inv-loop μ-loop
-mul-raised-2 c = search needs
-
-shared-slice-copy-out-raised : tie.Need-shared-slice-copy-out-raised Inv-loop μ-loop
-shared-slice-copy-out-raised c = let h = c .before .loop .inv in omega (arith, h .1)
+array-copy-out-raised : tie.Need-array-copy-out-raised Inv-loop μ-loop
+array-copy-out-raised c = search needs
 
 raised-requires : tie.Need-raised-requires Inv-loop μ-loop
 raised-requires c κs = search needs
 
-mul-out : tie.Need-mul-out Inv-loop μ-loop
-mul-out c = search needs
+mul-sums : tie.Need-mul-sums Inv-loop μ-loop
+mul-sums c = search needs
 
-array-read-out : tie.Need-array-read-out Inv-loop μ-loop
-array-read-out c = search needs
+array-read-sums : tie.Need-array-read-sums Inv-loop μ-loop
+array-read-sums c = search needs
 
-add-out : tie.Need-add-out Inv-loop μ-loop
-add-out c =
+add-sums : tie.Need-add-sums Inv-loop μ-loop
+add-sums c =
     let l = c .before .before .before .loop in
-    let known = l .inv .0 .most .each (l .t) (omega arith) in
+    let (some, long, terms, before, most, tested, summed) = l .inv in
+    let known = most .each (l .t) (omega arith) in
+    let kept = entry-kept _ _ (l .sums) (l .t) (omega (arith, before)) summed in
     let small : c .raised .result ≤ 110000 = rw (c .raised .ensures) (raised-most _) in
     search needs
 
-array-write-out : tie.Need-array-write-out Inv-loop μ-loop
-array-write-out c = search needs
+array-write-sums : tie.Need-array-write-sums Inv-loop μ-loop
+array-write-sums c = search needs
 
 rate-right-requires : tie.Need-rate-right-requires Inv-loop μ-loop
 rate-right-requires c κs = search needs
@@ -74,22 +80,32 @@ loop-again c =
     let at = c .before .before .before .before .before in
     let l = at .loop in
     let a = at .before .before .args in
-    let (p, room, few, h) = l .inv in
-    let right = c .both .ensures ∙ ap (λ (b : Bool). l .within && b) (c .before .rate-right .ensures) in
-    let read = toZ-ofZ w32 _ record { sfits = c .before .before .before .raised-arg .given } in
+    let (some, long, terms, before, most, tested, summed) = l .inv in
+    let rate = getD (a .t2) (l .t) (pos 0) in
+    let read = toZ-ofZ w32 rate record { sfits = c .before .before .before .raised-arg .given } in
     let raised = c .before .before .raised .ensures ∙ ap raisedOr read in
-    (one-more (a .rates .now) (a .d) (a .held) h room p (omega arith) raised right, room, few, h)
-
-both-requires-2 : tie.Need-both-requires-2 Inv-loop μ-loop
-both-requires-2 c κs = search needs
+    let kept = entry-kept _ (a .held .sums) (l .sums) (l .t) (omega (arith, before)) summed in
+    let right = c .before .rate-right .ensures ∙ ap rateRight raised ∙ raised-right rate in (
+      omega arith,
+      long,
+      length-set (l .sums) (l .t) _ ∙ terms,
+      before,
+      most,
+      c .both .ensures ∙ ap (λ (b : Bool). l .within && b) right ∙ one-tested (a .held .within) (l .within) (a .t2) (l .t) (omega (arith, long)) tested,
+      table-filled _ (a .held .sums) (l .sums) (l .t) _ (omega (arith, before)) (ap₂ (λ (x y : ℕ). x + y) kept raised) summed,
+    )
 
 returns : tie.Need-returns Inv-loop μ-loop
+unfolding withDay
 returns c =
-    let l = c .before .before .loop in
-    let a = c .before .before .before .before .args in
-    let all : l .t ≡ 60 = omega arith in
-    let p : Partial (a .rates .now) (a .d) (a .held) (l .within) (l .out) 60 = subst (Partial (a .rates .now) (a .d) (a .held) (l .within) (l .out)) all (l .inv .0) in
-    all-added (a .rates .now) (a .d) (a .held) (l .inv .3) (l .inv .1) p (c .both2 .ensures)
+    let l = c .before .loop in
+    let a = c .before .before .before .args in
+    let (some, long, terms, before, most, tested, summed) = l .inv in
+    let n : l .t ≡ 60 = omega arith in
+    let sum : ℕ → ℕ = λ i. getD (a .held .sums) i 0 + raisedOr (getD (a .t2) i (pos 0)) in
+    ap₂ (λ (b : Bool) (sums : List ℕ). record { within = b; sums = sums })
+    (tested ∙ ap (λ (v : List ℤ). a .held .within && rightAll dailyRate v) (take-all (l .t) (a .t2) (omega (arith, long))))
+    (all-filled (a .held .sums) (l .sums) (table sum (l .t)) (l .t) (n ∙ sym before) summed ∙ rw n)
 
 pub add-day-spec : {M : Type 1} → statement M
 add-day-spec =
@@ -99,18 +115,15 @@ add-day-spec =
     μ-loop
     loop-holds
     mul-raised
-    add-raised
-    mul-raised-2
-    shared-slice-copy-out-raised
+    array-copy-out-raised
     raised-requires
-    mul-out
-    array-read-out
-    add-out
-    array-write-out
+    mul-sums
+    array-read-sums
+    add-sums
+    array-write-sums
     rate-right-requires
     both-requires
     add-t
     loop-less
     loop-again
-    both-requires-2
     returns)

@@ -1,10 +1,10 @@
 -- `given::rates::raised` meets its contract: a rate that passes both tests is within its limits. Assumes nothing.
 use mathlib.Core.Path.{_≡_, ap, sym, subst}
 use mathlib.Core.Bool.{true}
+use native.Mathlib.Omega.{arith}
 use lib.IntN.{ℤ, pos, negsuc, natAbs}
 use lib.Signed.{ltZ}
 use mir.Syntax.{w32}
-use native.Mathlib.Omega.{arith}
 use mir.ValLaws.{toZ-ofZ}
 use Rattle.given.proofs.rates.Signed.{too-low, too-high, raised-most, sum-fits, sum-read}
 use Rattle.given.proofs.rates.raised.Statement.{statement}

@@ -1,24 +1,32 @@
 -- `given::rates::sum_rates` meets its contract: after d turns the first d days are summed. Assumes nothing.
-use mathlib.Core.Path.{_≡_, subst}
-use Prim.Native.Nat.{ℕ, _-_, _≤_}
+use Prim.Native.Nat.{_-_, _≤_}
+use mathlib.Core.Path.{_≡_, _∙_}
 use native.Mathlib.Omega.{arith}
 use borrow.Author.Needs.{needs}
-use Rattle.given.specs.inner.Raised.{SummedDays}
-use Rattle.given.proofs.rates.Loops.{no-days}
+use Rattle.model.specs.Saving.{daysIn}
+use Rattle.given.specs.inner.Raised.{summed}
+use Rattle.given.proofs.rates.Days.{days-count, none-summed, summed-most, next-summed}
 use Rattle.given.proofs.rates.sum_rates.Statement.{statement}
 use Rattle.given.proofs.rates.sum_rates.Tie as tie
 
 abbrev Inv-loop : tie.InvT-loop
-Inv-loop rates days r₀ d₀ r d = (d ≤ days) × SummedDays rates d r
+Inv-loop rates days r₀ d₀ r d = (d ≤ days) × (r ≡ summed (daysIn d rates))
 
 abbrev μ-loop : tie.MeasureT-loop
 μ-loop rates days r₀ d₀ r d = days - d
 
 loop-holds : tie.Need-loop-holds Inv-loop μ-loop
-loop-holds c = (search needs, no-days _)
+loop-holds c = (search needs, none-summed)
+
+day-at-requires : tie.Need-day-at-requires Inv-loop μ-loop
+day-at-requires c κs = search needs
 
 add-day-requires : tie.Need-add-day-requires Inv-loop μ-loop
-add-day-requires c κs = search needs
+add-day-requires c κs =
+    let l = c .before .before .loop in
+    let a = c .before .before .before .args in
+    let few = c .before .before .before .pre .0 in
+    rw (l .inv .1) (summed-most (daysIn (l .d) (a .rates .now)) 7590000 (omega (arith, days-count (l .d) (a .rates .now))))
 
 add-d : tie.Need-add-d Inv-loop μ-loop
 add-d c = search needs
@@ -27,15 +35,22 @@ loop-less : tie.Need-loop-less Inv-loop μ-loop
 loop-less c = search needs
 
 loop-again : tie.Need-loop-again Inv-loop μ-loop
-loop-again c = search needs
+loop-again c =
+    let at = c .before .before .before in
+    let l = at .loop in
+    let rates = at .before .args .rates .now in
+    let room = at .before .pre .1 in (
+      omega arith,
+      next-summed rates (l .d) (omega (arith, room)) (l .inv .1) (c .before .day-at .ensures) (c .add-day .ensures),
+    )
 
 returns : tie.Need-returns Inv-loop μ-loop
 returns c =
     let a = c .before .before .args in
     let w : c .before .loop .d ≡ a .days = omega arith in
-    subst (λ (n : ℕ). SummedDays (a .rates .now) n (c .before .loop .r)) w (c .before .loop .inv .1)
+    c .before .loop .inv .1 ∙ rw w
 
 pub sum-rates-spec : {M : Type 1} → statement M
 sum-rates-spec =
     tie.close
-    (tie.spec Inv-loop μ-loop loop-holds add-day-requires add-d loop-less loop-again returns)
+    (tie.spec Inv-loop μ-loop loop-holds day-at-requires add-day-requires add-d loop-less loop-again returns)

@@ -14,6 +14,13 @@ use flat::flat_valuation;
 use flat::valuation_from;
 use listing::write_listing;
 use model::case::CaseFields;
+use model::rolling::ChangedWindow;
+use model::rolling::Day;
+use model::rolling::RollingWindow;
+use rolling::add_day;
+use rolling::drop_day;
+use rolling::empty;
+use rollingvalue::value_window;
 use scan::places::find;
 use window::window_point;
 use writer::save;
@@ -21,6 +28,7 @@ ghost use mathlib.Core.Path.{_≡_};
 ghost use lib.ListN.{length, take, drop};
 ghost use Rattle.model.specs.Buffers.{valuationOf, factorsAfter, ratesAfter};
 ghost use Rattle.model.specs.Refusals.{refusal, ratesPart};
+ghost use Rattle.model.specs.Rolling.{emptyWindow, addDay, dropDay, windowValuation, windowFactorsAfter, windowRatesAfter};
 ghost use Rattle.model.specs.Window.{windowPoint};
 ghost use Rattle.model.specs.Listing.{listingAfter, listingLength};
 ghost use Rattle.model.specs.Saving.{given, saveAnswer, savedAfter};
@@ -129,4 +137,57 @@ pub extern "C" fn ginghamowl_save(
 {
     let saved = save(fields, rates, pension, bonds, out);
     flat_saved(saved)
+}
+
+// An empty rolling window.
+#[no_mangle]
+pub extern "C" fn ginghamowl_rolling_empty() -> RollingWindow
+    ensures { λ r. ⌜ r ≡ emptyWindow ⌝ }
+{
+    empty()
+}
+
+// The rolling window with a day behind the newest, as `rolling::add_day` gives it.
+#[no_mangle]
+pub extern "C" fn ginghamowl_rolling_add(window: RollingWindow, day: Day) -> ChangedWindow
+    ensures { λ r. ⌜ r ≡ addDay window (day .rates) ⌝ }
+{
+    add_day(window, day)
+}
+
+// The rolling window without its oldest day, as `rolling::drop_day` gives it.
+#[no_mangle]
+pub extern "C" fn ginghamowl_rolling_drop(window: RollingWindow) -> ChangedWindow
+    ensures { λ r. ⌜ r ≡ dropDay window ⌝ }
+{
+    drop_day(window)
+}
+
+// Values the days of a rolling window with the other fields of a case, as `rollingvalue::value_window` does.
+#[no_mangle]
+pub extern "C" fn ginghamowl_rolling_value(
+    window: RollingWindow,
+    fields: CaseFields,
+    case_rates: &[i32],
+    pension: &[u64],
+    bonds: &[u64],
+    factors: &mut [u64],
+    rates: &mut [i64],
+) -> HostValuation
+    ensures { λ r. ⌜
+        r ≡ hostValuation
+        (windowValuation window (given fields (now («case_rates» .entry)) (now (pension .entry)) (now (bonds .entry)))
+        (length (now (factors .entry))) (length (now (rates .entry))))
+        ⌝ }
+    ensures factors { λ _. ⌜
+        now (factors .exit) ≡ windowFactorsAfter window (given fields (now («case_rates» .entry)) (now (pension .entry)) (now (bonds .entry)))
+        (now (factors .entry)) (now (rates .entry))
+        ⌝ }
+    ensures rates { λ _. ⌜
+        now (rates .exit) ≡ windowRatesAfter window (given fields (now («case_rates» .entry)) (now (pension .entry)) (now (bonds .entry)))
+        (now (factors .entry)) (now (rates .entry))
+        ⌝ }
+{
+    let valuation = value_window(window, fields, case_rates, pension, bonds, factors, rates);
+    flat_valuation(valuation)
 }

@@ -6,7 +6,9 @@
  *   bench count WORK FILE R   does the work R times and prints nothing, for callgrind
  *   bench stack WORK FILE     prints the bytes of stack that the work touches
  *
- * WORK is engine or plain (a valuation), checks (the engine's checks of the file) or saving (its case, saved by the engine).
+ * WORK is engine or plain (a valuation), checks (the engine's checks of the file), saving (its case, saved by the engine), or of a
+ * rolling window with the file's days: adding (the last of them), dropping (the first), rolling (its valuation with the case) or
+ * window (only refusal 27's check of it, by a valuation without buffers).
  *
  * No time is asserted. The exit status is 1 where any result differs. */
 #define _XOPEN_SOURCE 700 /* clock_gettime and makecontext */
@@ -33,13 +35,25 @@ struct result {
     ginghamowl_valuation valuation;
 };
 
-/* The case of the file, as a host hands it in to be saved. */
+/* The case of the file, as a host hands it in to be saved, and its days in a rolling window, with and without the last. */
 static struct {
     ginghamowl_case_fields fields;
-    int32_t rates[70 * GINGHAMOWL_DAY_RATES];
+    int32_t rates[GINGHAMOWL_WINDOW_RATES];
     size_t rates_length;
     struct fund fund;
+    ginghamowl_rolling_window all, but_last;
+    ginghamowl_day last;
 } held;
+
+static void roll(void)
+{
+    held.all = ginghamowl_rolling_empty();
+    for (size_t i = 0; i < held.rates_length; i += GINGHAMOWL_DAY_RATES) {
+        held.but_last = held.all;
+        memcpy(held.last.rates, held.rates + i, sizeof held.last.rates);
+        held.all = ginghamowl_rolling_add(held.but_last, held.last).window;
+    }
+}
 
 static void take_apart(void)
 {
@@ -56,6 +70,7 @@ static void take_apart(void)
     held.rates_length = part.length / 2;
     for (size_t i = 0; i < held.rates_length; i++)
         held.rates[i] = (int16_t)(rates[2 * i] << 8 | rates[2 * i + 1]);
+    roll();
 }
 
 static void load(const char *path)
@@ -104,6 +119,40 @@ static void engine_saving(const struct input *input)
                                                held.fund.bonds, held.fund.k, out, sizeof out).refusal;
 }
 
+/* Rolling windows. */
+static ginghamowl_changed_window latest_change;
+
+static void engine_adding(const struct input *input)
+{
+    (void)input;
+    latest_change = ginghamowl_rolling_add(held.but_last, held.last);
+}
+
+static void engine_dropping(const struct input *input)
+{
+    (void)input;
+    latest_change = ginghamowl_rolling_drop(held.all);
+}
+
+static void value_window(size_t entries)
+{
+    latest.valuation = ginghamowl_rolling_value(held.all, held.fields, held.rates, held.rates_length, held.fund.pension, held.fund.m,
+                                                held.fund.bonds, held.fund.k, latest.factors, entries, latest.rates, entries);
+}
+
+static void engine_rolling(const struct input *input)
+{
+    (void)input;
+    value_window(GINGHAMOWL_ENTRIES);
+}
+
+/* 13 comes straight after 27. */
+static void engine_window(const struct input *input)
+{
+    (void)input;
+    value_window(0);
+}
+
 static void plain_reading(const struct input *input) { read_fund(input->bytes, &latest_fund); }
 
 static void plain_curves(const struct input *input)
@@ -127,7 +176,7 @@ struct work {
     const char *remark;
 };
 
-enum { PLAIN = 1, PROGRAMS = 4, PARTS = 7 };
+enum { PLAIN = 1, PROGRAMS = 4, PARTS = 11 };
 static const struct work programs[PROGRAMS] = {
     {"engine", engine, "whole valuation, with the checks of the file; proved"},
     {"plain C", plain, "whole valuation, without the checks of the file"},
@@ -138,6 +187,10 @@ static const struct work parts[PARTS] = {
     {"plain C: whole valuation", plain, ""},
     {"engine: the checks of the file alone", engine_checks, ""},
     {"engine: saving the case", engine_saving, ""},
+    {"engine: adding a day to a window", engine_adding, ""},
+    {"engine: dropping a day from it", engine_dropping, ""},
+    {"engine: refusal 27's check of it alone", engine_window, ""},
+    {"engine: valuing it", engine_rolling, ""},
     {"plain C: reading", plain_reading, ""},
     {"plain C: reading, 3 curves", plain_curves, ""},
     {"plain C: reading, 3 curves, zero rates", plain_curves_and_rates, ""}};
@@ -146,7 +199,9 @@ static const struct work parts[PARTS] = {
 static const struct work *work_named(const char *name)
 {
     static const struct work counted[] = {
-        {"engine", engine, ""}, {"plain", plain, ""}, {"checks", engine_checks, ""}, {"saving", engine_saving, ""}};
+        {"engine", engine, ""},          {"plain", plain, ""},           {"checks", engine_checks, ""},
+        {"saving", engine_saving, ""},   {"adding", engine_adding, ""},  {"dropping", engine_dropping, ""},
+        {"rolling", engine_rolling, ""}, {"window", engine_window, ""}};
 
     for (size_t i = 0; i < sizeof counted / sizeof *counted; i++)
         if (strcmp(counted[i].name, name) == 0)

@@ -2,8 +2,9 @@
  *
  * "Document 01" is "The UFR curve and the solvency verdict of one fund". It says what a case file
  * is, what each figure means and what each refusal is. "Document 02" has the requests that came
- * later; ginghamowl_save and its refusal 14 are its request One. The functions below are those of
- * the crate `host` (crates/host/src/lib.rt), and their contracts there are proved against both.
+ * later: ginghamowl_save and its refusal 14 are its request One, the rolling window of days and its
+ * refusals 15, 16 and 27 its request Two. The functions below are those of the crate `host`
+ * (crates/host/src/lib.rt), and their contracts there are proved against both.
  *
  * LENT MEMORY, the same for every function:
  *
@@ -17,7 +18,8 @@
  *   - No function reads or writes outside the entries lent, keeps a pointer after it returns, uses
  *     the heap, has a state of its own, or reads anything but its arguments. So calls from several
  *     threads at once need no lock. A call needs less than 64 KiB of stack.
- *   - Nothing is asked of the CONTENT of what is lent: any bytes, numbers and lengths are answered.
+ *   - Nothing is asked of the CONTENT of what is lent, or handed in by value: any bytes, numbers and
+ *     lengths are answered.
  *
  * Link libginghamowl.a or libginghamowl.so with any C or C++ program for x86-64 Linux; both need no
  * library but the C library. `hosts/build` makes them in hosts/target, and `hosts/install PREFIX` puts
@@ -39,21 +41,24 @@ extern "C" {
 /* Of this header. Before 1.0 a new minor version may change what stands here; the shared library's
  * name has both numbers for that reason, libginghamowl.so.MAJOR.MINOR. */
 /* hosts/words writes: version */
-#define GINGHAMOWL_VERSION "0.4.0"
+#define GINGHAMOWL_VERSION "0.5.0"
 #define GINGHAMOWL_VERSION_MAJOR 0
-#define GINGHAMOWL_VERSION_MINOR 4
+#define GINGHAMOWL_VERSION_MINOR 5
 #define GINGHAMOWL_VERSION_PATCH 0
 /* hosts/words: end of version */
 
 /* ---------------------------------------------------------------- sizes */
 
 enum {
-    GINGHAMOWL_TERMS = 120,        /* the terms of the curve: 1 to 120 years */
-    GINGHAMOWL_DAY_RATES = 60,     /* the zero rates of a day: terms 1 to 60 */
-    GINGHAMOWL_ENTRIES = 240,      /* the least length of a factor or rate buffer */
-    GINGHAMOWL_FILE_BYTES = 9223,  /* the longest accepted file; one byte more decides a refusal, and
-                                      every saved case fits */
-    GINGHAMOWL_LISTING_BYTES = 512 /* a listing always fits into so many bytes */
+    GINGHAMOWL_TERMS = 120,         /* the terms of the curve: 1 to 120 years */
+    GINGHAMOWL_DAY_RATES = 60,      /* the zero rates of a day: terms 1 to 60 */
+    GINGHAMOWL_ENTRIES = 240,       /* the least length of a factor or rate buffer */
+    GINGHAMOWL_FILE_BYTES = 9223,   /* the longest accepted file; one byte more decides a refusal, and
+                                       every saved case fits */
+    GINGHAMOWL_LISTING_BYTES = 512, /* a listing always fits into so many bytes */
+    GINGHAMOWL_WINDOW_DAYS = 70,    /* the slots of a rolling window, and the most days that it holds */
+    GINGHAMOWL_WINDOW_RATES = 4200, /* the rates of all its slots */
+    GINGHAMOWL_WINDOW_BYTES = 8896  /* the size of a rolling window */
 };
 
 /* Where the ends of term t (1 to 120) stand in a factor or rate buffer. */
@@ -62,10 +67,11 @@ enum {
 
 /* ---------------------------------------------------------------- refusals */
 
-/* Document 01's numbers, and 14 of document 02. 1 to 12 are errors of the office that made the file
- * or the case, 13 and 14 of the host. The first that applies is given. For a file the order is
- * document 01's: 13; the map (1, then 3); each field in bit order; then 2; then 6. For a case that is
- * saved, ginghamowl_save below has it. */
+/* Document 01's numbers, and 14, 15, 16 and 27 of document 02; no refusal has the numbers 17 to 26.
+ * 1 to 12 are errors of the office that made the file, the case or the day, the others of the host.
+ * The first that applies is given. For a file the order is document 01's: 13; the map (1, then 3);
+ * each field in bit order; then 2; then 6. For a case that is saved, and for a rolling window, the
+ * functions below have it. */
 /* hosts/words writes: refusals */
 enum {
     GINGHAMOWL_ACCEPTED = 0,
@@ -104,7 +110,14 @@ enum {
     GINGHAMOWL_REFUSED_BUFFER = 13,
     /* the lent buffer is too short for the case; it must have at least as many bytes as the
      * case's shortest file */
-    GINGHAMOWL_REFUSED_SAVED_BUFFER = 14
+    GINGHAMOWL_REFUSED_SAVED_BUFFER = 14,
+    /* the rolling window is full; it must hold at most 69 days for one to be added */
+    GINGHAMOWL_REFUSED_ROLLING_FULL = 15,
+    /* the rolling window is empty; it must hold a day for the oldest to be dropped */
+    GINGHAMOWL_REFUSED_ROLLING_EMPTY = 16,
+    /* the rolling window is damaged; its count must be at most 70, its start at most 69, each
+     * rate of a day held -1,000 to 10,000 steps, and each sum that of the days held */
+    GINGHAMOWL_REFUSED_DAMAGED = 27
 };
 /* hosts/words: end of refusals */
 
@@ -202,6 +215,48 @@ typedef struct {
     size_t written;
 } ginghamowl_saved;
 
+/* A rolling window of days: the last trading days, up to 70, with the sum of each term's rates beside
+ * them. (The window of ginghamowl_window_point is another thing: a screen that shows a valuation.)
+ *
+ * It is a ring of 70 slots. Day i, counted from the oldest, which is day 0, stands in slot
+ * (start + i) % 70, and its term t at rates[60 * slot + t - 1]. A slot that holds none of the `count`
+ * days is free: whatever lies there makes no difference to any answer.
+ *
+ * The struct has 8,896 bytes (GINGHAMOWL_WINDOW_BYTES), without padding or pointers. So a host may
+ * write it to a file as it is, and read it back on a machine of the same byte order, as all x86-64
+ * are. Any bytes that are read back are answered. A window is damaged, and every function that takes
+ * it answers 27, where
+ *
+ *   - `count` is above 70, or `start` above 69, also where no day is held;
+ *   - a rate of a day held is outside -1,000 to 10,000; or
+ *   - a sum is not that of the days held; of no days it is 0.
+ *
+ * 27 is no checksum: two held days that have changed places pass, and so does any free slot. */
+typedef struct {
+    uint64_t count;                          /* the days held, 0 to 70 */
+    uint64_t start;                          /* the slot of the oldest day, 0 to 69 */
+    int16_t rates[GINGHAMOWL_WINDOW_RATES];  /* the zero rates of each slot, in steps of 0.00001 */
+    int64_t sums[GINGHAMOWL_DAY_RATES];      /* of term t, at t - 1, the sum over the days held */
+} ginghamowl_rolling_window;
+
+#if defined(__cplusplus) && __cplusplus >= 201103L
+static_assert(sizeof(ginghamowl_rolling_window) == GINGHAMOWL_WINDOW_BYTES, "the size is fixed");
+#elif defined(__STDC_VERSION__) && __STDC_VERSION__ >= 201112L
+_Static_assert(sizeof(ginghamowl_rolling_window) == GINGHAMOWL_WINDOW_BYTES, "the size is fixed");
+#endif
+
+/* The zero rates of a day in steps of 0.00001; term t stands at t - 1. */
+typedef struct {
+    int32_t rates[GINGHAMOWL_DAY_RATES];
+} ginghamowl_day;
+
+/* `refusal` is GINGHAMOWL_ACCEPTED or a refusal. `window` is the changed one; after a refusal it is the
+ * one that was handed in, bit for bit. What was handed in by value stays as it is. */
+typedef struct {
+    uint8_t refusal;
+    ginghamowl_rolling_window window;
+} ginghamowl_changed_window;
+
 /* ---------------------------------------------------------------- functions */
 
 /* Values a case file. On acceptance the entries 0 to 239 of both buffers are written, lower and
@@ -262,6 +317,46 @@ ginghamowl_saved ginghamowl_save(ginghamowl_case_fields fields,
                                  const uint64_t *pension, size_t pension_length,
                                  const uint64_t *bonds, size_t bonds_length,
                                  uint8_t *out, size_t out_length);
+
+/* The rolling window that holds no day: every number in it is 0. */
+ginghamowl_rolling_window ginghamowl_rolling_empty(void);
+
+/* Adds a day to a rolling window, as the newest: writes its rates into the slot behind the newest day,
+ * (start + count) % 70, adds 1 to `count`, and sets the sums to those of the days then held. All else
+ * stays as it is. The first refusal that applies is given, in this order:
+ *
+ *   27             the window is damaged
+ *   15             it holds 70 days; the rates are not looked at
+ *   5              a rate of the day is outside -1,000 to 10,000 */
+ginghamowl_changed_window ginghamowl_rolling_add(ginghamowl_rolling_window window, ginghamowl_day day);
+
+/* Drops the oldest day of a rolling window: sets `start` to (start + 1) % 70, takes 1 from `count`, and
+ * sets the sums to those of the days then held. No rate changes: the slot that is left keeps what it
+ * had. The first refusal that applies is given, in this order:
+ *
+ *   27             the window is damaged
+ *   16             it holds no day */
+ginghamowl_changed_window ginghamowl_rolling_drop(ginghamowl_rolling_window window);
+
+/* Values a case with the days of a rolling window in place of its own. The case is handed in as
+ * ginghamowl_save takes it, its own days in `case_rates`. The answer, and what both buffers hold
+ * afterwards, is what ginghamowl_value gives of a file with the window's days, oldest first, and the
+ * other fields of the case. The first refusal that applies is given, in this order:
+ *
+ *   27             the window is damaged
+ *   13             a buffer has fewer than 240 entries
+ *   9, 4, 5, 7, 8, 7, 8, 10, 11, 12, 6
+ *                  the case's own numbers, its own days included, as ginghamowl_save checks them
+ *   4              the window holds no day
+ *   6              the one-year forward rates of the window's days
+ *
+ * A refusal changes neither buffer. */
+ginghamowl_valuation ginghamowl_rolling_value(ginghamowl_rolling_window window, ginghamowl_case_fields fields,
+                                              const int32_t *case_rates, size_t case_rates_length,
+                                              const uint64_t *pension, size_t pension_length,
+                                              const uint64_t *bonds, size_t bonds_length,
+                                              uint64_t *factors, size_t factors_length,
+                                              int64_t *rates, size_t rates_length);
 
 #ifdef __cplusplus
 }

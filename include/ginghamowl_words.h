@@ -46,6 +46,13 @@ static inline const char *ginghamowl_refusal_sentence(unsigned number)
     case GINGHAMOWL_REFUSED_SAVED_BUFFER:
         return "the lent buffer is too short for the case; it must have at least as many bytes as "
                "the case's shortest file";
+    case GINGHAMOWL_REFUSED_ROLLING_FULL:
+        return "the rolling window is full; it must hold at most 69 days for one to be added";
+    case GINGHAMOWL_REFUSED_ROLLING_EMPTY:
+        return "the rolling window is empty; it must hold a day for the oldest to be dropped";
+    case GINGHAMOWL_REFUSED_DAMAGED:
+        return "the rolling window is damaged; its count must be at most 70, its start at most 69, "
+               "each rate of a day held -1,000 to 10,000 steps, and each sum that of the days held";
     default:
         return "no refusal has this number";
     }

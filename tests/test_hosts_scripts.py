@@ -40,6 +40,14 @@ size_t ginghamowl_listing(ginghamowl_valuation v, uint8_t *out, size_t n) { (voi
 ginghamowl_saved ginghamowl_save(ginghamowl_case_fields c, const int32_t *r, size_t n, const uint64_t *p, size_t m, const uint64_t *b,
                                  size_t k, uint8_t *out, size_t l)
 { ginghamowl_saved s = {4, 0}; (void)c; (void)r; (void)n; (void)p; (void)m; (void)b; (void)k; (void)out; (void)l; return s; }
+ginghamowl_rolling_window ginghamowl_rolling_empty(void) { ginghamowl_rolling_window w = {0, 0, {0}, {0}}; return w; }
+ginghamowl_changed_window ginghamowl_rolling_add(ginghamowl_rolling_window w, ginghamowl_day d)
+{ ginghamowl_changed_window c = {15, w}; (void)d; return c; }
+ginghamowl_changed_window ginghamowl_rolling_drop(ginghamowl_rolling_window w) { ginghamowl_changed_window c = {16, w}; return c; }
+ginghamowl_valuation ginghamowl_rolling_value(ginghamowl_rolling_window w, ginghamowl_case_fields c, const int32_t *r, size_t n,
+                                              const uint64_t *p, size_t m, const uint64_t *b, size_t k, uint64_t *f, size_t l,
+                                              int64_t *z, size_t o)
+{ (void)w; (void)c; (void)r; (void)n; (void)p; (void)m; (void)b; (void)k; (void)f; (void)l; (void)z; (void)o; return none; }
 """
 
 
@@ -96,7 +104,7 @@ class Build(InACopy):
         dynamic = subprocess.run(["readelf", "-d", self.target / self.soname], capture_output=True, text=True, check=True).stdout
         self.assertIn(f"[{self.soname}]", dynamic)
         symbols = subprocess.run(["nm", "-D", "--defined-only", self.target / self.soname], capture_output=True, text=True).stdout
-        self.assertEqual(symbols.count(" T ginghamowl_"), 6)
+        self.assertEqual(symbols.count(" T ginghamowl_"), 10)
 
     def test_only_content_counts(self):
         self.builds(1)

@@ -1,8 +1,10 @@
 /* The engine's boundary under libFuzzer: each input is a case file, and is answered with lent buffers of several lengths. The case
- * of an accepted one is saved, and what was saved is answered too.
+ * of an accepted one is saved, and what was saved is answered too. Each input is also a rolling window: as it is, and mended step
+ * by step, for bytes that come by chance are damaged.
  *
  * The archive carries no instrumentation, so the fuzzer sees nothing of the engine's branches. What it sees is the answer: a
- * counter for each refusal, verdict and length (`answers`), so that it keeps a file of each kind and goes on from there.
+ * counter for each refusal, verdict and length, and for each kind of rolling window (`answers`), so that it keeps a file of each
+ * kind and goes on from there.
  *
  * Every buffer ends where a page begins that nobody may touch: an entry read or written too many ends the run at once.
  */
@@ -17,10 +19,10 @@
 
 int LLVMFuzzerTestOneInput(const uint8_t *data, size_t size);
 
-enum { KINDS = 17, LENGTHS = 64, LONGEST = 9223, MOST = 1000 };
+enum { KINDS = 17, LENGTHS = 64, WINDOWS = 6, LONGEST = 9223, MOST = 1000 };
 
 /* libFuzzer takes the bytes of this section for counters of coverage. Nothing here reads them, hence volatile. */
-__attribute__((section("__libfuzzer_extra_counters"))) static volatile uint8_t answers[KINDS * LENGTHS];
+__attribute__((section("__libfuzzer_extra_counters"))) static volatile uint8_t answers[KINDS * LENGTHS + WINDOWS];
 
 #define REQUIRE(what) require(__LINE__, (what), #what)
 
@@ -224,6 +226,250 @@ static void saved(const uint8_t *file, size_t size)
     take_back(shorter, length - 1);
 }
 
+/* ---------------------------------------------------------------- rolling windows */
+
+enum { SLOTS = GINGHAMOWL_WINDOW_DAYS, DAY = GINGHAMOWL_DAY_RATES };
+
+static int within_limits(int32_t rate)
+{
+    return rate >= -1000 && rate <= 10000;
+}
+
+/* Where a held day, counted from the oldest, has its rates. */
+static size_t place_of(const ginghamowl_rolling_window *w, uint64_t day)
+{
+    return DAY * ((w->start + day) % SLOTS);
+}
+
+static void set_sums(ginghamowl_rolling_window *w)
+{
+    memset(w->sums, 0, sizeof w->sums);
+    for (uint64_t day = 0; day < w->count; day++)
+        for (size_t t = 0; t < DAY; t++)
+            w->sums[t] += w->rates[place_of(w, day) + t];
+}
+
+static int is_damaged(const ginghamowl_rolling_window *w)
+{
+    if (w->count > SLOTS || w->start >= SLOTS)
+        return 1;
+    for (uint64_t day = 0; day < w->count; day++)
+        for (size_t t = 0; t < DAY; t++)
+            if (!within_limits(w->rates[place_of(w, day) + t]))
+                return 1;
+    ginghamowl_rolling_window right = *w;
+    set_sums(&right);
+    return memcmp(w->sums, right.sums, sizeof right.sums) != 0;
+}
+
+/* The day is added, or refused. Any day may be handed in. */
+static void added(const ginghamowl_rolling_window *w, int damaged, ginghamowl_day day)
+{
+    ginghamowl_changed_window changed = ginghamowl_rolling_add(*w, day);
+    ginghamowl_rolling_window expected = *w;
+    uint8_t refusal = damaged ? GINGHAMOWL_REFUSED_DAMAGED : w->count == SLOTS ? GINGHAMOWL_REFUSED_ROLLING_FULL : 0;
+
+    for (size_t t = 0; t < DAY && refusal == 0; t++)
+        if (!within_limits(day.rates[t]))
+            refusal = GINGHAMOWL_REFUSED_RATE;
+    if (refusal == 0) {
+        expected.count++;
+        for (size_t t = 0; t < DAY; t++)
+            expected.rates[place_of(w, w->count) + t] = (int16_t)day.rates[t];
+        set_sums(&expected);
+    }
+    REQUIRE(changed.refusal == refusal && memcmp(&changed.window, &expected, sizeof expected) == 0);
+}
+
+/* The oldest day is dropped, or that is refused. */
+static void dropped(const ginghamowl_rolling_window *w, int damaged)
+{
+    ginghamowl_changed_window changed = ginghamowl_rolling_drop(*w);
+    ginghamowl_rolling_window expected = *w;
+    uint8_t refusal = damaged ? GINGHAMOWL_REFUSED_DAMAGED : w->count == 0 ? GINGHAMOWL_REFUSED_ROLLING_EMPTY : 0;
+
+    if (refusal == 0) {
+        expected.count--;
+        expected.start = (w->start + 1) % SLOTS;
+        set_sums(&expected);
+    }
+    REQUIRE(changed.refusal == refusal && memcmp(&changed.window, &expected, sizeof expected) == 0);
+}
+
+static ginghamowl_valuation rolling_value(const ginghamowl_rolling_window *w, const held_case *c, uint64_t *factors,
+                                          uint64_t *rates)
+{
+    int32_t *case_rates = lend_copy(c->rates, 4 * c->rates_length);
+    uint64_t *pension = lend_copy(c->pension, 8 * c->pension_length), *bonds = lend_copy(c->bonds, 8 * c->bonds_length);
+    ginghamowl_valuation v = ginghamowl_rolling_value(*w, c->fields, case_rates, c->rates_length, pension, c->pension_length, bonds,
+                                                      c->bonds_length, factors, GINGHAMOWL_ENTRIES, (int64_t *)rates,
+                                                      GINGHAMOWL_ENTRIES);
+
+    take_back(case_rates, 4 * c->rates_length);
+    take_back(pension, 8 * c->pension_length);
+    take_back(bonds, 8 * c->bonds_length);
+    return v;
+}
+
+static held_case with_days(held_case c, const ginghamowl_rolling_window *w)
+{
+    c.rates_length = w->count * DAY;
+    for (uint64_t day = 0; day < w->count; day++)
+        for (size_t t = 0; t < DAY; t++)
+            c.rates[day * DAY + t] = w->rates[place_of(w, day) + t];
+    return c;
+}
+
+/* A case within the limits, with the window's days, has the answer and the buffers of the file that is saved with these days. It is
+ * refused where the window is damaged, or saving refuses the days; the buffers then hold what they held. */
+static void rolling_valued(const ginghamowl_rolling_window *w, int damaged, const held_case *c)
+{
+    uint8_t file[GINGHAMOWL_FILE_BYTES];
+    uint64_t *factors = lend(8 * GINGHAMOWL_ENTRIES), *rates = lend(8 * GINGHAMOWL_ENTRIES);
+    uint64_t file_factors[GINGHAMOWL_ENTRIES], file_rates[GINGHAMOWL_ENTRIES];
+    ginghamowl_valuation of_file = {.refusal = GINGHAMOWL_REFUSED_DAMAGED};
+
+    hold(factors, GINGHAMOWL_ENTRIES);
+    hold(rates, GINGHAMOWL_ENTRIES);
+    hold(file_factors, GINGHAMOWL_ENTRIES);
+    hold(file_rates, GINGHAMOWL_ENTRIES);
+    if (!damaged) {
+        held_case changed = with_days(*c, w);
+        ginghamowl_saved saved = ginghamowl_save(changed.fields, changed.rates, changed.rates_length, changed.pension,
+                                                 changed.pension_length, changed.bonds, changed.bonds_length, file, sizeof file);
+
+        of_file.refusal = saved.refusal;
+        if (saved.refusal == GINGHAMOWL_ACCEPTED)
+            of_file = ginghamowl_value(file, saved.written, file_factors, GINGHAMOWL_ENTRIES, (int64_t *)file_rates,
+                                       GINGHAMOWL_ENTRIES);
+    }
+    ginghamowl_valuation v = rolling_value(w, c, factors, rates);
+    REQUIRE(v.refusal == of_file.refusal && v.verdict == of_file.verdict);
+    REQUIRE(memcmp(&v.figures, &of_file.figures, sizeof v.figures) == 0);
+    REQUIRE(memcmp(factors, file_factors, sizeof file_factors) == 0 && memcmp(rates, file_rates, sizeof file_rates) == 0);
+    take_back(factors, 8 * GINGHAMOWL_ENTRIES);
+    take_back(rates, 8 * GINGHAMOWL_ENTRIES);
+}
+
+/* Every call with a window of any bytes, and a case within the limits. What lies in the first slot is the day to add. */
+static void rolled(const ginghamowl_rolling_window *w, const held_case *c)
+{
+    int damaged = is_damaged(w);
+    ginghamowl_day day;
+
+    for (size_t t = 0; t < DAY; t++)
+        day.rates[t] = w->rates[t];
+    added(w, damaged, day);
+    day.rates[w->start % DAY] += 65536; /* cut to two bytes it would be as before */
+    added(w, damaged, day);
+    dropped(w, damaged);
+    rolling_valued(w, damaged, c);
+}
+
+/* The bytes as a window. What they are too few for is 0. */
+static ginghamowl_rolling_window window_in(const uint8_t *bytes, size_t size)
+{
+    ginghamowl_rolling_window w = {.count = 0};
+
+    if (size != 0)
+        memcpy(&w, bytes, size < sizeof w ? size : sizeof w);
+    return w;
+}
+
+/* The window with count and start within range, and the sums of the days that it then holds: only rates may be out of limits. */
+static ginghamowl_rolling_window summed(ginghamowl_rolling_window w)
+{
+    w.count %= SLOTS + 1;
+    w.start %= SLOTS;
+    set_sums(&w);
+    return w;
+}
+
+/* The same with its held rates within limits: it is not damaged. */
+static ginghamowl_rolling_window mended(ginghamowl_rolling_window w)
+{
+    w = summed(w);
+    for (uint64_t day = 0; day < w.count; day++)
+        for (size_t t = 0; t < DAY; t++) {
+            int16_t *rate = &w.rates[place_of(&w, day) + t];
+
+            if (!within_limits(*rate))
+                *rate = (int16_t)((uint16_t)*rate % 11001 - 1000);
+        }
+    return summed(w);
+}
+
+/* A number that differs from input to input. */
+static uint64_t hash_of(const uint8_t *bytes, size_t size)
+{
+    uint64_t hash = 14695981039346656037u; /* FNV-1a */
+
+    for (size_t i = 0; i < size; i++)
+        hash = (hash ^ bytes[i]) * 1099511628211u;
+    return hash;
+}
+
+/* The window with one bit changed: of any byte, or of one that belongs to no rate. */
+static ginghamowl_rolling_window with_one_bit(ginghamowl_rolling_window w, uint64_t chosen)
+{
+    enum { HEAD = offsetof(ginghamowl_rolling_window, rates), RATES = sizeof w.rates };
+    uint8_t bytes[sizeof w];
+    size_t at = chosen / 16 % sizeof bytes, no_rate = chosen / 16 % (sizeof bytes - RATES);
+
+    if (chosen % 2 == 1)
+        at = no_rate < HEAD ? no_rate : no_rate + RATES;
+    memcpy(bytes, &w, sizeof bytes);
+    bytes[at] ^= (uint8_t)(1 << chosen / 2 % 8);
+    return window_in(bytes, sizeof bytes);
+}
+
+/* A window with the days of a case, added one after the other. Start and free slots are those of `w`. */
+static ginghamowl_rolling_window window_of(const held_case *c, ginghamowl_rolling_window w)
+{
+    w.count = 0;
+    w.start %= SLOTS;
+    memset(w.sums, 0, sizeof w.sums);
+    for (const int32_t *rates = c->rates; rates < c->rates + c->rates_length; rates += DAY) {
+        ginghamowl_day day;
+
+        memcpy(day.rates, rates, sizeof day.rates);
+        ginghamowl_changed_window changed = ginghamowl_rolling_add(w, day);
+        REQUIRE(changed.refusal == GINGHAMOWL_ACCEPTED);
+        w = changed.window;
+    }
+    return w;
+}
+
+/* Which of the WINDOWS kinds a window is: damaged, with count and start both, one or none out of range; or empty, between, full. */
+static size_t window_kind(const ginghamowl_rolling_window *w)
+{
+    if (is_damaged(w))
+        return (size_t)(w->count <= SLOTS) + (w->start < SLOTS);
+    return w->count == 0 ? 3 : w->count < SLOTS ? 4 : 5;
+}
+
+/* The input as rolling windows, valued with its case where it is accepted. */
+static void rolling_windows(const uint8_t *file, size_t size, int accepted)
+{
+    static const held_case plain = {.fields = {.ufr = 4200, .people = {100, 780, 460}}, .rates_length = DAY, .pension = {1000000},
+                                    .pension_length = 1};
+    held_case c = accepted ? decoded(file) : plain;
+    ginghamowl_rolling_window given = window_in(file, size), right_sums = summed(given), right = mended(given);
+    ginghamowl_rolling_window one_bit = with_one_bit(right, hash_of(file, size));
+
+    REQUIRE(!is_damaged(&right));
+    rolled(&given, &c);
+    rolled(&right_sums, &c);
+    rolled(&right, &c);
+    rolled(&one_bit, &c);
+    if (accepted) {
+        ginghamowl_rolling_window of_case = window_of(&c, given);
+
+        rolled(&of_case, &c);
+    }
+    answers[KINDS * LENGTHS + window_kind(&given)] = 1;
+}
+
 int LLVMFuzzerTestOneInput(const uint8_t *data, size_t size)
 {
     static const size_t lengths[] = {0, 239, 240, MOST};
@@ -240,6 +486,7 @@ int LLVMFuzzerTestOneInput(const uint8_t *data, size_t size)
     listed(v);
     if (v.refusal == GINGHAMOWL_ACCEPTED)
         saved(file, size);
+    rolling_windows(file, size, v.refusal == GINGHAMOWL_ACCEPTED);
 
     size_t kind = v.refusal == GINGHAMOWL_ACCEPTED ? 12 + (size_t)v.verdict : v.refusal;
     size_t length = size < LONGEST ? size * LENGTHS / (LONGEST + 1) : LENGTHS - 1;

@@ -25,6 +25,13 @@ _Static_assert(sizeof(ginghamowl_case_fields) == 192, "the UFR and the three abo
 _Static_assert(offsetof(ginghamowl_case_fields, people) == 168, "the people are the last");
 _Static_assert(sizeof(ginghamowl_saved) == 16, "a byte, padded to 8, and a size");
 _Static_assert(offsetof(ginghamowl_saved, written) == 8, "the count behind the refusal");
+_Static_assert(sizeof(ginghamowl_rolling_window) == 8896, "two numbers, 4,200 rates of 2 bytes and 60 sums");
+_Static_assert(offsetof(ginghamowl_rolling_window, start) == 8, "the start behind the count");
+_Static_assert(offsetof(ginghamowl_rolling_window, rates) == 16, "the rates behind both");
+_Static_assert(offsetof(ginghamowl_rolling_window, sums) == 8416, "the sums are the last");
+_Static_assert(sizeof(ginghamowl_day) == 240, "60 rates of 4 bytes");
+_Static_assert(sizeof(ginghamowl_changed_window) == 8904, "a byte, padded to 8, and the window");
+_Static_assert(offsetof(ginghamowl_changed_window, window) == 8, "the window behind the refusal");
 
 static unsigned long checks, failures;
 
@@ -957,6 +964,514 @@ static void test_save_as_files_are_read(void)
         CHECK(seen[round] > 10);
 }
 
+/* ---------------------------------------------------------------- rolling windows */
+
+enum { SLOTS = GINGHAMOWL_WINDOW_DAYS };
+
+/* Where a held day, counted from the oldest, has its rates. */
+static size_t place_of(const ginghamowl_rolling_window *w, uint64_t day)
+{
+    return DAY * ((w->start + day) % SLOTS);
+}
+
+static void set_sums(ginghamowl_rolling_window *w)
+{
+    uint64_t day;
+    size_t t;
+
+    memset(w->sums, 0, sizeof w->sums);
+    for (day = 0; day < w->count; day++)
+        for (t = 0; t < DAY; t++)
+            w->sums[t] += w->rates[place_of(w, day) + t];
+}
+
+static int is_damaged(const ginghamowl_rolling_window *w)
+{
+    ginghamowl_rolling_window right;
+    uint64_t day;
+    size_t t;
+
+    if (w->count > SLOTS || w->start >= SLOTS)
+        return 1;
+    for (day = 0; day < w->count; day++)
+        for (t = 0; t < DAY; t++)
+            if (w->rates[place_of(w, day) + t] < -1000 || w->rates[place_of(w, day) + t] > 10000)
+                return 1;
+    right = *w;
+    set_sums(&right);
+    return memcmp(w->sums, right.sums, sizeof right.sums) != 0;
+}
+
+/* From -900 upwards, a little uneven, as the days of largest_case. Any list of such days passes refusal 6. */
+static ginghamowl_day numbered_day(size_t number)
+{
+    ginghamowl_day day;
+    size_t t;
+
+    for (t = 0; t < DAY; t++)
+        day.rates[t] = (int32_t)(20 * (number % 500) + (DAY * number + t) * (DAY * number + t) % 11) - 900;
+    return day;
+}
+
+static ginghamowl_day flat_day(int32_t first, int32_t others)
+{
+    ginghamowl_day day;
+    size_t t;
+
+    for (t = 0; t < DAY; t++)
+        day.rates[t] = t == 0 ? first : others;
+    return day;
+}
+
+static void set_day(ginghamowl_rolling_window *w, uint64_t day, ginghamowl_day rates)
+{
+    size_t t;
+
+    for (t = 0; t < DAY; t++)
+        w->rates[place_of(w, day) + t] = (int16_t)rates.rates[t];
+}
+
+/* A window of numbered days. Its free slots have rates that no day may have. */
+static ginghamowl_rolling_window made_window(uint64_t start, uint64_t count)
+{
+    ginghamowl_rolling_window w;
+    size_t i;
+
+    w.start = start;
+    w.count = count;
+    for (i = 0; i < GINGHAMOWL_WINDOW_RATES; i++)
+        w.rates[i] = i % 2 == 0 ? INT16_MIN : INT16_MAX;
+    for (i = 0; i < count; i++)
+        set_day(&w, i, numbered_day(i));
+    set_sums(&w);
+    return w;
+}
+
+/* ---------------------------------------------------------------- tests of rolling windows */
+
+static int same_window(const ginghamowl_rolling_window *w, const ginghamowl_rolling_window *other)
+{
+    return memcmp(w, other, sizeof *w) == 0;
+}
+
+/* The day is added: its slot, the count and the sums change, and nothing else. `w` is then the window with it. */
+static void adds(ginghamowl_rolling_window *w, ginghamowl_day day)
+{
+    ginghamowl_changed_window changed = ginghamowl_rolling_add(*w, day);
+
+    w->count++;
+    set_day(w, w->count - 1, day);
+    set_sums(w);
+    CHECK(changed.refusal == GINGHAMOWL_ACCEPTED);
+    CHECK(same_window(&changed.window, w));
+}
+
+static void adds_not(const ginghamowl_rolling_window *w, ginghamowl_day day, uint8_t refusal)
+{
+    ginghamowl_changed_window changed = ginghamowl_rolling_add(*w, day);
+
+    CHECK(changed.refusal == refusal);
+    CHECK(same_window(&changed.window, w));
+}
+
+/* The oldest day is dropped: start, count and sums change, and no rate. `w` is then the window without it. */
+static void drops(ginghamowl_rolling_window *w)
+{
+    ginghamowl_changed_window changed = ginghamowl_rolling_drop(*w);
+
+    w->count--;
+    w->start = (w->start + 1) % SLOTS;
+    set_sums(w);
+    CHECK(changed.refusal == GINGHAMOWL_ACCEPTED);
+    CHECK(same_window(&changed.window, w));
+}
+
+static void drops_not(const ginghamowl_rolling_window *w, uint8_t refusal)
+{
+    ginghamowl_changed_window changed = ginghamowl_rolling_drop(*w);
+
+    CHECK(changed.refusal == refusal);
+    CHECK(same_window(&changed.window, w));
+}
+
+/* The answer and both buffers are what ginghamowl_value gives of the file of the case with the window's days. */
+static void valued_as_the_file(const ginghamowl_rolling_window *w, const held_case *c, ginghamowl_valuation v, guarded factors,
+                               guarded rates)
+{
+    static held_case with_days;
+    static uint8_t file[MOST_BYTES];
+    guarded file_factors = lent(factors.length), file_rates = lent(rates.length);
+    ginghamowl_valuation of_file;
+    uint64_t day;
+    size_t t;
+
+    with_days = *c;
+    with_days.rates_length = w->count * DAY;
+    for (day = 0; day < w->count; day++)
+        for (t = 0; t < DAY; t++)
+            with_days.rates[day * DAY + t] = w->rates[place_of(w, day) + t];
+    of_file = ginghamowl_value(file, shortest(&with_days, file), entries(file_factors), factors.length,
+                               (int64_t *)entries(file_rates), rates.length);
+    CHECK(of_file.refusal == GINGHAMOWL_ACCEPTED);
+    CHECK(v.refusal == of_file.refusal && v.verdict == of_file.verdict);
+    CHECK(memcmp(&v.figures, &of_file.figures, sizeof v.figures) == 0);
+    CHECK(memcmp(entries(factors), entries(file_factors), factors.length * sizeof *factors.all) == 0);
+    CHECK(memcmp(entries(rates), entries(file_rates), rates.length * sizeof *rates.all) == 0);
+    free(file_factors.all);
+    free(file_rates.all);
+}
+
+/* One call with buffers of these lengths: it gives this refusal, and changes nothing lent; or it is valued as the file is. */
+static void rolling_value_into(const ginghamowl_rolling_window *w, const held_case *c, uint8_t refusal, size_t factors_length,
+                               size_t rates_length)
+{
+    size_t case_rates_size = c->rates_length * sizeof *c->rates, pension_size = c->pension_length * sizeof *c->pension;
+    size_t bonds_size = c->bonds_length * sizeof *c->bonds;
+    int32_t *case_rates = exactly(c->rates, case_rates_size);
+    uint64_t *pension = exactly(c->pension, pension_size), *bonds = exactly(c->bonds, bonds_size);
+    guarded factors = lent(factors_length), rates = lent(rates_length);
+    ginghamowl_valuation v = ginghamowl_rolling_value(
+        *w, c->fields, case_rates, c->rates_length, pension, c->pension_length, bonds, c->bonds_length,
+        factors_length == 0 ? NULL : entries(factors), factors_length,
+        rates_length == 0 ? NULL : (int64_t *)entries(rates), rates_length);
+
+    CHECK(guards_stand(factors) && guards_stand(rates));
+    CHECK(unchanged(case_rates, c->rates, case_rates_size) && unchanged(pension, c->pension, pension_size)
+          && unchanged(bonds, c->bonds, bonds_size));
+    if (refusal == GINGHAMOWL_ACCEPTED)
+        valued_as_the_file(w, c, v, factors, rates);
+    else
+        CHECK(is_refused(v, refusal) && held_from(factors, 0) && held_from(rates, 0));
+    free(case_rates);
+    free(pension);
+    free(bonds);
+    free(factors.all);
+    free(rates.all);
+}
+
+/* The case is valued with the window's days, into buffers that suffice. */
+static void rolling_values(const ginghamowl_rolling_window *w, const held_case *c)
+{
+    rolling_value_into(w, c, GINGHAMOWL_ACCEPTED, 240, 240);
+    rolling_value_into(w, c, GINGHAMOWL_ACCEPTED, 300, 241);
+}
+
+/* The valuation is refused with this number; where a buffer is too short, with 13. */
+static void rolling_values_not(const ginghamowl_rolling_window *w, const held_case *c, uint8_t refusal)
+{
+    rolling_value_into(w, c, refusal, 240, 240);
+    rolling_value_into(w, c, GINGHAMOWL_REFUSED_BUFFER, 239, 240);
+    rolling_value_into(w, c, GINGHAMOWL_REFUSED_BUFFER, 240, 0);
+}
+
+static void test_rolling_empty(void)
+{
+    static const ginghamowl_rolling_window zeros;
+    static held_case c;
+    ginghamowl_rolling_window w = ginghamowl_rolling_empty();
+
+    c1_case(&c);
+    CHECK(same_window(&w, &zeros));
+    drops_not(&w, GINGHAMOWL_REFUSED_ROLLING_EMPTY);
+    rolling_values_not(&w, &c, GINGHAMOWL_REFUSED_DAY_COUNT);
+}
+
+/* Fills the ring, goes round it twice and empties it. */
+static void test_rolling_round(void)
+{
+    ginghamowl_rolling_window w = ginghamowl_rolling_empty();
+    size_t number;
+
+    for (number = 0; number < SLOTS; number++)
+        adds(&w, numbered_day(number));
+    for (; number < 3 * SLOTS; number++) {
+        adds_not(&w, numbered_day(number), GINGHAMOWL_REFUSED_ROLLING_FULL);
+        adds_not(&w, flat_day(-1001, 10001), GINGHAMOWL_REFUSED_ROLLING_FULL);
+        drops(&w);
+        adds(&w, numbered_day(number));
+    }
+    while (w.count > 0)
+        drops(&w);
+    drops_not(&w, GINGHAMOWL_REFUSED_ROLLING_EMPTY);
+    CHECK(w.start == 0);
+}
+
+/* Additions and drops as they come, more of the one and then more of the other, so that the window is full and empty at times. */
+static void test_rolling_scripts(void)
+{
+    ginghamowl_rolling_window w = ginghamowl_rolling_empty();
+    uint64_t state = 88172645463325252u;
+    unsigned long full = 0, empty = 0, change;
+
+    for (change = 0; change < 3000; change++) {
+        if (drawn(&state) % 10 < (change / 300 % 2 == 0 ? 7u : 3u)) {
+            full += w.count == SLOTS;
+            if (w.count == SLOTS)
+                adds_not(&w, numbered_day(change), GINGHAMOWL_REFUSED_ROLLING_FULL);
+            else
+                adds(&w, numbered_day(change));
+        } else {
+            empty += w.count == 0;
+            if (w.count == 0)
+                drops_not(&w, GINGHAMOWL_REFUSED_ROLLING_EMPTY);
+            else
+                drops(&w);
+        }
+    }
+    CHECK(full > 50 && empty > 50);
+}
+
+static void test_rolling_rates(void)
+{
+    static const int32_t wrong[] = {-1001, 10001, 65536, -65536, 64536, 75536, INT32_MIN, INT32_MAX};
+    ginghamowl_rolling_window w = made_window(67, 5);
+    size_t t, i;
+
+    adds(&w, flat_day(-1000, 10000));
+    adds(&w, flat_day(10000, -1000));
+    for (t = 0; t < DAY; t++)
+        for (i = 0; i < sizeof wrong / sizeof *wrong; i++) {
+            ginghamowl_day day = flat_day(0, 0);
+
+            day.rates[t] = wrong[i];
+            adds_not(&w, day, GINGHAMOWL_REFUSED_RATE);
+        }
+}
+
+/* The window is right: no call refuses it with 27. */
+static void takes(const ginghamowl_rolling_window *w)
+{
+    ginghamowl_rolling_window copy = *w;
+
+    if (w->count == SLOTS)
+        adds_not(w, numbered_day(7), GINGHAMOWL_REFUSED_ROLLING_FULL);
+    else
+        adds(&copy, numbered_day(7));
+    copy = *w;
+    if (w->count == 0)
+        drops_not(w, GINGHAMOWL_REFUSED_ROLLING_EMPTY);
+    else
+        drops(&copy);
+}
+
+/* Every call refuses the window with 27, whatever else is wrong. */
+static void takes_not(const ginghamowl_rolling_window *w)
+{
+    static held_case c;
+
+    adds_not(w, numbered_day(7), GINGHAMOWL_REFUSED_DAMAGED);
+    adds_not(w, flat_day(-1001, 10001), GINGHAMOWL_REFUSED_DAMAGED);
+    drops_not(w, GINGHAMOWL_REFUSED_DAMAGED);
+    c1_case(&c);
+    rolling_value_into(w, &c, GINGHAMOWL_REFUSED_DAMAGED, 240, 240);
+    rolling_value_into(w, &c, GINGHAMOWL_REFUSED_DAMAGED, 0, 239);
+    c.fields.ufr = 5001;
+    rolling_value_into(w, &c, GINGHAMOWL_REFUSED_DAMAGED, 240, 240);
+}
+
+/* Numbers out of range, also such as a cut to fewer bytes, or a sum that goes past 64 bits, would let pass. */
+static void test_count_and_start(ginghamowl_rolling_window w)
+{
+    const uint64_t counts[] = {71, w.count + 70, w.count + 256, w.count + ((uint64_t)1 << 32), w.count + ((uint64_t)1 << 63),
+                               UINT64_MAX - w.start, UINT64_MAX};
+    const uint64_t starts[] = {70, w.start + 70, w.start + 256, w.start + ((uint64_t)1 << 32), w.start + ((uint64_t)1 << 63),
+                               UINT64_MAX - w.count, UINT64_MAX};
+    ginghamowl_rolling_window damaged;
+    size_t i;
+
+    for (i = 0; i < sizeof counts / sizeof *counts; i++) {
+        damaged = w;
+        damaged.count = counts[i];
+        takes_not(&damaged);
+    }
+    damaged = w;
+    damaged.count = 71; /* the oldest day counted twice, also in the sums */
+    set_sums(&damaged);
+    takes_not(&damaged);
+    for (i = 0; i < sizeof starts / sizeof *starts; i++) {
+        damaged = w;
+        damaged.start = starts[i];
+        takes_not(&damaged);
+    }
+}
+
+static void test_sums(ginghamowl_rolling_window w)
+{
+    static const size_t terms[] = {0, 1, 30, 58, 59};
+    size_t i;
+
+    for (i = 0; i < sizeof terms / sizeof *terms; i++) {
+        const int64_t sum = w.sums[terms[i]];
+        const int64_t wrong[] = {sum + 1, sum - 1, sum ^ ((int64_t)1 << 16), sum ^ ((int64_t)1 << 32), sum ^ INT64_MIN, ~sum};
+        size_t k;
+
+        for (k = 0; k < sizeof wrong / sizeof *wrong; k++) {
+            w.sums[terms[i]] = wrong[k];
+            takes_not(&w);
+        }
+        w.sums[terms[i]] = sum;
+    }
+}
+
+/* One rate of a held day, with the sums set to what it is then: only the limits decide. */
+static void test_held_rate(ginghamowl_rolling_window w, size_t place)
+{
+    static const int16_t wrong[] = {-1001, 10001, INT16_MIN, INT16_MAX};
+    size_t i;
+
+    for (i = 0; i < sizeof wrong / sizeof *wrong; i++) {
+        w.rates[place] = wrong[i];
+        set_sums(&w);
+        takes_not(&w);
+    }
+    w.rates[place] = -1000;
+    set_sums(&w);
+    takes(&w);
+    w.rates[place] = 10000;
+    takes_not(&w); /* the sums are still the old ones */
+    set_sums(&w);
+    takes(&w);
+}
+
+static void test_rolling_damaged(void)
+{
+    static const uint64_t windows[][2] = {{0, 0}, {69, 0}, {0, 1}, {69, 1}, {35, 36}, {12, 70}}; /* start and count */
+    size_t i;
+
+    for (i = 0; i < sizeof windows / sizeof *windows; i++) {
+        ginghamowl_rolling_window w = made_window(windows[i][0], windows[i][1]);
+
+        takes(&w);
+        test_count_and_start(w);
+        test_sums(w);
+        if (w.count > 0) {
+            test_held_rate(w, place_of(&w, 0));
+            test_held_rate(w, place_of(&w, w.count / 2) + 30);
+            test_held_rate(w, place_of(&w, w.count - 1) + DAY - 1);
+            w.count--;
+            takes_not(&w);
+        }
+    }
+}
+
+/* Where no slot or every slot is held, the oldest day may stand anywhere; else the days held are others. */
+static void test_rolling_start(void)
+{
+    ginghamowl_rolling_window empty = made_window(0, 0), full = made_window(0, SLOTS), some = made_window(0, SLOTS - 1);
+
+    for (; full.start < SLOTS; full.start++) {
+        empty.start = some.start = full.start;
+        takes(&empty);
+        takes(&full);
+        if (some.start > 0) {
+            CHECK(is_damaged(&some));
+            drops_not(&some, GINGHAMOWL_REFUSED_DAMAGED);
+        }
+    }
+}
+
+/* A few bytes changed: 27 exactly where a count, a start, a held rate or a sum is wrong. */
+static void test_rolling_bytes(void)
+{
+    uint64_t state = 88172645463325252u;
+    unsigned long damaged = 0, round;
+
+    for (round = 0; round < 2000; round++) {
+        uint64_t start = drawn(&state) % SLOTS, count = drawn(&state) % (SLOTS + 1), hits;
+        ginghamowl_rolling_window w = made_window(start, count);
+        uint8_t bytes[sizeof w];
+
+        memcpy(bytes, &w, sizeof w);
+        for (hits = 1 + drawn(&state) % 3; hits > 0; hits--) {
+            size_t at = drawn(&state) % 8 == 0 ? drawn(&state) % 16 : drawn(&state) % sizeof bytes;
+
+            bytes[at] = (uint8_t)(drawn(&state) % 2 == 0 ? drawn(&state) % 72 : drawn(&state) % 256);
+        }
+        memcpy(&w, bytes, sizeof w);
+        damaged += is_damaged(&w);
+        if (is_damaged(&w)) {
+            adds_not(&w, numbered_day(round), GINGHAMOWL_REFUSED_DAMAGED);
+            drops_not(&w, GINGHAMOWL_REFUSED_DAMAGED);
+        } else
+            takes(&w);
+    }
+    CHECK(damaged > 500 && damaged < 1500);
+}
+
+static void test_rolling_value(void)
+{
+    static const uint64_t windows[][2] = {{0, 1}, {69, 1}, {69, 2}, {35, 36}, {0, 70}, {12, 70}}; /* start and count */
+    static const size_t lengths[] = {0, 1, 239, 240, 241, 1000};
+    static held_case c;
+    ginghamowl_rolling_window w;
+    size_t i, f, r;
+
+    for (i = 0; i < sizeof windows / sizeof *windows; i++) {
+        w = made_window(windows[i][0], windows[i][1]);
+        c1_case(&c);
+        rolling_values(&w, &c);
+        largest_case(&c);
+        rolling_values(&w, &c);
+    }
+    for (f = 0; f < sizeof lengths / sizeof *lengths; f++)
+        for (r = 0; r < sizeof lengths / sizeof *lengths; r++) {
+            int small = lengths[f] < GINGHAMOWL_ENTRIES || lengths[r] < GINGHAMOWL_ENTRIES;
+
+            rolling_value_into(&w, &c, small ? GINGHAMOWL_REFUSED_BUFFER : GINGHAMOWL_ACCEPTED, lengths[f], lengths[r]);
+        }
+}
+
+/* Refusal 6 for the window's days: their sums count, and change with each day. */
+static void test_rolling_growth(void)
+{
+    static held_case c;
+    ginghamowl_rolling_window w = made_window(69, 0);
+
+    c1_case(&c);
+    adds(&w, flat_day(0, 6000)); /* C8 */
+    rolling_values(&w, &c);
+    adds(&w, flat_day(0, 6001));
+    rolling_values_not(&w, &c, GINGHAMOWL_REFUSED_GROWTH);
+    adds(&w, flat_day(0, 5999));
+    rolling_values(&w, &c);
+    drops(&w);
+    rolling_values(&w, &c);
+    drops(&w);
+    adds(&w, flat_day(-1, 6001));
+    rolling_values_not(&w, &c, GINGHAMOWL_REFUSED_GROWTH);
+    drops(&w);
+    drops(&w);
+    adds(&w, flat_day(0, -1000));
+    rolling_values(&w, &c);
+    adds(&w, flat_day(1, -1000));
+    rolling_values_not(&w, &c, GINGHAMOWL_REFUSED_GROWTH);
+}
+
+/* 13; the case's faults, of which the first is given, its own 6 included; then 4 or 6 for the window's days. */
+static void test_rolling_order(void)
+{
+    static held_case c;
+    ginghamowl_rolling_window empty = ginghamowl_rolling_empty(), steep = made_window(3, 0), right = made_window(3, 2);
+    int first, second;
+
+    adds(&steep, flat_day(0, 6001));
+    for (first = 0; first < FAULTS; first++)
+        for (second = first; second < FAULTS; second++) {
+            c1_case(&c);
+            flat_days(&c, 2, 0, 0);
+            c.bonds_length = 1;
+            spoil(&c, first);
+            spoil(&c, second);
+            rolling_values_not(&right, &c, FAULT_NUMBERS[first]);
+            rolling_values_not(&empty, &c, FAULT_NUMBERS[first]);
+            rolling_values_not(&steep, &c, FAULT_NUMBERS[first]);
+        }
+    c1_case(&c);
+    rolling_values(&right, &c);
+    rolling_values_not(&empty, &c, GINGHAMOWL_REFUSED_DAY_COUNT);
+    rolling_values_not(&steep, &c, GINGHAMOWL_REFUSED_GROWTH);
+}
+
 int main(void)
 {
     test_lengths();
@@ -974,6 +1489,16 @@ int main(void)
     test_rates();
     test_order();
     test_save_as_files_are_read();
+    test_rolling_empty();
+    test_rolling_round();
+    test_rolling_scripts();
+    test_rolling_rates();
+    test_rolling_damaged();
+    test_rolling_start();
+    test_rolling_bytes();
+    test_rolling_value();
+    test_rolling_growth();
+    test_rolling_order();
     printf("c: %lu checks, %lu failed\n", checks, failures);
     return failures == 0 ? 0 : 1;
 }

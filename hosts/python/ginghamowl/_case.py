@@ -6,7 +6,7 @@ from dataclasses import dataclass
 from typing import Any
 
 from . import _library as _c
-from ._given import Refused, accepted, require_int
+from ._given import Refused, accepted, rate, unsigned
 from ._library import DAY_RATES, FILE_BYTES
 
 DEFAULT_UFR = 4_200  # of a file without the field
@@ -94,14 +94,19 @@ class Case:
         Raises Refused with the number that the engine gives. A day that has not 60 rates is refused with 4, as a wrong number of
         days is. A number that is no int raises TypeError.
         """
-        given = _c.HostCaseFields(_unsigned(self.ufr, "the UFR"), _flat(_c.HostAmounts, self.amounts),
-                                  _flat(_c.HostShocks, self.shocks), _flat(_c.HostPeople, self.people))
-        rates, pension, bonds = _rates(self.days), _flows(self.pension), _flows(self.bonds)
         out = (_c.c_uint8 * FILE_BYTES)()
-        saved = _c.engine().save(given, rates, len(rates), pension, len(pension), bonds, len(bonds), out, len(out))
+        saved = _c.engine().save(*arguments(self), out, len(out))
         if saved.refusal:
             raise Refused(saved.refusal)
         return bytes(out[:saved.written])
+
+
+def arguments(case: Case) -> tuple[Any, ...]:
+    """The case as C takes it: the fields that are no lists, and each list with its length."""
+    fields = _c.HostCaseFields(unsigned(case.ufr, "the UFR"), _flat(_c.HostAmounts, case.amounts),
+                               _flat(_c.HostShocks, case.shocks), _flat(_c.HostPeople, case.people))
+    rates, pension, bonds = _rates(case.days), _flows(case.pension), _flows(case.bonds)
+    return fields, rates, len(rates), pension, len(pension), bonds, len(bonds)
 
 
 class _File:
@@ -123,31 +128,19 @@ class _File:
         return self.numbers(f"{self.number('B')}I")
 
 
-def _unsigned(number: int, what: str) -> int:
-    """The number for C, which has 64 bits for it. One that does not fit is out of limits, and so is the largest in its place."""
-    require_int(number, what)
-    return number if 0 <= number < 2 ** 64 else 2 ** 64 - 1
-
-
-def _rate(number: int) -> int:
-    """The rate for C, which has 32 bits for it. One that does not fit is out of limits, and so is the end in its place."""
-    require_int(number, "a rate")
-    return min(max(number, -2 ** 31), 2 ** 31 - 1)
-
-
 def _rates(days: Sequence[Sequence[int]]) -> Any:
     """The rates of all days in one list. Days of 59 and 61 rates must not pass for two of 60: where a day has not 60, the list
     has one rate alone, which is refused with 4."""
-    rates = [_rate(rate) for day in days for rate in day]
+    rates = [rate(number) for day in days for number in day]
     if any(len(day) != DAY_RATES for day in days):
         rates = [0]
     return (_c.c_int32 * len(rates))(*rates)
 
 
 def _flows(flows: Sequence[int]) -> Any:
-    return (_c.c_uint64 * len(flows))(*(_unsigned(flow, "a flow") for flow in flows))
+    return (_c.c_uint64 * len(flows))(*(unsigned(flow, "a flow") for flow in flows))
 
 
 def _flat(record: Any, held: Amounts | Shocks | People) -> Any:
     """The numbers of a dataclass as the C struct of the same names."""
-    return record(*(_unsigned(getattr(held, name), name) for name, _ in record._fields_))
+    return record(*(unsigned(getattr(held, name), name) for name, _ in record._fields_))

@@ -1,11 +1,14 @@
-"""What callers give: whole numbers, and files, which the engine accepts or refuses."""
+"""What callers give: whole numbers, and bytes, which the engine accepts or refuses."""
 
 from . import _library as _c
 from ._words import NO_REFUSAL, SENTENCES
 
 
 class Refused(Exception):
-    """A case file or a case that is refused; `number` is its refusal, and the text says what is wrong."""
+    """A case file, a case, or a call with a rolling window that is refused.
+
+    `number` is the refusal, and the text says what is wrong.
+    """
 
     def __init__(self, number: int) -> None:
         super().__init__(f"refused, {number}: {SENTENCES.get(number, NO_REFUSAL)}")
@@ -31,12 +34,28 @@ def accepted(data: bytes) -> bytes:
 
 
 def file_bytes(data: bytes) -> bytes:
-    """The file as bytes; a bytearray or a memoryview serves as well, a text or a number does not."""
+    return as_bytes(data, "a case file")
+
+
+def as_bytes(data: bytes, what: str) -> bytes:
+    """What is given, as bytes; a bytearray or a memoryview serves as well, a text or a number does not."""
     if not isinstance(data, (bytes, bytearray, memoryview)):
-        raise TypeError(f"a case file is bytes, not {type(data).__name__}")
+        raise TypeError(f"{what} is bytes, not {type(data).__name__}")
     return bytes(data)
 
 
 def require_int(number: int, what: str) -> None:
     if isinstance(number, bool) or not isinstance(number, int):
         raise TypeError(f"{what} is an int, not {type(number).__name__}")
+
+
+def unsigned(number: int, what: str) -> int:
+    """The number for C, which has 64 bits for it. One that does not fit is out of limits, and so is the largest in its place."""
+    require_int(number, what)
+    return number if 0 <= number < 2 ** 64 else 2 ** 64 - 1
+
+
+def rate(number: int) -> int:
+    """The rate for C, which has 32 bits for it. One that does not fit is out of limits, and so is the end in its place."""
+    require_int(number, "a rate")
+    return min(max(number, -2 ** 31), 2 ** 31 - 1)

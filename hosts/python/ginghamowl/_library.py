@@ -4,13 +4,19 @@ The library is loaded at the first call and not at the import, so that a program
 """
 
 import os
-from ctypes import CDLL, POINTER, Structure, c_char_p, c_double, c_int32, c_int64, c_size_t, c_uint8, c_uint64
+from ctypes import CDLL, POINTER, Structure, c_char_p, c_double, c_int16, c_int32, c_int64, c_size_t, c_uint8, c_uint64
 from functools import cache
 from pathlib import Path
 from typing import Any, NamedTuple
 
 #: The longest accepted file has so many bytes. Of a longer one, the first FILE_BYTES + 1 decide the refusal.
 FILE_BYTES = 9223
+
+#: A rolling window holds at most so many days.
+WINDOW_DAYS = 70
+
+#: A rolling window has so many bytes.
+WINDOW_BYTES = 8896
 
 DAY_RATES = 60
 ENTRIES = 240
@@ -63,6 +69,19 @@ class HostSaved(Structure):
     _fields_ = [("refusal", c_uint8), ("written", c_size_t)]
 
 
+class HostRollingWindow(Structure):
+    _fields_ = [("count", c_uint64), ("start", c_uint64), ("rates", c_int16 * (WINDOW_DAYS * DAY_RATES)),
+                ("sums", c_int64 * DAY_RATES)]
+
+
+class HostDay(Structure):
+    _fields_ = [("rates", c_int32 * DAY_RATES)]
+
+
+class HostChangedWindow(Structure):
+    _fields_ = [("refusal", c_uint8), ("window", HostRollingWindow)]
+
+
 class Engine(NamedTuple):
     """The functions of ginghamowl.h, without the name's beginning."""
 
@@ -72,19 +91,29 @@ class Engine(NamedTuple):
     window_point: Any
     listing: Any
     save: Any
+    rolling_empty: Any
+    rolling_add: Any
+    rolling_drop: Any
+    rolling_value: Any
 
 
 _FILE = c_char_p, c_size_t  # a pointer to the bytes themselves: zeros in them are as good as any other byte
 _FACTORS = _FLOWS = POINTER(c_uint64), c_size_t
+_RATES = POINTER(c_int64), c_size_t
 _OUT = POINTER(c_uint8), c_size_t
+_CASE = HostCaseFields, POINTER(c_int32), c_size_t, *_FLOWS, *_FLOWS
 
 _RESULT_AND_ARGUMENTS: dict[str, tuple[Any, ...]] = {
-    "value": (HostValuation, *_FILE, *_FACTORS, POINTER(c_int64), c_size_t),
+    "value": (HostValuation, *_FILE, *_FACTORS, *_RATES),
     "refusal": (c_uint8, *_FILE),
     "rates_part": (HostPart, *_FILE),
     "window_point": (HostPoint, c_uint64, *_FACTORS, HostFigures),
     "listing": (c_size_t, HostValuation, *_OUT),
-    "save": (HostSaved, HostCaseFields, POINTER(c_int32), c_size_t, *_FLOWS, *_FLOWS, *_OUT),
+    "save": (HostSaved, *_CASE, *_OUT),
+    "rolling_empty": (HostRollingWindow,),
+    "rolling_add": (HostChangedWindow, HostRollingWindow, HostDay),
+    "rolling_drop": (HostChangedWindow, HostRollingWindow),
+    "rolling_value": (HostValuation, HostRollingWindow, *_CASE, *_FACTORS, *_RATES),
 }
 
 

@@ -3,11 +3,11 @@
 Written by hosts/words from hosts/words.toml and VERSION: change those, and run it.
 """
 
-VERSION = "0.4.0"
+VERSION = "0.5.0"
 
 NO_REFUSAL = "no refusal has this number"
 
-#: What is wrong with a file or a case that is refused with a number, and its limit.
+#: What each refusal says: what is wrong, and the limit.
 SENTENCES: dict[int, str] = {
     1: "the file is too short; its map, and each field that the map announces, must be whole",
     2: "bytes follow the last field; the file must end there",
@@ -29,6 +29,10 @@ SENTENCES: dict[int, str] = {
     13: "a lent buffer is too short; the buffers for factors and for rates must have at least 240 entries",
     14: "the lent buffer is too short for the case; it must have at least as many bytes as the case's "
         "shortest file",
+    15: "the rolling window is full; it must hold at most 69 days for one to be added",
+    16: "the rolling window is empty; it must hold a day for the oldest to be dropped",
+    27: "the rolling window is damaged; its count must be at most 70, its start at most 69, each rate of a "
+        "day held -1,000 to 10,000 steps, and each sum that of the days held",
 }
 
 #: The verdicts as document 01 writes them.

@@ -82,14 +82,12 @@ impl Case {
     /// Writes the shortest file of this case to the front of a buffer of the caller, and returns how many bytes it has.
     /// Later bytes keep their content, and a refusal writes none.
     pub fn save_into(&self, out: &mut [u8]) -> Result<usize, Refusal> {
-        let fields =
-            raw::HostCaseFields { ufr: self.ufr, amounts: self.amounts, shocks: self.shocks, people: self.people };
         let rates = self.days.concat();
         // SAFETY: the pointers and lengths are those of slices that live through the call; the one that is written is
         // borrowed alone.
         let saved = unsafe {
             raw::ginghamowl_save(
-                fields,
+                self.fields(),
                 rates.as_ptr(),
                 rates.len(),
                 self.pension.as_ptr(),
@@ -104,6 +102,11 @@ impl Case {
             Some(refusal) => Err(refusal),
             None => Ok(saved.written),
         }
+    }
+
+    /// The fields that are no lists.
+    pub(crate) fn fields(&self) -> raw::HostCaseFields {
+        raw::HostCaseFields { ufr: self.ufr, amounts: self.amounts, shocks: self.shocks, people: self.people }
     }
 }
 

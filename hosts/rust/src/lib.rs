@@ -1,9 +1,9 @@
 //! The valuation of one pension fund from one case file, every figure proved.
 //!
 //! "Document 01" is "The UFR curve and the solvency verdict of one fund": it says what a case file is, what each figure
-//! means and what each refusal is. "Document 02" has the requests that came later; saving a case is its request One. This
-//! crate wraps the functions of `include/ginghamowl.h`; it is safe to call with any bytes and numbers, and depends on
-//! nothing but the standard library and the engine's archive.
+//! means and what each refusal is. "Document 02" has the requests that came later; saving a case is its request One, and a
+//! rolling window of days its request Two. This crate wraps the functions of `include/ginghamowl.h`; it is safe to call
+//! with any bytes and numbers, and depends on nothing but the standard library and the engine's archive.
 //!
 //! ```
 //! match ginghamowl::value(b"") {
@@ -17,9 +17,11 @@ use std::fmt;
 
 mod case;
 mod raw;
+mod rolling;
 mod words;
 
 pub use case::{Amounts, Case, People, Shocks};
+pub use rolling::RollingWindow;
 pub use words::{refusal_sentence, verdict_sentence, verdict_word};
 
 /// The version of this crate, which is that of the repository.
@@ -30,6 +32,12 @@ pub const FILE_BYTES: usize = 9223;
 
 /// A day of a case has the zero rates of the terms 1 to this.
 pub const DAY_RATES: usize = 60;
+
+/// A rolling window holds at most so many days.
+pub const WINDOW_DAYS: usize = 70;
+
+/// A rolling window has so many bytes.
+pub const WINDOW_BYTES: usize = 8896;
 
 /// The terms of the curve, in years, are 1 to this.
 pub const TERMS: usize = 120;
@@ -69,7 +77,8 @@ pub enum Verdict {
     Onbeslist = 4,
 }
 
-/// Why a file or a case is refused, by document 01's numbers; 14 is document 02's.
+/// Why a file, a case, or a call with a rolling window is refused, by document 01's numbers; those from 14 on are
+/// document 02's.
 #[derive(Clone, Copy, Debug, PartialEq, Eq)]
 #[repr(u8)]
 pub enum Refusal {
@@ -87,6 +96,9 @@ pub enum Refusal {
     People = 12,
     Buffer = 13,
     SavedBuffer = 14,
+    RollingFull = 15,
+    RollingEmpty = 16,
+    Damaged = 27,
 }
 
 /// The money figures and the verdict of an accepted file.
@@ -117,13 +129,8 @@ pub enum Point {
 pub fn value(file: &[u8]) -> Result<Valuation, Refusal> {
     let mut factors = [0; ENTRIES];
     let mut rates = [0; ENTRIES];
-    let Judged { figures, verdict } = value_into(file, &mut factors, &mut rates)?;
-    Ok(Valuation {
-        factors: std::array::from_fn(|i| Bracket { lower: factors[2 * i], upper: factors[2 * i + 1] }),
-        zero_rates: std::array::from_fn(|i| Bracket { lower: rates[2 * i], upper: rates[2 * i + 1] }),
-        figures,
-        verdict,
-    })
+    let judged = value_into(file, &mut factors, &mut rates)?;
+    Ok(Valuation::of_entries(&factors, &rates, judged))
 }
 
 /// The valuation of a case file into buffers of the caller: lower and upper, term by term, into the entries 0 to 239.
@@ -141,10 +148,7 @@ pub fn value_into(file: &[u8], factors: &mut [u64], rates: &mut [i64]) -> Result
             rates.len(),
         )
     };
-    match Refusal::numbered(answer.refusal) {
-        Some(refusal) => Err(refusal),
-        None => Ok(Judged { figures: answer.figures.into(), verdict: Verdict::numbered(answer.verdict) }),
-    }
+    answer.into()
 }
 
 /// Why a file is refused, without valuing it; `None` where it is accepted. Never `Refusal::Buffer`.
@@ -182,6 +186,15 @@ pub fn listing(answer: Result<Judged, Refusal>) -> String {
 }
 
 impl Valuation {
+    fn of_entries(factors: &[u64; ENTRIES], rates: &[i64; ENTRIES], judged: Judged) -> Valuation {
+        Valuation {
+            factors: std::array::from_fn(|i| Bracket { lower: factors[2 * i], upper: factors[2 * i + 1] }),
+            zero_rates: std::array::from_fn(|i| Bracket { lower: rates[2 * i], upper: rates[2 * i + 1] }),
+            figures: judged.figures,
+            verdict: judged.verdict,
+        }
+    }
+
     /// The figures and the verdict, without the curve.
     pub fn judged(&self) -> Judged {
         Judged { figures: self.figures, verdict: self.verdict }
@@ -246,8 +259,8 @@ impl fmt::Display for Verdict {
 }
 
 impl Refusal {
-    /// Every refusal, by its number from 1 on.
-    pub const ALL: [Refusal; 14] = [
+    /// Every refusal, in the order of the numbers: 1 to 16, and 27.
+    pub const ALL: [Refusal; 17] = [
         Refusal::EndsEarly,
         Refusal::BytesFollow,
         Refusal::Map,
@@ -262,6 +275,9 @@ impl Refusal {
         Refusal::People,
         Refusal::Buffer,
         Refusal::SavedBuffer,
+        Refusal::RollingFull,
+        Refusal::RollingEmpty,
+        Refusal::Damaged,
     ];
 
     /// The number in document 01, or in document 02.

@@ -1,5 +1,5 @@
 //! include/ginghamowl.h for Rust.
-use crate::{Amounts, Bracket, Figures, Judged, People, Refusal, Shocks};
+use crate::{Amounts, Bracket, Figures, Judged, People, Refusal, RollingWindow, Shocks, Verdict, DAY_RATES};
 
 pub const LISTING_BYTES: usize = 512;
 
@@ -61,6 +61,18 @@ pub struct HostSaved {
     pub written: usize,
 }
 
+#[repr(C)]
+pub struct HostDay {
+    pub rates: [i32; DAY_RATES],
+}
+
+/// The rolling window has the header's layout itself.
+#[repr(C)]
+pub struct HostChangedWindow {
+    pub refusal: u8,
+    pub window: RollingWindow,
+}
+
 extern "C" {
     pub fn ginghamowl_value(
         file: *const u8,
@@ -90,6 +102,23 @@ extern "C" {
         out: *mut u8,
         out_length: usize,
     ) -> HostSaved;
+    pub fn ginghamowl_rolling_empty() -> RollingWindow;
+    pub fn ginghamowl_rolling_add(window: RollingWindow, day: HostDay) -> HostChangedWindow;
+    pub fn ginghamowl_rolling_drop(window: RollingWindow) -> HostChangedWindow;
+    pub fn ginghamowl_rolling_value(
+        window: RollingWindow,
+        fields: HostCaseFields,
+        case_rates: *const i32,
+        case_rates_length: usize,
+        pension: *const u64,
+        pension_length: usize,
+        bonds: *const u64,
+        bonds_length: usize,
+        factors: *mut u64,
+        factors_length: usize,
+        rates: *mut i64,
+        rates_length: usize,
+    ) -> HostValuation;
 }
 
 impl From<HostBracket> for Bracket<u64> {
@@ -145,6 +174,15 @@ impl From<Result<Judged, Refusal>> for HostValuation {
                 HostValuation { refusal: 0, verdict: judged.verdict.number(), figures: judged.figures.into() }
             }
             Err(refusal) => HostValuation { refusal: refusal.number(), ..HostValuation::default() },
+        }
+    }
+}
+
+impl From<HostValuation> for Result<Judged, Refusal> {
+    fn from(answer: HostValuation) -> Self {
+        match Refusal::numbered(answer.refusal) {
+            Some(refusal) => Err(refusal),
+            None => Ok(Judged { figures: answer.figures.into(), verdict: Verdict::numbered(answer.verdict) }),
         }
     }
 }

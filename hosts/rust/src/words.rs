@@ -1,7 +1,7 @@
 //! The refusals and the verdicts in words.
 //! Written by hosts/words from hosts/words.toml and VERSION: change those, and run it.
 
-/// What is wrong with a file or a case that is refused with this number, and its limit.
+/// What the refusal of this number says: what is wrong, and the limit.
 #[rustfmt::skip]
 pub fn refusal_sentence(number: u8) -> &'static str {
     match number {
@@ -19,6 +19,9 @@ pub fn refusal_sentence(number: u8) -> &'static str {
         12 => "the head count or an age is out of limits; heads must be 1 to 1,000,000, and ages at most 1,200 months",
         13 => "a lent buffer is too short; the buffers for factors and for rates must have at least 240 entries",
         14 => "the lent buffer is too short for the case; it must have at least as many bytes as the case's shortest file",
+        15 => "the rolling window is full; it must hold at most 69 days for one to be added",
+        16 => "the rolling window is empty; it must hold a day for the oldest to be dropped",
+        27 => "the rolling window is damaged; its count must be at most 70, its start at most 69, each rate of a day held -1,000 to 10,000 steps, and each sum that of the days held",
         _ => "no refusal has this number",
     }
 }

@@ -67,6 +67,7 @@ fn refusals_by_number() {
         assert_eq!(found.to_string(), format!("refused, {number}: {}", refusal_sentence(number)));
     }
     assert_eq!(refusal(&file("c1")), None);
+    assert!(Refusal::ALL.iter().map(|refusal| refusal.number()).eq((1..=16).chain([27])));
 }
 
 #[test]
@@ -307,7 +308,7 @@ fn words_and_version() {
     let repository = PathBuf::from(env!("CARGO_MANIFEST_DIR")).join("../..");
     assert_eq!(VERSION, fs::read_to_string(repository.join("VERSION")).unwrap().trim());
     assert_eq!(
-        (refusal_sentence(0), refusal_sentence(15)),
+        (refusal_sentence(0), refusal_sentence(17)),
         ("no refusal has this number", "no refusal has this number")
     );
     assert_eq!((verdict_word(3), verdict_word(5)), ("VRIJ VERMOGEN", "no verdict has this number"));

@@ -149,7 +149,6 @@ use mathlib.Core.Bool.{true, false}
 use mathlib.Core.List.{List, [], _∷_, _++_, map}
 use lib.ListN.{replicate, take, drop}
 use lib.IntN.{ℤ, pos, negℤ}
-use Rattle.model.specs.Case.{FileCase}
 use Rattle.model.specs.Saving.{given}
 use Rattle.model.specs.Rolling.{
   daysHeld,
@@ -172,7 +171,7 @@ use Rattle.model.specs.Listing.{listing}
 use Rattle.model.specs.declared.rolling.RollingWindow.{RollingWindow}
 use Rattle.model.specs.declared.rolling.ChangedWindow.{ChangedWindow}
 use Rattle.model.proofs.Computing.{text, all}
-use Rattle.model.proofs.SavedCases.{amountsOf, shocksOf, fieldsOf, noAmounts, noShocks, small}
+use Rattle.model.proofs.SavedCases.{fieldsOf, noAmounts, noShocks, small}
 """
 
 ROLLING_TABLE_HEAD = """\

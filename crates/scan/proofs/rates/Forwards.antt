@@ -1,7 +1,7 @@
 -- Refusal 6 by the sums: t × P(t) is t × s(t) with t × 100,000 × n more, so that the difference of two terms that follow each other
 -- has 100,000 × n more. Assumes nothing.
 use Prim.Native.Nat.{ℕ, zero, suc, _+_, _*_, _-_, _≤_, _<_}
-use mathlib.Core.Path.{_≡_, refl, ap₂}
+use mathlib.Core.Path.{_≡_}
 use mathlib.Core.Bool.{Bool, _&&_}
 use mathlib.Core.List.{List}
 use native.Mathlib.Nat.{mul-le-mul}

@@ -1,7 +1,7 @@
 -- A window that is valued keeps demand 3, of the very figures and verdict that are answered and of the entries that both buffers then hold:
 -- no check has failed, so the case with its days is within the limits, and demand 3 is proved of every such case. Assumes nothing.
 use Prim.Native.Nat.{ℕ, zero, suc}
-use mathlib.Core.Path.{_≡_, refl, sym, _∙_}
+use mathlib.Core.Path.{_≡_, refl, sym}
 use mathlib.Core.List.{List}
 use native.Mathlib.Omega.{arith}
 use lib.ListN.{length, drop}
@@ -12,8 +12,7 @@ use Rattle.model.specs.Demand3.{Demand3}
 use Rattle.model.specs.Rolling.{daysHeld, windowRefusal, windowValuation, windowFactorsAfter, windowRatesAfter}
 use Rattle.model.specs.declared.figures.Figures.{Figures}
 use Rattle.model.specs.declared.figures.Verdict.{Verdict}
-use Rattle.model.specs.declared.figures.Valuation.{Valuation}
-use Rattle.model.specs.declared.figures.Valuation.the-variants.{Refused, Valued}
+use Rattle.model.specs.declared.figures.Valuation.the-variants.{Valued}
 use Rattle.model.specs.declared.rolling.RollingWindow.{RollingWindow}
 use Rattle.theory.proofs.demand3.Demand3Proved.{demand3}
 use Rattle.theory.proofs.demand3.Written.{written-rounded}

@@ -1,7 +1,7 @@
 // A cursor over the caller's bytes: the file's slice, and an offset in it. A byte past the end of
 // the file reads as 0, so that every function is defined for every file.
 ghost use mathlib.Core.Path.{_≡_};
-ghost use Prim.Native.Nat.{_+_, _*_, _^_, _<_, _≤_};
+ghost use Prim.Native.Nat.{_+_, _^_, _<_, _≤_};
 ghost use lib.ListN.{getD};
 ghost use Rattle.model.specs.Numbers.{number};
 

@@ -4,9 +4,10 @@ use crate::cursor::number_at;
 use crate::runs::both;
 use model::case::Case;
 ghost use mathlib.Core.Path.{_≡_};
-ghost use Prim.Native.Nat.{_+_, _*_, _<_, _≤_};
+ghost use Prim.Native.Nat.{_≤_};
+ghost use lib.ListN.{length};
 ghost use Rattle.model.specs.Numbers.{number, every};
-ghost use Rattle.scan.specs.inner.Sums.{raisedRate, rateRight, Summed, EachAtMost, nextRight, forwardRight};
+ghost use Rattle.scan.specs.inner.Sums.{raisedRate, rateRight, DayAdded, Summed, EachAtMost, nextRight, forwardRight};
 
 // Whether each rate is within its limits, and P(t) of the terms 1 to 60: over the days, the sum of 100,000 and the rate.
 pub struct Sums {
@@ -14,25 +15,14 @@ pub struct Sums {
     pub sums: [u64; 60],
 }
 
-// The position of the rate of term `t` + 1 on day `d`: a day has 60 rates of 2 bytes.
-fn place(at: usize, d: usize, t: usize) -> usize
-    requires { ⌜ (at ≤ 40000) × (d < 255) × (t < 60) ⌝ }
-    ensures { λ r. ⌜ r ≡ at + 120 * d + 2 * t ⌝ }
+// 100,000 steps and the rate of 2 bytes at a position. The bytes are the rate modulo 65,536, so 32,768 more, modulo 65,536, is 32,768 and
+// the rate.
+fn rate_at(bytes: &[u8], at: usize) -> u64
+    requires { ⌜ at ≤ 80000 ⌝ }
+    ensures { λ r. ⌜ (r ≡ raisedRate (number (now (bytes .entry)) at 2)) × (r ≤ 132767) ⌝ }
 {
-    at + 120 * d + 2 * t
-}
-
-// 100,000 steps and that rate. From 32,768 on, 16 bits stand for 65,536 less.
-fn rate_at(file: &[u8], at: usize, d: usize, t: usize) -> u64
-    requires { ⌜ (at ≤ 40000) × (d < 255) × (t < 60) ⌝ }
-    ensures { λ r. ⌜ (r ≡ raisedRate (number (now (file .entry)) (at + 120 * d + 2 * t) 2)) × (r ≤ 132767) ⌝ }
-{
-    let v = number_at(file, place(at, d, t), 2);
-    if v < 32_768 {
-        Case::STEPS_PER_ONE + v
-    } else {
-        Case::STEPS_PER_ONE + v - 65_536
-    }
+    let v = number_at(bytes, at, 2);
+    Case::STEPS_PER_ONE - 32_768 + (v + 32_768) % 65_536
 }
 
 // A rate of -1,000 to 10,000 steps, by 100,000 steps and the rate.
@@ -42,24 +32,35 @@ pub fn rate_right(rate: u64) -> bool
     both(99_000 <= rate, rate <= 110_000)
 }
 
-// The sums of the first `d` days with one day more.
-fn add_day(file: &[u8], at: usize, d: usize, held: Sums) -> Sums
-    requires { ⌜ (at ≤ 40000) × (d < 255) × Summed (now file) at d held ⌝ }
-    ensures { λ r. ⌜ Summed (now (file .entry)) at (d + 1) r ⌝ }
+// Adds the rates of the day at a position to the sums, which are of up to 254 days: whether all these rates are within their limits.
+// 33,722,818 is 254 × 132,767.
+fn add_rates(bytes: &[u8], at: usize, sums: &mut [u64; 60]) -> bool
+    requires { ⌜ (at ≤ 70600) × (length (now sums) ≡ 60) × EachAtMost 33722818 (now sums) ⌝ }
+    ensures { λ r. ⌜ DayAdded (now (bytes .entry)) at (now (sums .entry)) (now (sums .exit)) r ⌝ }
 {
     let mut within = true;
-    let mut out = held.sums;
     let mut t: usize = 0;
     while t < 60 {
-        let rate = rate_at(file, at, d, t);
-        out[t] += rate;
+        let rate = rate_at(bytes, at + 2 * t);
+        sums[t] += rate;
         let right = rate_right(rate);
         within = both(within, right);
         t += 1;
     }
-    Sums {
-        within: both(held.within, within),
-        sums: out,
+    within
+}
+
+// The same of a day of 120 bytes that may end past the end of the file. A day that does not is handed on as a part of its own: its length
+// is then known where the program is compiled, and no byte of it is tested against the file's length.
+fn add_day(file: &[u8], start: usize, sums: &mut [u64; 60]) -> bool
+    requires { ⌜ (start ≤ 70600) × (length (now sums) ≡ 60) × EachAtMost 33722818 (now sums) ⌝ }
+    ensures { λ r. ⌜ DayAdded (now (file .entry)) start (now (sums .entry)) (now (sums .exit)) r ⌝ }
+{
+    let end = start + 120;
+    if end <= file.len() {
+        add_rates(&file[start..end], 0, sums)
+    } else {
+        add_rates(file, start, sums)
     }
 }
 
@@ -68,16 +69,15 @@ pub fn sum_days(file: &[u8], at: usize, days: usize) -> Sums
     requires { ⌜ (at ≤ 40000) × (days ≤ 255) ⌝ }
     ensures { λ r. ⌜ Summed (now (file .entry)) at days r ⌝ }
 {
-    let mut r = Sums {
-        within: true,
-        sums: [0u64; 60],
-    };
+    let mut within = true;
+    let mut sums = [0u64; 60];
     let mut d: usize = 0;
     while d < days {
-        r = add_day(file, at, d, r);
+        let right = add_day(file, at + 120 * d, &mut sums);
+        within = both(within, right);
         d += 1;
     }
-    r
+    Sums { within, sums }
 }
 
 // The limits of refusal 6 from `last`, (t - 1) × P(t-1), to `next`, t × P(t). No sum of 255 days is above 255 × 132,767, and no such

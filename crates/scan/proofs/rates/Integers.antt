@@ -1,11 +1,11 @@
 -- An integer z that is r - m, for naturals r and m, is within limits where r is within the limits m higher. A rate of 16 bits is such a
 -- difference, with 100,000 for m.
 -- Assumes nothing.
-use Prim.Native.Nat.{ℕ, _+_, _*_, _-_}
+use Prim.Native.Nat.{ℕ, _+_, _*_, _-_, _%_, _<_}
 use mathlib.Core.Path.{_≡_, refl, ap₂, sym}
 use mathlib.Core.Bool.{Bool, true, false, _&&_, cond}
 use native.Mathlib.Omega.{arith}
-use borrow.Author.Tests.{ltb-false}
+use borrow.Author.Tests.{ltb-true, ltb-false}
 use lib.Dec.{T, leb, ltb, leb→le, le→leb}
 use lib.IntN.{ℤ, pos, negℤ, _+ℤ_, _-ℤ_}
 use lib.Signed.{leZ}
@@ -51,6 +51,14 @@ raised v = go (ltb (2 * v) 65536) refl
         again (pos v -ℤ pos 65536) (v + 0) (0 + 65536) (100000 + v - 65536) 100000
         (diff-minus (pos v) (pos 65536) v 0 65536 0 (diff-pos v) (diff-pos 65536))
         (omega (arith, ltb-false (2 * v) 65536 e))
+
+-- the same by a remainder
+pub wrapped : (v : ℕ) → v < 65536 → 67232 + (v + 32768) % 65536 ≡ raisedRate v
+wrapped v l = go (ltb (2 * v) 65536) refl
+  where
+    go : (b : Bool) → ltb (2 * v) 65536 ≡ b → 67232 + (v + 32768) % 65536 ≡ cond b (100000 + v) (100000 + v - 65536)
+    go true e = omega (arith, ltb-true (2 * v) 65536 e)
+    go false e = omega (arith, ltb-false (2 * v) 65536 e)
 
 pub rate-is : (v : ℕ) → rateRight (raisedRate v) ≡ dailyRate .right (twosComplement 2 v)
 rate-is v = within-raised 1000 10000 99000 110000 (raisedRate v) 100000 (twosComplement 2 v) (raised v) refl refl

@@ -8,7 +8,7 @@ use lib.Dec.{leb, ltb}
 use lib.ListN.{getD}
 use lib.IntN.{ℤ, pos, _+ℤ_}
 use Rattle.model.specs.Constants.{stepsPerOne}
-use Rattle.model.specs.Numbers.{table}
+use Rattle.model.specs.Numbers.{number, every, table}
 use Rattle.model.specs.Case.{s}
 use Rattle.model.specs.Curve.{natural}
 use Rattle.model.specs.Fields.{valueAll, rightAll}
@@ -35,7 +35,17 @@ sumAt days n t = natural (pos (stepsPerOne * n) +ℤ s days (suc t))
 pub record EachAtMost (most : ℕ) (sums : List ℕ) : Type 0 where
   pub each : (t : ℕ) → t < 60 → getD sums t 0 ≤ most
 
--- what n days give; 132,767 is 100,000 and the largest rate of 16 bits
+-- 100,000 and the rate of the term t + 1, of a day that begins at a position
+abbrev pub rateOn : List ℕ → ℕ → ℕ → ℕ
+rateOn bytes at t = raisedRate (number bytes (at + 2 * t) 2)
+
+-- what a day adds to sums; 132,767 is 100,000 and the largest rate of 16 bits
+pub record DayAdded (bytes : List ℕ) (at : ℕ) (before after : List ℕ) (right : Bool) : Type 0 where
+  pub within : right ≡ every (λ t. rateRight (rateOn bytes at t)) 60
+  pub sums : after ≡ table (λ t. getD before t 0 + rateOn bytes at t) 60
+  pub most : (most : ℕ) → EachAtMost most before → EachAtMost (most + 132767) after
+
+-- what n days give
 pub record Summed (file : List ℕ) (at n : ℕ) (r : Sums) : Type 0 where
   pub within : r .within ≡ rightAll day (daysFrom file at n)
   pub sums : r .sums ≡ table (sumAt (daysFrom file at n) n) 60

@@ -3,28 +3,26 @@ use Prim.Native.Nat.{ℕ, zero, suc, _+_, _*_, _-_, _^_, _≤_, _<_}
 use mathlib.Core.Path.{_≡_, refl, sym, _∙_}
 use native.Mathlib.Omega.{arith}
 use native.Mathlib.Numerals.{add-one}
-use native.Mathlib.Nat.{mul-le-mul}
+use native.Mathlib.Nat.{mul-le-mul, mul-le-mul-right}
 use Rattle.arith.specs.inner.Range.{Small, InRange}
 use Rattle.arith.specs.Rounding.{End, low, high, divide}
+use Rattle.arith.proofs.Rounding.{divide-floor, le-divide}
 use Rattle.model.specs.Constants.{unit}
 use Rattle.model.specs.Rounded.{scaled}
 use Rattle.model.specs.Brackets.{bracket, endOf}
 use Rattle.model.specs.declared.figures.Bracket.{Bracket}
 use Rattle.theory.proofs.curve.Steps.{scaled-ends}
-use Rattle.curve.specs.inner.Ranges.{TimesWithin, ScaledWithin, GrowthWithin}
+use Rattle.curve.specs.inner.Years.{scaledFrom}
+use Rattle.curve.specs.inner.Ranges.{TimesWithin, ScaledWithin, YearsWithin, GrowthWithin}
 use Rattle.theory.proofs.general.ByEnds.{by-ends, end-is}
 
-pub scaled-none : (e : End) (a b : ℕ) → scaled e a b 0 ≡ unit
+scaled-none : (e : End) (a b : ℕ) → scaled e a b 0 ≡ unit
 unfolding scaled
 scaled-none e a b = refl
 
-pub scaled-suc : (e : End) (a b j : ℕ) → scaled e a b (suc j) ≡ divide e (scaled e a b j * a) b
+scaled-suc : (e : End) (a b j : ℕ) → scaled e a b (suc j) ≡ divide e (scaled e a b j * a) b
 unfolding scaled
 scaled-suc e a b j = refl
-
-pub scaled-once : (e : End) (a b j : ℕ) → 0 < j → scaled e a b j ≡ divide e (scaled e a b (j - 1) * a) b
-scaled-once e a b zero h = absurd (let z : ⊥ = omega arith in z)
-scaled-once e a b (suc j) h = let k : suc j - 1 ≡ j = omega arith in rw k (scaled-suc e a b j)
 
 -- both ends of a bracket × a ÷ b, by what is known of its figure
 times-within : (x : Bracket) (f : End → ℕ) (a b : ℕ) → x ≡ bracket f → 0 < b → b ≤ 2 ^ 40 → a ≤ 2 * b → f low ≤ f high → f high < 2 ^ 42 → TimesWithin x a b
@@ -39,9 +37,6 @@ times-within x f a b e some most ratio order upper = record {
 pub years-within : (x : Bracket) (a b j i : ℕ) → ScaledWithin a b j → i ≤ j → x ≡ bracket (λ e. scaled e a b i) → TimesWithin x a b
 years-within x a b j i w h k =
     times-within x (λ e. scaled e a b i) a b k (w .some) (w .most) (w .ratio) (scaled-ends a b i (w .some)) (w .years i h)
-
-pub fewer-years : (a b j i : ℕ) → ScaledWithin a b j → i ≤ j → ScaledWithin a b i
-fewer-years a b j i w h = record { some = w .some; most = w .most; ratio = w .ratio; years = λ n l. w .years n (omega arith) }
 
 pub last-year-within : (x : Bracket) (n p q j : ℕ) → GrowthWithin n p q j → x ≡ bracket (λ e. scaled e p q j) → TimesWithin x p n
 last-year-within x n p q j w k =
@@ -68,13 +63,9 @@ long-way x a b some most ratio hx = record {
 pub taken : (x r : Bracket) (f : End → ℕ) (a b : ℕ) → x ≡ bracket f → r ≡ bracket (λ e. divide e (endOf x e * a) b) → r ≡ bracket (λ e. divide e (f e * a) b)
 taken x r f a b k l = l ∙ by-ends (λ e. divide e (endOf x e * a) b) (λ e. divide e (f e * a) b) (λ e. rw (end-is x f k e))
 
--- the bracket over no years, over j years from that over one year less, and the same counted upwards
+-- the bracket over no years, over one year more, and over all
 pub no-years : (p q : ℕ) → record { lower = unit; upper = unit } ≡ bracket (λ e. scaled e p q 0)
 no-years p q = rw (scaled-none low p q, scaled-none high p q)
-
-pub once-more : (x r : Bracket) (p q j : ℕ) → 0 < j → x ≡ bracket (λ e. scaled e p q (j - 1)) → r ≡ bracket (λ e. divide e (endOf x e * p) q) → r ≡ bracket (λ e. scaled e p q j)
-once-more x r p q j h k l =
-    taken x r (λ e. scaled e p q (j - 1)) p q k l ∙ by-ends (λ e. divide e (scaled e p q (j - 1) * p) q) (λ e. scaled e p q j) (λ e. sym (scaled-once e p q j h))
 
 pub next-year : (x r : Bracket) (p q j : ℕ) → x ≡ bracket (λ e. scaled e p q j) → r ≡ bracket (λ e. divide e (endOf x e * p) q) → r ≡ bracket (λ e. scaled e p q (j + 1))
 next-year x r p q j k l =
@@ -83,3 +74,59 @@ next-year x r p q j k l =
 
 pub all-years : (x : Bracket) (p q i j : ℕ) → x ≡ bracket (λ e. scaled e p q i) → i ≤ j → j ≤ i → x ≡ bracket (λ e. scaled e p q j)
 all-years x p q i j k h l = let e : i ≡ j = omega arith in rw e at k
+
+-- ---- years taken from where both ends stand
+pub none-left : (e : End) (a b x j : ℕ) → j ≡ 0 → x ≡ scaledFrom e a b x j
+unfolding scaledFrom
+none-left e a b x j h = rw h
+
+first-year : (e : End) (a b x j : ℕ) → 0 < j → scaledFrom e a b (divide e (x * a) b) (j - 1) ≡ scaledFrom e a b x j
+unfolding scaledFrom
+first-year e a b x zero h = absurd (let z : ⊥ = omega arith in z)
+first-year e a b x (suc j) h = let k : suc j - 1 ≡ j = omega arith in rw k
+
+-- the first year first or the last: after i years, j more
+after-years : (e : End) (a b i j : ℕ) → scaledFrom e a b (scaled e a b i) j ≡ scaled e a b (i + j)
+unfolding scaledFrom scaled
+after-years e a b i zero = let k : i + 0 ≡ i = omega arith in rw k
+after-years e a b i (suc j) = let k : i + suc j ≡ suc i + j = omega arith in rw k (after-years e a b (suc i) j)
+
+pub all-taken : (e : End) (a b j : ℕ) → scaledFrom e a b unit j ≡ scaled e a b j
+all-taken e a b j = let k : 0 + j ≡ j = omega arith in rw (← scaled-none e a b) (rw k at (after-years e a b 0 j))
+
+pub start-within : (a b j : ℕ) → ScaledWithin a b j → YearsWithin a b unit unit j
+start-within a b j w = record {
+  some = w .some;
+  most = w .most;
+  ratio = w .ratio;
+  order = omega arith;
+  years = λ i h. rw (all-taken high a b i) (w .years i h);
+}
+
+module _ (a b x y j : ℕ) (w : YearsWithin a b x y j) where
+  pub ends-within : TimesWithin (record { lower = x; upper = y }) a b
+  unfolding scaledFrom
+  ends-within = record { order = w .order; upper = w .years 0 (omega arith); some = w .some; most = w .most; ratio = w .ratio }
+
+  ends-order : divide low (x * a) b ≤ divide high (y * a) b
+  ends-order =
+      le-divide high (y * a) b (divide low (x * a) b) (w .some)
+      (omega (arith, divide-floor (x * a) b (w .some), mul-le-mul-right a (w .order)))
+
+  -- one year is taken, and the others are left
+  module _ (r : Bracket) (some : 0 < j) (k : r ≡ bracket (λ e. divide e (endOf (record { lower = x; upper = y }) e * a) b)) where
+    once : (e : End) → endOf r e ≡ divide e (endOf (record { lower = x; upper = y }) e * a) b
+    once = end-is r (λ e. divide e (endOf (record { lower = x; upper = y }) e * a) b) k
+
+    pub year-less : YearsWithin a b (r .lower) (r .upper) (j - 1)
+    unfolding scaledFrom
+    year-less = record {
+      some = w .some;
+      most = w .most;
+      ratio = w .ratio;
+      order = rw (once low, once high) ends-order;
+      years = λ i m. rw (once high) (w .years (suc i) (omega arith));
+    }
+
+    pub then-others : (e : End) (z : ℕ) → z ≡ scaledFrom e a b (endOf r e) (j - 1) → z ≡ scaledFrom e a b (endOf (record { lower = x; upper = y }) e) j
+    then-others e z h = h ∙ rw (once e) (first-year e a b (endOf (record { lower = x; upper = y }) e) j some)

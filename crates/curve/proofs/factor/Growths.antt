@@ -3,7 +3,6 @@ use Prim.Native.Nat.{ℕ, zero, suc, _+_, _*_, _-_, _^_, _≤_, _<_}
 use mathlib.Core.Path.{_≡_, _∙_}
 use native.Mathlib.Omega.{arith}
 use native.Mathlib.Nat.{mul-le-mul-left, le-trans}
-use native.Mathlib.Decide.{decLe}
 use lib.ListN.{getD}
 use Rattle.arith.specs.Rounding.{End, low, high, divide}
 use Rattle.arith.proofs.Rounding.{divide-le}
@@ -16,7 +15,7 @@ use Rattle.model.specs.declared.figures.Bracket.{Bracket}
 use Rattle.model.specs.inner.CurveWithin.{CurveWithin}
 use Rattle.theory.proofs.curve.Steps.{ends}
 use Rattle.theory.proofs.curve.Growth.{growth-suc, growth-in, G-pos, P-pos, N-pos}
-use Rattle.theory.proofs.curve.Factor.{weighed-to-60, weighed-from-61, weighed-in, weighed-least, growth-fraction-pos}
+use Rattle.theory.proofs.curve.Factor.{weighed-to-60, weighed-in, weighed-least, growth-fraction-pos}
 use Rattle.theory.proofs.curve.Sizes.{years-most, growth-size}
 use Rattle.curve.specs.declared.shift.CurveSums.{CurveSums}
 use Rattle.curve.specs.inner.Shifted.{curveOf}
@@ -37,26 +36,18 @@ mix-most e k v g u h l m =
 weights-sum : (w : ℕ) → w ≤ 1000 → (1000 - w) + w ≤ 1000
 weights-sum w h = omega arith
 
-pub weighed-most : (c : Curve) → CurveWithin c → (e : End) (j : ℕ) → weight (suc j) ≤ 1000 → Rounded.weighed c e (suc j) ≤ 1332 * 10 ^ 9
-weighed-most c f e j v = go (decLe (suc j) 60)
-  where
-    go : Dec (suc j ≤ 60) → Rounded.weighed c e (suc j) ≤ 1332 * 10 ^ 9
-    go (yes h) =
-        rw (weighed-to-60 c e (suc j) h)
-        (mix-most e (1000 - weight (suc j)) (weight (suc j)) (Rounded.growth c e (suc j)) (c .ufr) (weights-sum (weight (suc j)) v) (growth-most c f e j h) (f .ufrMost))
-    go (no h) = rw (weighed-from-61 c e (suc j) (omega arith)) (omega (arith, f .ufrMost))
+pub weighed-most : (c : Curve) → CurveWithin c → (e : End) (j : ℕ) → suc j ≤ 60 → weight (suc j) ≤ 1000 → Rounded.weighed c e (suc j) ≤ 1332 * 10 ^ 9
+weighed-most c f e j h v =
+    rw (weighed-to-60 c e (suc j) h)
+    (mix-most e (1000 - weight (suc j)) (weight (suc j)) (Rounded.growth c e (suc j)) (c .ufr) (weights-sum (weight (suc j)) v) (growth-most c f e j h) (f .ufrMost))
 
-weighed-low : (c : Curve) → CurveWithin c → (j : ℕ) → weight (suc j) ≤ 1000 → 96 * 10 ^ 10 ≤ Rounded.weighed c low (suc j)
-weighed-low c f j v = go (decLe (suc j) 60)
-  where
-    go : Dec (suc j ≤ 60) → 96 * 10 ^ 10 ≤ Rounded.weighed c low (suc j)
-    go (yes h) = omega (arith, weighed-least c f j h)
-    go (no h) = rw (weighed-from-61 c low (suc j) (omega arith)) (omega arith)
+weighed-low : (c : Curve) → CurveWithin c → (j : ℕ) → suc j ≤ 60 → 96 * 10 ^ 10 ≤ Rounded.weighed c low (suc j)
+weighed-low c f j h = omega (arith, weighed-least c f j h)
 
-pub weighed-some : (c : Curve) → CurveWithin c → (e : End) (j : ℕ) → 20 < suc j → weight (suc j) ≤ 1000 → 96 * 10 ^ 10 ≤ Rounded.weighed c e (suc j)
-weighed-some c f low j h v = weighed-low c f j v
-weighed-some c f high j h v =
-    le-trans (weighed-low c f j v) (ends (growth-fraction-pos c f j .1) (weighed-in c f low j h) (weighed-in c f high j h))
+pub weighed-some : (c : Curve) → CurveWithin c → (e : End) (j : ℕ) → 20 < suc j → suc j ≤ 60 → 96 * 10 ^ 10 ≤ Rounded.weighed c e (suc j)
+weighed-some c f low j h l = weighed-low c f j l
+weighed-some c f high j h l =
+    le-trans (weighed-low c f j l) (ends (growth-fraction-pos c f j .1) (weighed-in c f low j h) (weighed-in c f high j h))
 
 -- ---- over the code's sums
 module _ (c : CurveSums) (w : FactorsWithin c) where
@@ -105,6 +96,3 @@ module _ (c : CurveSums) (w : FactorsWithin c) where
   weighed-is g r t v h k m l =
       l ∙ by-ends (λ e. divide e ((1000 - v) * endOf g e + v * (unit + c .ufr * 10 ^ 7)) 1000) (λ e. Rounded.weighed (curveOf c) e t)
       (λ e. rw (weighed-to-60 (curveOf c) e t h, end-is g (λ e. Rounded.growth (curveOf c) e t) k e, m, ufr-of c))
-
-  pub ufr-weighed : (t : ℕ) → 60 < t → record { lower = unit + c .ufr * 10 ^ 7; upper = unit + c .ufr * 10 ^ 7 } ≡ bracket (λ e. Rounded.weighed (curveOf c) e t)
-  ufr-weighed t h = rw (weighed-from-61 (curveOf c) low t h, weighed-from-61 (curveOf c) high t h, ufr-of c)

@@ -11,6 +11,7 @@ use Rattle.model.specs.Brackets.{bracket}
 use Rattle.model.specs.inner.CurveWithin.{CurveWithin}
 use Rattle.curve.specs.declared.shift.CurveSums.{CurveSums}
 use Rattle.curve.specs.inner.Shifted.{curveOf}
+use Rattle.curve.specs.inner.Years.{scaledFrom}
 
 -- of a bracket × a ÷ b: its ends are in order and below 2^42, about 4.39 × 10^12, and a ÷ b is at most 2
 pub record TimesWithin (x : Bracket) (a b : ℕ) : Type 0 where
@@ -34,6 +35,14 @@ pub record ScaledWithin (a b j : ℕ) : Type 0 where
   pub most : b ≤ 2 ^ 40
   pub ratio : a ≤ 2 * b
   pub years : (i : ℕ) → i ≤ j → scaled high a b i < 2 ^ 42
+
+-- of a bracket from x to y, j times × a ÷ b: the same from there on
+pub record YearsWithin (a b x y j : ℕ) : Type 0 where
+  pub some : 0 < b
+  pub most : b ≤ 2 ^ 40
+  pub ratio : a ≤ 2 * b
+  pub order : x ≤ y
+  pub years : (i : ℕ) → i ≤ j → scaledFrom high a b y i < 2 ^ 42
 
 -- of the growth of term j + 1, where p is P(j + 1) and q is P(j)
 pub record GrowthWithin (n p q j : ℕ) : Type 0 where

@@ -149,9 +149,9 @@ def ends():
 # ---------------------------------------------------------------- near the borders
 
 def on_steps(rng):
-    """Flat curves, whose zero rates are whole steps: there the tests of the two ends part. Halving tests 9,000 first, then 3,499,
-    then 749 or 6,249; 4,200 is the UFR, so that no term leaves the step."""
-    rates = [9_000, 3_499, 749, 6_249, 4_200] + [rng.randint(-1_000, 10_000) for _ in range(5)]
+    """Flat curves, whose zero rates are whole steps: there the tests of the two ends part. Halving tests 9,000 first, then 3,500,
+    then 750 or 6,250; 4,200 is the UFR, so that no term leaves the step."""
+    rates = [9_000, 3_500, 750, 6_250, 4_200] + [rng.randint(-1_000, 10_000) for _ in range(5)]
     return [examples.c1(days=examples.flat(rate)) for rate in rates]
 
 

@@ -1,12 +1,11 @@
 -- Halving an interval, over any test: the lower end is on the left side of what is sought, the upper end on the right side.
 -- A turn tests the middle, which becomes one of the ends. What is sought lies between the ends, so it is known once they are neighbours.
 -- Assumes nothing.
-use Prim.Native.Nat.{ℕ, zero, suc, _+_, _-_, _/_, _^_, _≤_, _<_}
+use Prim.Native.Nat.{ℕ, _+_, _/_, _≤_, _<_}
 use mathlib.Core.Path.{_≡_, sym, _∙_}
 use mathlib.Core.Bool.{Bool, true, false}
 use lib.Dec.{leb}
 use borrow.Author.Tests.{leb-true, leb-false}
-use native.Mathlib.Nat.{pow-suc}
 use native.Mathlib.Omega.{arith}
 
 -- the ends lo and hi, of which hi is at most n
@@ -27,21 +26,6 @@ module _ {left right : ℕ → Type 0} {n lo hi : ℕ} (p : Parted left right n 
   -- what is known of neighbours
   pub neighbours : hi ≤ lo + 1 → left lo × right (lo + 1)
   neighbours h = let e : hi ≡ lo + 1 = omega (arith, p .order) in (p .below, rw e at (p .above))
-
--- Ends that are at most 2^k apart are neighbours after k tests: while they are not, a test is left, and it halves the distance.
-module _ (k lo hi : ℕ) (h : lo + 1 < hi) (near : hi ≤ lo + 2 ^ k) where
-  pub test-left : 1 ≤ k
-  test-left = go k near
-    where
-      go : (k : ℕ) → hi ≤ lo + 2 ^ k → 1 ≤ k
-      go zero l = omega arith
-      go (suc j) l = omega arith
-
-  pub halves-near : (hi ≤ (lo + hi) / 2 + 2 ^ (k - 1)) × ((lo + hi) / 2 ≤ lo + 2 ^ (k - 1))
-  halves-near =
-      let e : suc (k - 1) ≡ k = omega (arith, test-left) in
-      let l : 2 ^ suc (k - 1) ≡ 2 ^ k = rw e in
-      omega (arith, pow-suc 2 (k - 1))
 
 -- a test of p against n tells the same of their values q and m
 pub test-true : (b : Bool) (p q n m : ℕ) → b ≡ leb p n → p ≡ q → n ≡ m → b ≡ true → q ≤ m

@@ -1,4 +1,4 @@
--- The laws of `arith`. Other crates cite Rounding, Root, Ends and Bisection; the rest serves the proofs of this crate's functions.
+-- The laws of `arith`. Other crates cite Rounding, Root and Ends; the rest serves the proofs of this crate's functions.
 pub mod Rounding
 pub mod Root
 pub mod Ends

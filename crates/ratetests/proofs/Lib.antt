@@ -1,3 +1,3 @@
--- Tested: laws of the results that are compared with a factor. Kept: laws of the memo, which the searches cite too.
+-- Tested: laws of the results that are compared with a factor, which `zerorates` cites too. Powers: bounds of a power, for this crate.
 pub mod Tested
-pub mod Kept
+mod Powers

@@ -1,20 +1,25 @@
--- The results of the tests of a zero rate: that they fit 64 bits, one year more, and how far apart the two ends are. Assumes nothing.
-use Prim.Native.Nat.{ℕ, _+_, _*_, _≤_, _<_}
-use mathlib.Core.Path.{_≡_, refl, sym}
-use mathlib.Core.Bool.{true, false}
+-- The results of the tests of a zero rate: that they fit 64 bits, one year more, and what bounds of the unrounded result say of them.
+-- Assumes nothing.
+use Prim.Native.Nat.{ℕ, _+_, _*_, _^_, _≤_, _<_}
+use mathlib.Core.Path.{_≡_, refl}
+use mathlib.Core.Bool.{Bool, true, false}
 use native.Mathlib.Omega.{arith}
 use native.Mathlib.Numerals.{add-one}
-use borrow.Author.Tests.{le-leb, lt-leb}
-use lib.Dec.{leb}
+use borrow.Author.Tests.{le-leb, lt-leb, lt-ltb, le-ltb}
 use Rattle.arith.specs.inner.Range.{Small}
 use Rattle.arith.specs.Rounding.{End, low, high, divide}
-use Rattle.model.specs.Constants.{unit}
+use Rattle.model.specs.Constants.{unit, stepsPerOne}
 use Rattle.model.specs.Numbers.{every}
 use Rattle.model.specs.Rounded.{scaled, tested}
+use Rattle.model.specs.declared.figures.Bracket.{Bracket}
 use Rattle.theory.proofs.general.Lists.{every-le}
-use Rattle.theory.proofs.curve.Steps.{scaled-ends}
+use Rattle.theory.proofs.general.Powers.{pow-pos}
+use Rattle.theory.proofs.curve.Steps.{ends, scaled-in, scaled-ends}
 use Rattle.theory.proofs.curve.RateTests.{tested-small, testWidth, tested-width}
+use Rattle.ratetests.specs.inner.Powers.{Encloses, powerMost}
 use Rattle.ratetests.specs.inner.Ranges.{StepWithin}
+use Rattle.ratetests.specs.inner.Results.{reached}
+use Rattle.ratetests.proofs.Powers.{in-units, in-units-most}
 
 -- over no years
 pub tested-none : (e : End) (i : ℕ) → tested e 0 i ≡ unit
@@ -31,15 +36,36 @@ test-more e x r k i q l = rw (add-one k, ← q) l
 pub test-all : (e : End) (x k t i : ℕ) → x ≡ tested e k i → k ≤ t → t ≤ k → x ≡ tested e t i
 test-all e x k t i q h l = let p : k ≡ t = omega arith in rw p at q
 
--- the two ends are at most 1,000 apart: computed of each term
+-- the two results are at most 1,000 apart: computed of each term
 near : (t : ℕ) → t < 121 → testWidth t ≤ 1000
 unfolding every testWidth divide
 near t = every-le testWidth (λ _. 1000) 121 t refl
 
--- what the lower result x says of the upper one
-module _ (t i x factor : ℕ) where
-  pub above-fails : x ≡ tested low t i → factor < x → false ≡ leb (tested high t i) factor
-  above-fails e h = sym (lt-leb (tested high t i) factor (omega (arith, scaled-ends 100000 (98000 + i) t (omega arith))))
+-- ---- the unrounded result is between the two, so its bounds are at most 1,000 from bounds of both
+module _ {x : Bracket} {t i : ℕ} (w : StepWithin t i) (p : Encloses x t i (powerMost t)) (n : ℕ) where
+  some : 0 < (98000 + i) ^ t
+  some = pow-pos (98000 + i) t (omega arith)
 
-  pub near-passes : t ≤ 120 → x ≡ tested low t i → x + 1000 ≤ factor → true ≡ leb (tested high t i) factor
-  near-passes l e h = sym (le-leb (tested high t i) factor (omega (arith, tested-width t i, near t (omega arith))))
+  widest : tested high t i ≤ tested low t i + 1000
+  widest = omega (arith, tested-width t i, near t (omega (arith, w .term)))
+
+  pub lower-bound : n ≡ divide low (x .lower * 5 ^ 12) (2 ^ 18) → n ≤ tested low t i + 1000
+  lower-bound e = omega (arith, e, widest, ends some (in-units w p low) (scaled-in high stepsPerOne (98000 + i) t (omega arith)))
+
+  pub upper-bound : n ≡ divide high (x .upper * 5 ^ 12) (2 ^ 18) → tested high t i ≤ n + 1000
+  upper-bound e = omega (arith, e, widest, ends some (scaled-in low stepsPerOne (98000 + i) t (omega arith)) (in-units w p high))
+
+  pub upper-most : n ≡ divide high (x .upper * 5 ^ 12) (2 ^ 18) → n ≤ 2 ^ 46
+  upper-most e = rw e (in-units-most w p)
+
+-- ---- a result that reaches a factor
+results-order : (t i : ℕ) → tested low t i ≤ tested high t i
+results-order t i = scaled-ends stepsPerOne (98000 + i) t (omega arith)
+
+pub surely-reaches : (up : Bool) (t factor i : ℕ) → factor < tested low t i → reached up t factor i ≡ true
+surely-reaches true t factor i h = lt-ltb factor (tested high t i) (omega (arith, results-order t i))
+surely-reaches false t factor i h = le-leb factor (tested low t i) (omega arith)
+
+pub surely-not : (up : Bool) (t factor i : ℕ) → tested high t i < factor → reached up t factor i ≡ false
+surely-not true t factor i h = le-ltb factor (tested high t i) (omega arith)
+surely-not false t factor i h = lt-leb factor (tested low t i) (omega (arith, results-order t i))

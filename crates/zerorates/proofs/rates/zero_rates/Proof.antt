@@ -1,69 +1,74 @@
 -- `zerorates::rates::zero_rates` meets its contract. After t turns the entries of the terms 1 to t are written. Assumes nothing.
-use Prim.Native.Nat.{ℕ, _*_, _-_, _≤_}
+use Prim.Native.Nat.{ℕ, _*_, _-_, _^_, _≤_}
 use mathlib.Core.Path.{_≡_, refl, ap, _∙_}
 use native.Mathlib.Omega.{arith}
 use mathlib.Core.List.{_++_}
 use lib.ListN.{length, drop, length-set}
 use Rattle.model.specs.Buffers.{byTerm, entryOf}
 use Rattle.model.specs.Rounded.{rateOf}
-use Rattle.ratetests.specs.inner.Kept.{Kept}
-use Rattle.ratetests.proofs.Kept.{none-kept, keep-on}
 use Rattle.theory.proofs.general.Lists.{all-filled}
 use Rattle.theory.proofs.general.Entries.{term-filled}
-use Rattle.zerorates.proofs.rates.Rated.{lower-within, upper-within, lower-rate, upper-rate}
+use Rattle.zerorates.proofs.rates.Rated.{lower-within, upper-within, guess-within, factor-most, lower-rate, upper-rate}
 use Rattle.zerorates.proofs.rates.zero_rates.Statement.{statement}
 use Rattle.zerorates.proofs.rates.zero_rates.Tie as tie
 
 abbrev Inv-loop : tie.InvT-loop
-Inv-loop factors out₀ steps₀ results₀ terms₀ t₀ out steps results terms t =
-    (t ≤ 120) × (length out ≡ 240) × (out ≡ byTerm (rateOf (entryOf factors)) t ++ drop (2 * t) out₀) × Kept t steps results terms
+Inv-loop factors out₀ before₀ step₀ t₀ out before step t =
+    (t ≤ 120) × (length out ≡ 240) × (out ≡ byTerm (rateOf (entryOf factors)) t ++ drop (2 * t) out₀) × (step ≤ 22000) × (before ≤ 12 * 10 ^ 12)
 
 abbrev μ-loop : tie.MeasureT-loop
-μ-loop factors out₀ steps₀ results₀ terms₀ t₀ out steps results terms t = 120 - t
+μ-loop factors out₀ before₀ step₀ t₀ out before step t = 120 - t
 
 loop-holds : tie.Need-loop-holds Inv-loop μ-loop
 unfolding byTerm
-loop-holds c = (omega arith, refl, refl, none-kept 0)
+loop-holds c = (omega arith, refl, refl, omega arith, omega arith)
+
+mul-t12 : tie.Need-mul-t12 Inv-loop μ-loop
+mul-t12 c = omega arith
+
+mul-t13 : tie.Need-mul-t13 Inv-loop μ-loop
+mul-t13 c = omega arith
+
+array-read-t16 : tie.Need-array-read-t16 Inv-loop μ-loop
+array-read-t16 c = omega arith
+
+mul-t17 : tie.Need-mul-t17 Inv-loop μ-loop
+mul-t17 c = omega arith
+
+add-t18 : tie.Need-add-t18 Inv-loop μ-loop
+add-t18 c = omega arith
+
+mul-t19 : tie.Need-mul-t19 Inv-loop μ-loop
+mul-t19 c = omega arith
+
+array-read-t22 : tie.Need-array-read-t22 Inv-loop μ-loop
+array-read-t22 c = omega arith
+
+guess-rate-requires : tie.Need-guess-rate-requires Inv-loop μ-loop
+guess-rate-requires c κs =
+    let inv = c .before .loop .inv in
+    guess-within _ _ (c .before .before .pre) (omega arith) (inv .3) (inv .4)
+
+add-known-near : tie.Need-add-known-near Inv-loop μ-loop
+add-known-near c = omega arith
+
+known-near-requires : tie.Need-known-near-requires Inv-loop μ-loop
+known-near-requires c κs = (omega arith, c .guess-rate .ensures)
 
 add-search-lower-rate : tie.Need-add-search-lower-rate Inv-loop μ-loop
 add-search-lower-rate c = omega arith
 
-mul-search-lower-rate : tie.Need-mul-search-lower-rate Inv-loop μ-loop
-mul-search-lower-rate c = omega arith
-
-add-search-lower-rate-2 : tie.Need-add-search-lower-rate-2 Inv-loop μ-loop
-add-search-lower-rate-2 c = omega arith
-
-mul-search-lower-rate-2 : tie.Need-mul-search-lower-rate-2 Inv-loop μ-loop
-mul-search-lower-rate-2 c = omega arith
-
-array-read-search-lower-rate : tie.Need-array-read-search-lower-rate Inv-loop μ-loop
-array-read-search-lower-rate c = omega arith
-
 search-lower-rate-requires : tie.Need-search-lower-rate-requires Inv-loop μ-loop
-search-lower-rate-requires c κs =
-    let turn = c .before .before .before .before in
-    (lower-within _ _ (turn .before .pre) (omega arith), keep-on _ _ _ _ (turn .loop .inv .3))
+search-lower-rate-requires c κs = (lower-within _ _ (c .before .before .before .before .pre) (omega arith), c .known-near .ensures .1)
 
 add-search-upper-rate : tie.Need-add-search-upper-rate Inv-loop μ-loop
 add-search-upper-rate c = omega arith
 
-mul-search-upper-rate : tie.Need-mul-search-upper-rate Inv-loop μ-loop
-mul-search-upper-rate c = omega arith
-
-mul-search-upper-rate-2 : tie.Need-mul-search-upper-rate-2 Inv-loop μ-loop
-mul-search-upper-rate-2 c = omega arith
-
-array-read-search-upper-rate : tie.Need-array-read-search-upper-rate Inv-loop μ-loop
-array-read-search-upper-rate c = omega arith
-
 search-upper-rate-requires : tie.Need-search-upper-rate-requires Inv-loop μ-loop
-search-upper-rate-requires c κs =
-    let searched = c .before .before .before in
-    (upper-within _ _ (searched .before .before .before .before .before .before .pre) (omega arith), searched .search-lower-rate .ensures .1 .1)
+search-upper-rate-requires c κs = (upper-within _ _ (c .before .before .before .before .before .pre) (omega arith), c .before .known-near .ensures .0)
 
 rate-at-requires : tie.Need-rate-at-requires Inv-loop μ-loop
-rate-at-requires c κs = c .before .before .before .before .search-lower-rate .ensures .1 .0
+rate-at-requires c κs = c .before .search-lower-rate .ensures .1
 
 mul-out : tie.Need-mul-out Inv-loop μ-loop
 mul-out c = omega arith
@@ -75,7 +80,7 @@ array-set-from-out : tie.Need-array-set-from-out Inv-loop μ-loop
 array-set-from-out c = omega arith
 
 rate-at-requires-2 : tie.Need-rate-at-requires-2 Inv-loop μ-loop
-rate-at-requires-2 c κs = c .before .search-upper-rate .ensures .1 .0
+rate-at-requires-2 c κs = c .before .search-upper-rate .ensures .1
 
 mul-out-3 : tie.Need-mul-out-3 Inv-loop μ-loop
 mul-out-3 c = omega arith
@@ -97,16 +102,17 @@ loop-less c = omega arith
 
 loop-again : tie.Need-loop-again Inv-loop μ-loop
 loop-again c =
-    let inv = c .before .before .before .before .before .before .before .before .before .before .before .loop .inv in
-    let lower = c .before .before .before .before .before .before .search-lower-rate .ensures in
+    let inv = c .before .before .before .before .before .before .before .loop .inv in
+    let lower = c .before .before .before .search-lower-rate .ensures in
     let upper = c .before .before .search-upper-rate .ensures in (
       omega arith,
       simp length-set (inv .1),
       term-filled _ _ _ _ _ _ (omega arith)
-          (lower-rate _ _ _ _ (c .before .rate-at .ensures) (lower .1 .0) (lower .0))
-          (upper-rate _ _ _ _ (c .rate-at2 .ensures) (upper .1 .0) (upper .0))
+          (lower-rate _ _ _ _ (c .before .rate-at .ensures) (lower .1) (lower .0))
+          (upper-rate _ _ _ _ (c .rate-at2 .ensures) (upper .1) (upper .0))
           (inv .2),
-      upper .1 .1,
+      lower .1,
+      factor-most _ _ (c .before .before .before .before .before .before .before .before .pre) (omega arith),
     )
 
 returns : tie.Need-returns Inv-loop μ-loop
@@ -122,16 +128,19 @@ zero-rates-spec =
     Inv-loop
     μ-loop
     loop-holds
+    mul-t12
+    mul-t13
+    array-read-t16
+    mul-t17
+    add-t18
+    mul-t19
+    array-read-t22
+    guess-rate-requires
+    add-known-near
+    known-near-requires
     add-search-lower-rate
-    mul-search-lower-rate
-    add-search-lower-rate-2
-    mul-search-lower-rate-2
-    array-read-search-lower-rate
     search-lower-rate-requires
     add-search-upper-rate
-    mul-search-upper-rate
-    mul-search-upper-rate-2
-    array-read-search-upper-rate
     search-upper-rate-requires
     rate-at-requires
     mul-out

@@ -1,0 +1,2 @@
+-- What the proofs of the known steps cite.
+mod Sure

@@ -1,20 +1,22 @@
-/* Times the engine beside plain C, GMP and Arb.
+/* Times the engine beside plain C, C with the filter, GMP and Arb.
  *
  *   bench time FILE..         checks each file, then prints the table
  *   bench check FILE..        only checks
  *   bench parts FILE          times parts of a valuation
+ *   bench open FILE..         prints how many tests of the zero rates the filter in C leaves open to the year-by-year working
  *   bench count WORK FILE R   does the work R times and prints nothing, for callgrind
  *   bench stack WORK FILE     prints the bytes of stack that the work touches
  *
- * WORK is engine or plain (a valuation), checks (the engine's checks of the file), saving (its case, saved by the engine), or of a
- * rolling window with the file's days: adding (the last of them), dropping (the first), rolling (its valuation with the case) or
- * window (only refusal 27's check of it, by a valuation without buffers).
+ * WORK is engine, plain or filter (a valuation), checks (the engine's checks of the file), saving (its case, saved by the engine),
+ * or of a rolling window with the file's days: adding (the last of them), dropping (the first), rolling (its valuation with the
+ * case) or window (only refusal 27's check of it, by a valuation without buffers).
  *
  * No time is asserted. The exit status is 1 where any result differs. */
 #define _XOPEN_SOURCE 700 /* clock_gettime and makecontext */
 
 #include "bench.h"
 
+#include <inttypes.h>
 #include <stdio.h>
 #include <stdlib.h>
 #include <string.h>
@@ -102,6 +104,11 @@ static void plain(const struct input *input)
     latest.valuation = plain_value(input->bytes, latest.factors, latest.rates);
 }
 
+static void filter(const struct input *input)
+{
+    latest.valuation = filter_value(input->bytes, latest.factors, latest.rates);
+}
+
 static void gmp(const struct input *input) { gmp_run(input->bytes); }
 static void arb(const struct input *input) { arb_run(input->bytes); }
 
@@ -170,21 +177,29 @@ static void plain_curves_and_rates(const struct input *input)
     plain_rates(latest.factors, latest.rates);
 }
 
+static void filter_curves_and_rates(const struct input *input)
+{
+    plain_curves(input);
+    filter_rates(latest.factors, latest.rates);
+}
+
 struct work {
     const char *name;
     void (*once)(const struct input *);
     const char *remark;
 };
 
-enum { PLAIN = 1, PROGRAMS = 4, PARTS = 11 };
+enum { PLAIN = 1, FILTER = 2, PROGRAMS = 5, PARTS = 13 };
 static const struct work programs[PROGRAMS] = {
     {"engine", engine, "whole valuation, with the checks of the file; proved"},
     {"plain C", plain, "whole valuation, without the checks of the file"},
+    {"C with the filter", filter, "whole valuation, without the checks of the file"},
     {"GMP", gmp, "only the exact factors of 3 curves"},
     {"Arb", arb, "only the factors of 3 curves and the zero rates"}};
 static const struct work parts[PARTS] = {
     {"engine: whole valuation", engine, ""},
     {"plain C: whole valuation", plain, ""},
+    {"C with the filter: whole valuation", filter, ""},
     {"engine: the checks of the file alone", engine_checks, ""},
     {"engine: saving the case", engine_saving, ""},
     {"engine: adding a day to a window", engine_adding, ""},
@@ -193,15 +208,16 @@ static const struct work parts[PARTS] = {
     {"engine: valuing it", engine_rolling, ""},
     {"plain C: reading", plain_reading, ""},
     {"plain C: reading, 3 curves", plain_curves, ""},
-    {"plain C: reading, 3 curves, zero rates", plain_curves_and_rates, ""}};
+    {"plain C: reading, 3 curves, zero rates", plain_curves_and_rates, ""},
+    {"C with the filter: reading, 3 curves, zero rates", filter_curves_and_rates, ""}};
 
 /* The works that are counted, by name. */
 static const struct work *work_named(const char *name)
 {
     static const struct work counted[] = {
-        {"engine", engine, ""},          {"plain", plain, ""},           {"checks", engine_checks, ""},
-        {"saving", engine_saving, ""},   {"adding", engine_adding, ""},  {"dropping", engine_dropping, ""},
-        {"rolling", engine_rolling, ""}, {"window", engine_window, ""}};
+        {"engine", engine, ""},            {"plain", plain, ""},            {"filter", filter, ""},
+        {"checks", engine_checks, ""},     {"saving", engine_saving, ""},   {"adding", engine_adding, ""},
+        {"dropping", engine_dropping, ""}, {"rolling", engine_rolling, ""}, {"window", engine_window, ""}};
 
     for (size_t i = 0; i < sizeof counted / sizeof *counted; i++)
         if (strcmp(counted[i].name, name) == 0)
@@ -224,11 +240,22 @@ static bool same_valuation(const ginghamowl_valuation *a, const ginghamowl_valua
            memcmp(&a->figures, &b->figures, sizeof a->figures) == 0;
 }
 
-static bool demand(bool holds, const char *what, const struct input *input)
+static bool demand(bool holds, const char *program, const char *what, const struct input *input)
 {
     if (!holds)
-        printf("DIFFERENCE: %s: %s\n", input->name, what);
+        printf("DIFFERENCE: %s: %s: %s\n", input->name, program, what);
     return holds;
+}
+
+/* Whether the program gives what the engine gave. */
+static bool equal(const struct work *program, const struct result *ours, const struct input *input)
+{
+    memset(&latest, 0, sizeof latest);
+    program->once(input);
+    bool same = demand(memcmp(ours->factors, latest.factors, sizeof ours->factors) == 0, program->name, "factors", input);
+    same &= demand(memcmp(ours->rates, latest.rates, sizeof ours->rates) == 0, program->name, "zero rates", input);
+    same &= demand(same_valuation(&ours->valuation, &latest.valuation), program->name, "figures or verdict", input);
+    return same;
 }
 
 /* The engine gives the factors of the base curve; those of the other two are plain C's, which L, B and S1 hold
@@ -239,19 +266,16 @@ static bool check(const struct input *input)
     struct fund fund;
     engine(input);
     struct result ours = latest;
-    if (!demand(ours.valuation.refusal == GINGHAMOWL_ACCEPTED, "the engine refuses the file", input))
+    if (!demand(ours.valuation.refusal == GINGHAMOWL_ACCEPTED, "engine", "refuses the file", input))
         return false;
-    memset(&latest, 0, sizeof latest);
-    plain(input);
     read_fund(input->bytes, &fund);
     memcpy(brackets[BASE], ours.factors, sizeof ours.factors);
     plain_factors(&fund, shift_of(&fund, UP), brackets[UP]);
     plain_factors(&fund, shift_of(&fund, DOWN), brackets[DOWN]);
-    bool same = demand(memcmp(ours.factors, latest.factors, sizeof ours.factors) == 0, "factors", input);
-    same &= demand(memcmp(ours.rates, latest.rates, sizeof ours.rates) == 0, "zero rates", input);
-    same &= demand(same_valuation(&ours.valuation, &latest.valuation), "figures or verdict", input);
-    same &= demand(gmp_meets(input->bytes, brackets), "an exact factor is outside its bracket", input);
-    same &= demand(arb_meets(input->bytes, brackets, ours.rates), "a ball misses its bracket", input);
+    bool same = equal(&programs[PLAIN], &ours, input);
+    same &= equal(&programs[FILTER], &ours, input);
+    same &= demand(gmp_meets(input->bytes, brackets), "GMP", "an exact factor is outside its bracket", input);
+    same &= demand(arb_meets(input->bytes, brackets, ours.rates), "Arb", "a ball misses its bracket", input);
     return same;
 }
 
@@ -305,14 +329,19 @@ static void take_medians(const struct work *works, int count, const struct input
     }
 }
 
+static const char *short_name(const struct input *input)
+{
+    const char *slash = strrchr(input->name, '/');
+    return slash ? slash + 1 : input->name;
+}
+
 static void print_programs(const struct input *input)
 {
     double medians[PROGRAMS];
-    const char *slash = strrchr(input->name, '/');
     take_medians(programs, PROGRAMS, input, medians);
-    printf("%s\n", slash ? slash + 1 : input->name);
+    printf("%s\n", short_name(input));
     for (int p = 0; p < PROGRAMS; p++)
-        printf("  %-8s %8.1f per second %6.2f x plain C's time   %s\n", programs[p].name, 1 / medians[p],
+        printf("  %-17s %8.1f per second %7.3f x plain C's time   %s\n", programs[p].name, 1 / medians[p],
                medians[p] / medians[PLAIN], programs[p].remark);
 }
 
@@ -321,7 +350,7 @@ static void print_parts(const struct input *input)
     double medians[PARTS];
     take_medians(parts, PARTS, input, medians);
     for (int p = 0; p < PARTS; p++)
-        printf("  %-40s %8.1f microseconds\n", parts[p].name, 1e6 * medians[p]);
+        printf("  %-48s %8.1f microseconds\n", parts[p].name, 1e6 * medians[p]);
 }
 
 /* ---------------------------------------------------------------- stack */
@@ -364,8 +393,19 @@ static int check_all(int count, char **paths, bool times)
             print_programs(&loaded);
     }
     if (all_same)
-        printf("%d files: engine and plain C equal; GMP and Arb meet every bracket\n", count);
+        printf("%d files: engine, plain C and C with the filter equal; GMP and Arb meet every bracket\n", count);
     return all_same ? 0 : 1;
+}
+
+/* Halving takes at most 15 tests for each rate. Only the open ones are counted, which costs the others no time. */
+static void print_open(int count, char **paths)
+{
+    for (int i = 0; i < count; i++) {
+        load(paths[i]);
+        filter_left_open = 0;
+        filter(&loaded);
+        printf("%s: %" PRIu64 " of at most %d\n", short_name(&loaded), filter_left_open, 15 * GINGHAMOWL_ENTRIES);
+    }
 }
 
 static void print_stack(const char *work)
@@ -384,6 +424,10 @@ int main(int argc, char **argv)
         print_parts(&loaded);
         return 0;
     }
+    if (argc >= 3 && strcmp(argv[1], "open") == 0) {
+        print_open(argc - 2, argv + 2);
+        return 0;
+    }
     if (argc == 4 && strcmp(argv[1], "stack") == 0) {
         load(argv[3]);
         print_stack(argv[2]);
@@ -394,6 +438,6 @@ int main(int argc, char **argv)
         run(work_named(argv[2]), &loaded, atol(argv[4]));
         return 0;
     }
-    fprintf(stderr, "usage: bench time FILE.. | check FILE.. | parts FILE | stack WORK FILE | count WORK FILE R\n");
+    fprintf(stderr, "usage: bench time FILE.. | check FILE.. | parts FILE | open FILE.. | stack WORK FILE | count WORK FILE R\n");
     return 2;
 }

@@ -44,8 +44,17 @@ extern const uint64_t weights[LAST_MARKET_TERM + 1]; /* in thousandths, of terms
 /* plain.c: the rounded working. */
 void read_fund(const uint8_t *file, struct fund *fund);
 void plain_factors(const struct fund *fund, int64_t shift, uint64_t factors[GINGHAMOWL_ENTRIES]);
+uint64_t discounted_down(int64_t z, int t); /* the lower result of a test of step z: 10^12, discounted t times */
+uint64_t discounted_up(int64_t z, int t);   /* and the upper one */
 void plain_rates(const uint64_t *factors, int64_t *rates);
+ginghamowl_valuation plain_money(const struct fund *fund, const uint64_t *factors);
 ginghamowl_valuation plain_value(const uint8_t *file, uint64_t *factors, int64_t *rates);
+
+/* filter.c: the same, but the zero rates are searched in the engine's way. The tests that the filter leaves open, which take t
+ * divisions, are counted. */
+extern uint64_t filter_left_open;
+void filter_rates(const uint64_t *factors, int64_t *rates);
+ginghamowl_valuation filter_value(const uint8_t *file, uint64_t *factors, int64_t *rates);
 
 /* gmp.c and arb.c: `run` does the work once; `meets` does it once more and says whether every result
  * meets its bracket, the factors of three curves and the rates of the base curve. */

@@ -113,7 +113,7 @@ void plain_factors(const struct fund *fund, int64_t shift, uint64_t factors[GING
 /* ---------------------------------------------------------------- zero rates */
 
 /* Results are at most 0.98^-120 x 10^12, below 1.2 x 10^13, so 64 bits hold them 100,000 times. */
-static uint64_t discounted_down(int64_t z, int t)
+uint64_t discounted_down(int64_t z, int t)
 {
     uint64_t result = ONE, divisor = (uint64_t)(STEPS + z);
     for (int i = 0; i < t; i++)
@@ -121,7 +121,7 @@ static uint64_t discounted_down(int64_t z, int t)
     return result;
 }
 
-static uint64_t discounted_up(int64_t z, int t)
+uint64_t discounted_up(int64_t z, int t)
 {
     uint64_t result = ONE, divisor = (uint64_t)(STEPS + z);
     for (int i = 0; i < t; i++)
@@ -268,25 +268,30 @@ static void market_losses(const struct fund *fund, ginghamowl_figures *f)
     f->s5 = quotient((wide)amount[CREDIT] * (shock[DURATION] * shock[SPREAD] * shock[SPREAD_RISE]), 10000000);
 }
 
+ginghamowl_valuation plain_money(const struct fund *fund, const uint64_t *factors)
+{
+    ginghamowl_valuation v = {.refusal = GINGHAMOWL_ACCEPTED};
+    ginghamowl_figures *f = &v.figures;
+    f->l = worth(fund->pension, fund->m, factors);
+    f->b = worth(fund->bonds, fund->k, factors);
+    f->a = f->b;
+    for (int i = 0; i < AMOUNTS; i++) {
+        f->a.lower += i == CURRENCY ? 0 : 100 * fund->amount[i];
+        f->a.upper += i == CURRENCY ? 0 : 100 * fund->amount[i];
+    }
+    f->s1 = interest_loss(fund, f->l, f->b);
+    market_losses(fund, f);
+    f->s6 = mortality_loss(fund, f->l);
+    f->s = root_buffer(f, fund->shock[CORRELATION]);
+    v.verdict = verdict_of(f);
+    return v;
+}
+
 ginghamowl_valuation plain_value(const uint8_t *file, uint64_t *factors, int64_t *rates)
 {
     struct fund fund;
-    ginghamowl_valuation v = {.refusal = GINGHAMOWL_ACCEPTED};
-    ginghamowl_figures *f = &v.figures;
     read_fund(file, &fund);
     plain_factors(&fund, 0, factors);
     plain_rates(factors, rates);
-    f->l = worth(fund.pension, fund.m, factors);
-    f->b = worth(fund.bonds, fund.k, factors);
-    f->a = f->b;
-    for (int i = 0; i < AMOUNTS; i++) {
-        f->a.lower += i == CURRENCY ? 0 : 100 * fund.amount[i];
-        f->a.upper += i == CURRENCY ? 0 : 100 * fund.amount[i];
-    }
-    f->s1 = interest_loss(&fund, f->l, f->b);
-    market_losses(&fund, f);
-    f->s6 = mortality_loss(&fund, f->l);
-    f->s = root_buffer(f, fund.shock[CORRELATION]);
-    v.verdict = verdict_of(f);
-    return v;
+    return plain_money(&fund, factors);
 }

@@ -37,7 +37,7 @@ module _ (factors : List ℕ) (t : ℕ) where
   pub upper-within : RatesWithin factors → t + 1 ≤ 120 → UpperWithin (t + 1) (getD factors (2 * t) 0)
   upper-within w h = rw before at (w .upper (t + 1) (omega arith) h)
 
-  -- what the guess of the next term asks: both ends of a factor are within what 64 bits hold, and the lower is not 0
+  -- what a guess asks: no upper factor is above 12 × 10^12, and no lower factor is 0
   pub factor-most : RatesWithin factors → t + 1 ≤ 120 → getD factors (2 * t + 1) 0 ≤ 12 * 10 ^ 12
   factor-most w h = le-trans (lower-within w h .passes) (tested-small low (t + 1) 0 h)
 

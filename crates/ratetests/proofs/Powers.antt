@@ -48,8 +48,8 @@ product x y e = divide e (endOf x e * endOf y e) (2 ^ 30)
 
 product-within : {x y : Bracket} {j k i m n : ℕ} → Encloses x j i m → Encloses y k i n → m * n + 2 ^ 30 ≤ 2 ^ 64 → ProductWithin x y
 product-within {x} {y} {m = m} {n = n} p q fits = record {
-  lower = record { some = omega arith; fits = omega (arith, mul-le-mul {n₁ = x .lower} {m₁ = y .lower} {n₂ = m} {m₂ = n} (lower-most p) (lower-most q)) };
-  upper = record { some = omega arith; fits = omega (arith, mul-le-mul {n₁ = x .upper} {m₁ = y .upper} {n₂ = m} {m₂ = n} (p .most) (q .most)) };
+  lower = omega (arith, mul-le-mul {n₁ = x .lower} {m₁ = y .lower} {n₂ = m} {m₂ = n} (lower-most p) (lower-most q));
+  upper = omega (arith, mul-le-mul {n₁ = x .upper} {m₁ = y .upper} {n₂ = m} {m₂ = n} (p .most) (q .most));
 }
 
 product-encloses : {x y r : Bracket} {j k i m n l : ℕ} → Encloses x j i m → Encloses y k i n → r ≡ bracket (product x y)

@@ -1,2 +1,2 @@
--- Nothing here has to be believed: the contracts of `ratetests` are equalities with the definitions of `model`.
+-- Nothing here has to be believed: the contracts of `ratetests` speak of results that `model` defines.
 pub mod inner

@@ -1,2 +1,2 @@
--- Nothing here has to be believed: the contracts of `zerorates` are equalities with the definitions of `model`.
+-- Nothing here has to be believed: the contract of `zero_rates` is an equality with a definition of `model`.
 pub mod inner

@@ -12,9 +12,8 @@ use Rattle.model.specs.Rounded as Rounded
 use Rattle.model.specs.Rounded.{scaled}
 use Rattle.model.specs.Brackets.{bracket, endOf}
 use Rattle.model.specs.declared.figures.Bracket.{Bracket}
-use Rattle.theory.proofs.curve.Steps.{ends}
 use Rattle.theory.proofs.curve.Growth.{P-pos}
-use Rattle.theory.proofs.curve.Factor.{rounded-factor-first, rounded-factor-next, weighed-from-61, factor-in, factor-den}
+use Rattle.theory.proofs.curve.Factor.{rounded-factor-first, rounded-factor-next, weighed-from-61, factor-ends}
 use Rattle.theory.proofs.curve.Sizes.{first-size}
 use Rattle.theory.proofs.money.MoneySizes.{factor-most}
 use Rattle.curve.specs.declared.shift.CurveSums.{CurveSums}
@@ -91,7 +90,7 @@ ufr-reduced e x u =
 
 late-suc : (c : CurveSums) → FactorsWithin c → (f : Bracket) (j : ℕ) → f ≡ bracket (λ e. Rounded.factor (curveOf c) e j) → TimesWithin f stepsPerOne (stepsPerOne + c .ufr)
 late-suc c w f j k = record {
-  order = omega (arith, low-end c f j k, high-end c f j k, ends (factor-den (curveOf c) (w .within) j) (factor-in (curveOf c) (w .within) low j) (factor-in (curveOf c) (w .within) high j));
+  order = omega (arith, low-end c f j k, high-end c f j k, factor-ends (curveOf c) (w .within) j);
   upper = omega (arith, high-end c f j k, factor-most (curveOf c) (w .within) high j);
   some = omega arith;
   most = omega (arith, ufr-most c w);

@@ -155,3 +155,7 @@ factor-in c f e (suc j) = go (decLe (suc j) 20) (factor-in c f e j)
         (same (Exact.factor c (suc j)) (quotient-pos c f j) (factor-next c j)
         (cross e (omega arith)
         (weighed-pos c f (other e) j (omega arith)) ih (weighed-in c f (other e) j (omega arith))))
+
+-- the ends of a factor are in order
+pub factor-ends : (c : Curve) → CurveWithin c → (t : ℕ) → Rounded.factor c low t ≤ Rounded.factor c high t
+factor-ends c f t = ends (factor-den c f t) (factor-in c f low t) (factor-in c f high t)

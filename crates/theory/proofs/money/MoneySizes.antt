@@ -16,15 +16,14 @@ use Rattle.model.specs.Rounded as Rounded
 use Rattle.model.specs.Rounded.{mortality, buffer}
 use Rattle.model.specs.inner.CurveWithin.{CurveWithin}
 use Rattle.theory.proofs.curve.CaseCurves.{curve-within}
-use Rattle.theory.proofs.curve.Steps.{ends}
-use Rattle.theory.proofs.curve.Factor.{factor-in, factor-den}
+use Rattle.theory.proofs.curve.Factor.{factor-ends}
 use Rattle.theory.proofs.curve.Sizes.{factor-size}
 use Rattle.theory.proofs.money.MoneyWidth.{share}
 
 -- at both ends
 pub factor-most : (c : Curve) → CurveWithin c → (e : End) (t : ℕ) → Rounded.factor c e t ≤ 22 * 10 ^ 11
 factor-most c f high t = factor-size c f t
-factor-most c f low t = le-trans (ends (factor-den c f t) (factor-in c f low t) (factor-in c f high t)) (factor-size c f t)
+factor-most c f low t = le-trans (factor-ends c f t) (factor-size c f t)
 
 -- at most 220,000,000 euros a flow
 pub worth-most : (c : Curve) → CurveWithin c → (e : End) (t : ℕ) (flows : List ℕ) → ((i : ℕ) → i < length flows → getD flows i 0 ≤ 100000000)

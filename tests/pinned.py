@@ -1,4 +1,5 @@
-"""Writes numbers of tests/reference.py and tests/rolling.py as computed statements about the definitions, in eight files (PATHS below).
+"""Writes numbers of tests/reference.py and tests/rolling.py as computed statements about the definitions, in nine files
+(PATHS below).
 
 Command line: python3 tests/pinned.py           writes the files
               python3 tests/pinned.py --check   ends with 1 if one of them is another
@@ -15,9 +16,11 @@ import reference
 import rolling
 import to_save
 import windows
-from antt import (PEOPLE, argument, both_ends, case_definition, computed, computed_fraction, day_or_name, definition, file_term, given_term,
-                  holds, integer, list_term, record, refusal, refuted, short_list, window_term)
-from reference import AMOUNTS, LOWER, MONEY, SHOCKS, UPPER, Exact, ExactCurve, Rounded, encode
+from antt import (ENDS, PEOPLE, argument, both_ends, case_definition, computed, computed_fraction, day_or_name,
+                  definition, file_term, given_term, holds, integer, list_term, record, refusal, refuted, short_list,
+                  window_term)
+from reference import (ALL_STEPS, AMOUNTS, LOWER, MONEY, SHOCKS, TESTS, UPPER, Exact, ExactCurve, Rounded, StepsLeft,
+                       encode)
 
 ROOT = os.path.join(os.path.dirname(os.path.abspath(__file__)), "..")
 VERDICTS = {reference.DEKKINGSTEKORT: "Dekkingstekort", reference.RESERVETEKORT: "Reservetekort",
@@ -134,6 +137,20 @@ use Rattle.model.specs.declared.case.Shocks.{Shocks}
 use Rattle.model.specs.declared.case.CaseFields.{CaseFields}
 use Rattle.model.specs.declared.saved.Saved.the-variants.{Written, Refused}
 use Rattle.model.proofs.Computing.{pairs, all}
+"""
+
+SEARCH_HEAD = """\
+-- The search for a zero rate: the step that is tested next, what a test leaves, and the steps left after each test, as
+-- computed statements about the definitions.
+""" + WRITTEN + """\
+use Prim.Native.Nat.{ℕ, _-_, _*_}
+use mathlib.Core.Path.{_≡_, refl}
+use mathlib.Core.Bool.{Bool, true, false}
+use mathlib.Core.List.{List, [], _∷_, map}
+use Rattle.arith.specs.Rounding.{End, low, high}
+use Rattle.model.specs.Bisection.{middle, halved, afterTests, stepsLeft, isLeft, howMany, mostLeft}
+use Rattle.model.specs.declared.steps.StepsLeft.{StepsLeft}
+use Rattle.model.proofs.Computing.{all}
 """
 
 ROLLING_WRITTEN = WRITTEN.replace("tests/reference.py", "tests/rolling.py")
@@ -490,6 +507,143 @@ def saved():
     return "\n".join([SAVED_HEAD, *makers(), *groups, *shortest_statements(), *buffer_statements()])
 
 
+# ---------------------------------------------------------------- crates/model/proofs/SearchCases.antt
+
+FALL = 10 ** 9  # of a made-up factor, a term
+MADE_UP = f"""\
+-- a step that passes, and one that fails, whichever it is
+abbrev pub passing : ℕ → Bool
+passing step = true
+
+abbrev pub failing : ℕ → Bool
+failing step = false
+
+-- a factor that has these ends at term 0 and falls by {FALL} a term
+abbrev pub falling : ℕ → ℕ → End → ℕ → ℕ
+falling a b low t = a - {FALL} * t
+falling a b high t = b - {FALL} * t
+"""
+
+
+def interval(left):
+    return f"between {left.first} {left.last}"
+
+
+def interval_argument(left):
+    return argument(interval(left))
+
+
+def within(left):
+    """Whether a step is one of these."""
+    return lambda step: left.first <= step <= left.last
+
+
+def search_definitions():
+    fields = list(zip(StepsLeft._fields, "ab"))
+    return [maker("between", ["ℕ", "ℕ", "StepsLeft"], fields, "the steps a to b, both included"),
+            definition("everyTest", "List ℕ", short_list(range(TESTS + 1))), MADE_UP]
+
+
+def middle_statement():
+    """Of odd and of even numbers of steps, of two and of one."""
+    rows = [ALL_STEPS, StepsLeft(0, 10_999), StepsLeft(11_001, 22_000), StepsLeft(3, 5), StepsLeft(7, 8),
+            StepsLeft(8, 11), StepsLeft(6, 6)]
+    return computed("middles", *(equation for left in rows for equation in both_ends(
+        f"middle {{e}} {interval_argument(left)}", ends(lambda end: reference.middle(left, end)))))
+
+
+def halved_equations(test, passes, left):
+    return [f"halved {word} {test} {interval_argument(left)} ≡ {interval(reference.halved(left, passes, end))}"
+            for end, word in ENDS]
+
+
+def halved_statements():
+    """Where every step passes and where none does; then, by tests that part there, that the middle decides."""
+    rows = [ALL_STEPS, StepsLeft(0, 10_999), StepsLeft(3, 5), StepsLeft(7, 8), StepsLeft(6, 6)]
+    parting = [(ALL_STEPS, StepsLeft(0, 10_999)), (ALL_STEPS, StepsLeft(11_000, 11_000)),
+               (ALL_STEPS, StepsLeft(11_001, 22_000)), (StepsLeft(8, 11), StepsLeft(9, 9)),
+               (StepsLeft(8, 11), StepsLeft(10, 10))]
+    of_rows = lambda test, passes: [equation for left in rows for equation in halved_equations(test, passes, left)]
+    return [computed("halved-on-pass", *of_rows("passing", lambda step: True)),
+            computed("halved-on-fail", *of_rows("failing", lambda step: False)),
+            computed("halved-by-the-middle", *(equation for left, passing in parting for equation in halved_equations(
+                f"(isLeft {interval_argument(passing)})", within(passing), left)))]
+
+
+def after_each(term, left):
+    """What is left after each test; term takes their number."""
+    return f"map ({term}) everyTest ≡ {short_list(map(interval, left))}"
+
+
+def after_statement(name, *tests):
+    """tests: for the lower and the upper rate the term of a test, and the test."""
+    return computed(name, *(after_each(f"afterTests {word} {test}", reference.halvings(passes, end))
+                            for (end, word), (test, passes) in zip(ENDS, tests, strict=True)))
+
+
+def after_statements():
+    """Where every step passes, where none does, and where both rates are step 6,200."""
+    parts = StepsLeft(0, 6_200), StepsLeft(6_200, ALL_STEPS.last)
+    return [after_statement("after-passes", *[("passing", lambda step: True)] * 2),
+            after_statement("after-fails", *[("failing", lambda step: False)] * 2),
+            after_statement("after-tests", *((f"(isLeft {interval_argument(part)})", within(part)) for part in parts))]
+
+
+def factor_argument(factor, t):
+    """A factor that is this one at term t."""
+    return f"(falling {factor[LOWER] + FALL * t} {factor[UPPER] + FALL * t})"
+
+
+def steps_left_statement(name, factor, t):
+    """Both searches of a term."""
+    return computed(name, *(after_each(f"stepsLeft {factor_argument(factor, t)} {word} {t}",
+                                       reference.steps_left(factor, t, end)) for end, word in ENDS))
+
+
+def long_term_statement(name, factor, t):
+    """After some of the tests only, since each of them takes t divisions."""
+    return computed(name, *(f"stepsLeft {factor_argument(factor, t)} {word} {t} {tests} ≡ "
+                            f"{interval(reference.steps_left(factor, t, end)[tests])}"
+                            for end, word in ENDS for tests in (1, 8, TESTS)))
+
+
+def steps_left_statements():
+    """Factors of the bent curve; then wide ones at term 2, whose ends are results of the steps 3,234 and 5,456, and
+    wider ones by a unit at each end."""
+    bent = Rounded(examples.bent())
+    lower, upper = reference.discounted(3_456, 2, UPPER), reference.discounted(1_234, 2, LOWER)
+    return [steps_left_statement("steps-left-1", bent.factors[1], 1),
+            steps_left_statement("steps-left-21", bent.factors[21], 21),
+            long_term_statement("steps-left-120", bent.factors[120], 120),
+            steps_left_statement("steps-left-reached", (lower, upper), 2),
+            steps_left_statement("steps-left-missed", (lower - 1, upper + 1), 2)]
+
+
+def is_left_equation(left, *steps):
+    told = short_list("true" if within(left)(step) else "false" for step in steps)
+    return f"map (isLeft {interval_argument(left)}) ({short_list(steps)}) ≡ {told}"
+
+
+def how_many_equation(left, n):
+    return f"howMany (isLeft {interval_argument(left)}) {n} ≡ {sum(map(within(left), range(n)))}"
+
+
+def counted_statements():
+    """At and around both ends; one step, all steps, and steps that run past those that are counted."""
+    counted = [((3, 7), 12), ((4, 4), 12), ((0, 0), 12), ((11, 11), 12), ((12, 12), 12), ((0, 11), 12), ((9, 30), 12),
+               ((12, 30), 12), (ALL_STEPS, 12), ((3, 7), 0), ((3, 7), 4), ((3, 7), 8)]
+    return [computed("is-left", is_left_equation(StepsLeft(5, 9), 0, 4, 5, 7, 9, 10, 22_000),
+                     is_left_equation(StepsLeft(0, 1), 0, 1, 2), is_left_equation(StepsLeft(6, 6), 5, 6, 7),
+                     is_left_equation(ALL_STEPS, 0, 11_000, 22_000, 22_001)),
+            computed("how-many", *(how_many_equation(StepsLeft(*left), n) for left, n in counted)),
+            computed("most-left", f"map mostLeft everyTest ≡ {short_list(map(reference.most_left, range(TESTS + 1)))}")]
+
+
+def search_cases():
+    return "\n".join([SEARCH_HEAD, *search_definitions(), middle_statement(), *halved_statements(), *after_statements(),
+                      *steps_left_statements(), *counted_statements()])
+
+
 # ---------------------------------------------------------------- crates/model/proofs/RollingCases.antt
 
 DAY_NAMES = {tuple(day): name for name, day in windows.DAYS.items()}
@@ -689,7 +843,8 @@ def files():
 
 
 PATHS = {"crates/model/proofs/Pinned.antt": pinned, "crates/model/proofs/Refused.antt": refused_quickly,
-         "crates/model/proofs/SavedCases.antt": saved, "crates/model/proofs/RollingCases.antt": rolling_cases,
+         "crates/model/proofs/SavedCases.antt": saved, "crates/model/proofs/SearchCases.antt": search_cases,
+         "crates/model/proofs/RollingCases.antt": rolling_cases,
          "crates/pinned/proofs/Files.antt": files, "crates/refusals/proofs/Accepted.antt": accepted,
          "crates/refusals/proofs/Refused.antt": refused, "crates/refusals/proofs/Rolling.antt": rolling_refused}
 

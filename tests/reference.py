@@ -1,4 +1,5 @@
-"""Reference implementation of document 01, "The UFR curve and the solvency verdict of one fund", and of document 02's request One.
+"""Reference implementation of document 01, "The UFR curve and the solvency verdict of one fund", and of document 02's
+requests One and Three.
 
 Written from the papers alone, in their order and their words, to be run beside the engine.
 Whole numbers and fractions only; no float occurs.
@@ -584,6 +585,63 @@ def upper_rate(factor, t, by="bisection"):
 
 def zero_rate(factor, t, by="bisection"):
     return lower_rate(factor, t, by), upper_rate(factor, t, by)
+
+
+# Document 02, Three: "the search for the lower and the upper rate is to halve the interval from -2,000 to 20,000".
+
+class StepsLeft(NamedTuple):
+    """The steps that no test has ruled out: from first to last, both included. They count from 0, which is -2,000."""
+    first: int
+    last: int
+
+
+ALL_STEPS = StepsLeft(0, len(TESTED_STEPS) - 1)
+TESTS = 15  # "a budget of 15 tests always suffices"
+
+
+def middle(left, end):
+    """The step tested next. Of two in the middle the search for the lower rate takes the later, that for the upper rate
+    the earlier: of two steps, the other one rules out nothing where it passes."""
+    return (left.first + left.last + 1) // 2 if end == LOWER else (left.first + left.last) // 2
+
+
+def halved(left, passes, end):
+    """What one test leaves. A step that passes may be the rate itself and stays; one that fails is ruled out.
+
+    The lower rate is "the largest z" that passes: all steps before a passing one go, and all after a failing one. The
+    upper rate is "the smallest z", the other way round. A single step is not tested.
+    """
+    if left.first == left.last:
+        return left
+    step = middle(left, end)
+    if end == LOWER:
+        return StepsLeft(step, left.last) if passes(step) else StepsLeft(left.first, step - 1)
+    return StepsLeft(left.first, step) if passes(step) else StepsLeft(step + 1, left.last)
+
+
+def halvings(passes, end, left=ALL_STEPS):
+    """What is left after 0, 1, .. 15 tests."""
+    found = [left]
+    for _ in range(TESTS):
+        found.append(halved(found[-1], passes, end))
+    return found
+
+
+def most_left(tests):
+    """"After j tests at most 22,001 / 2^j steps, rounded up, are left"."""
+    return divide(22_001, 2 ** tests, UPPER)
+
+
+def step_passes(step, factor, t, end):
+    """Document 01's test of a step, "whose lower result is at least the upper factor" or "whose upper result is at most
+    the lower factor"."""
+    result = discounted(TESTED_STEPS[step], t, end)
+    return result >= factor[UPPER] if end == LOWER else result <= factor[LOWER]
+
+
+def steps_left(factor, t, end):
+    """The steps left of the search for a term's lower or upper rate, after 0, 1, .. 15 tests."""
+    return halvings(lambda step: step_passes(step, factor, t, end), end)
 
 
 def worth(flows, factors):

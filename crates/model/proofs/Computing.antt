@@ -14,6 +14,7 @@ use Rattle.model.specs.Brackets.{largest, smallest}
 use Rattle.model.specs.Curve.{movedSum, curve, P, weight, weights}
 use Rattle.model.specs.Exact as Exact
 use Rattle.model.specs.Rounded as Rounded
+use Rattle.model.specs.Bisection.{afterTests, howMany}
 use Rattle.model.specs.Margins.{weightedSum}
 use Rattle.model.specs.Buffers.{valuationRefusal, byTerm, factorEntries, factorsAfter, ratesAfter, rateEntries, valuationOf}
 use Rattle.model.specs.Rolling.{daysHeld, sumsOf, windowRight, addRefusal, dropRefusal, added, dropped, addDay, dropDay, changedBy, queuedBy}
@@ -41,6 +42,7 @@ unfolding
     weights weight Exact.G Exact.weighed Exact.growth Exact.product Exact.factor Exact.worth Exact.judge
     Rounded.scaled Rounded.growth Rounded.weighed Rounded.factor largest smallest Rounded.rateOf Rounded.worth Rounded.judge
     divide root rootOfDigits size
+    afterTests howMany
     weightedSum valuationRefusal byTerm factorEntries rateEntries factorsAfter ratesAfter valuationOf windowPoint
     daysHeld sumsOf windowRight addRefusal dropRefusal added dropped addDay dropDay changedBy queuedBy
     windowRefusal windowValuation windowFactorsAfter windowRatesAfter

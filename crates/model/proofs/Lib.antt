@@ -6,5 +6,6 @@ pub mod Worked
 pub mod Refused
 pub mod Pinned
 pub mod SavedCases
+pub mod SearchCases
 pub mod RollingCases
 pub mod Widths

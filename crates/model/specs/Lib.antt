@@ -1,4 +1,4 @@
--- Document 01 as definitions, a file a section, in its order; Saving and Rolling are requests One and Two of document 02. All of it has to be believed, except what is in inner.
+-- Document 01 as definitions, a file a section, in its order; Saving, Rolling and Bisection are requests One, Two and Three of document 02. All of it has to be believed, except what is in inner.
 pub mod Constants
 pub mod Numbers
 pub mod Case
@@ -13,6 +13,7 @@ pub mod Curve
 pub mod Held
 pub mod Exact
 pub mod Rounded
+pub mod Bisection
 pub mod Margins
 pub mod Demand3
 pub mod Buffers

@@ -4,4 +4,5 @@ pub mod case;
 pub mod figures;
 pub mod rolling;
 pub mod saved;
+pub mod steps;
 pub mod window;

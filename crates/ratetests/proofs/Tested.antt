@@ -2,10 +2,10 @@
 -- Assumes nothing.
 use Prim.Native.Nat.{ℕ, _+_, _*_, _^_, _≤_, _<_}
 use mathlib.Core.Path.{_≡_, refl}
-use mathlib.Core.Bool.{Bool, true, false}
+use mathlib.Core.Bool.{Bool, true, false, not}
 use native.Mathlib.Omega.{arith}
 use native.Mathlib.Numerals.{add-one}
-use borrow.Author.Tests.{le-leb, lt-leb, lt-ltb, le-ltb}
+use borrow.Author.Tests.{le-leb, lt-leb}
 use Rattle.arith.specs.inner.Range.{Small}
 use Rattle.arith.specs.Rounding.{End, low, high, divide}
 use Rattle.model.specs.Constants.{unit, stepsPerOne}
@@ -18,7 +18,7 @@ use Rattle.theory.proofs.curve.Steps.{ends, scaled-in, scaled-ends}
 use Rattle.theory.proofs.curve.RateTests.{tested-small, testWidth, tested-width}
 use Rattle.ratetests.specs.inner.Powers.{Encloses, powerMost}
 use Rattle.ratetests.specs.inner.Ranges.{StepWithin}
-use Rattle.ratetests.specs.inner.Results.{reached}
+use Rattle.ratetests.specs.inner.Results.{passed}
 use Rattle.ratetests.proofs.Powers.{in-units, in-units-most}
 
 -- over no years
@@ -58,14 +58,14 @@ module _ {x : Bracket} {t i : ℕ} (w : StepWithin t i) (p : Encloses x t i (pow
   pub upper-most : n ≡ divide high (x .upper * 5 ^ 12) (2 ^ 18) → n ≤ 2 ^ 46
   upper-most e = rw e (in-units-most w p)
 
--- ---- a result that reaches a factor
+-- ---- a test whose results are both above the factor, or both below it
 results-order : (t i : ℕ) → tested low t i ≤ tested high t i
 results-order t i = scaled-ends stepsPerOne (98000 + i) t (omega arith)
 
-pub surely-reaches : (up : Bool) (t factor i : ℕ) → factor < tested low t i → reached up t factor i ≡ true
-surely-reaches true t factor i h = lt-ltb factor (tested high t i) (omega (arith, results-order t i))
-surely-reaches false t factor i h = le-leb factor (tested low t i) (omega arith)
+pub results-above : (up : Bool) (t factor i : ℕ) → factor < tested low t i → passed up t factor i ≡ not up
+results-above true t factor i h = lt-leb (tested high t i) factor (omega (arith, results-order t i))
+results-above false t factor i h = le-leb factor (tested low t i) (omega arith)
 
-pub surely-not : (up : Bool) (t factor i : ℕ) → tested high t i < factor → reached up t factor i ≡ false
-surely-not true t factor i h = le-ltb factor (tested high t i) (omega arith)
-surely-not false t factor i h = lt-leb factor (tested low t i) (omega (arith, results-order t i))
+pub results-below : (up : Bool) (t factor i : ℕ) → tested high t i < factor → passed up t factor i ≡ up
+results-below true t factor i h = le-leb (tested high t i) factor (omega arith)
+results-below false t factor i h = lt-leb factor (tested low t i) (omega (arith, results-order t i))

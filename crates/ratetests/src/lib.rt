@@ -5,7 +5,7 @@ mod power;
 ghost use mathlib.Core.Path.{_≡_};
 ghost use Rattle.model.specs.Rounded.{tested};
 ghost use Rattle.ratetests.specs.inner.Ranges.{StepWithin};
-ghost use Rattle.ratetests.specs.inner.Results.{endBy, reached, Results};
+ghost use Rattle.ratetests.specs.inner.Results.{endBy, passed, Results};
 use arith::scale::times_ceil;
 use arith::scale::times_floor;
 use model::case::Case;
@@ -58,22 +58,22 @@ pub fn result_bounds(t: usize, i: u64) -> Bracket
     }
 }
 
-// Whether the result of step i reaches the factor: the lower result if it is at least the factor, and the upper one if it is above it.
-// The result is worked out only where the bounds leave that open.
-pub fn reaches(up: bool, t: usize, i: u64, factor: u64) -> bool
+// Whether step i passes document 01's test: its lower result is at least the factor, or its upper result at most the factor. The result
+// is worked out only where the bounds leave that open.
+pub fn passes(up: bool, t: usize, i: u64, factor: u64) -> bool
     requires { ⌜ StepWithin t i ⌝ }
-    ensures { λ r. ⌜ r ≡ reached up t factor i ⌝ }
+    ensures { λ r. ⌜ r ≡ passed up t factor i ⌝ }
 {
     let bounds = result_bounds(t, i);
     if factor < bounds.lower {
-        return true;
+        return !up;
     }
     if bounds.upper < factor {
-        return false;
+        return up;
     }
     let result = rounded_result(up, t, i);
     if up {
-        return factor < result;
+        return result <= factor;
     }
     factor <= result
 }

@@ -1,2 +1,3 @@
--- RateEntries: the conclusions for the callers of this crate. What serves one module is in the folder of that module.
+-- RateEntries: the conclusions for the callers of this crate. Left: what two modules cite. What serves one module is in its folder.
 pub mod RateEntries
+mod Left

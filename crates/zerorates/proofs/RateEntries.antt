@@ -32,12 +32,6 @@ module _ (f : End → ℕ → ℕ) where
 
 pub entries-within : (c : Curve) → BaseWithin c → RatesWithin (byTerm (Rounded.factor c) 120)
 entries-within c b = record {
-  lower = λ t h k. record {
-    term = k;
-    passes = rw (entry-is (Rounded.factor c) 120 high t h k) (leb→le (Rounded.factor c high t) (tested low t 0) (first-passes c b t k));
-  };
-  upper = λ t h k. record {
-    term = k;
-    passes = rw (entry-is (Rounded.factor c) 120 low t h k) (leb→le (tested high t 22000) (Rounded.factor c low t) (last-passes c b t k));
-  };
+  lower = λ t h k. rw (entry-is (Rounded.factor c) 120 high t h k) (leb→le (Rounded.factor c high t) (tested low t 0) (first-passes c b t k));
+  upper = λ t h k. rw (entry-is (Rounded.factor c) 120 low t h k) (leb→le (tested high t 22000) (Rounded.factor c low t) (last-passes c b t k));
 }

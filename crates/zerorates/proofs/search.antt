@@ -1,2 +1,2 @@
 -- What the proofs of the search cite.
-mod Found
+mod Middle

@@ -1,3 +1,3 @@
--- Halving: the bisection over the steps, and what is known before it. Ranges: what the functions require of their numbers.
-pub mod Halving
+-- Known: the steps whose tests are known before a search. Ranges: what the functions require of their numbers.
+pub mod Known
 pub mod Ranges

@@ -1,7 +1,7 @@
 // Steps whose tests are known before a search. Bounds of the results of two steps, one on each side of a guess of the rate, decide
 // the tests of all steps beyond them, because the results fall as the step rises. A wrong guess costs time only: then no step is known.
 ghost use Prim.Native.Nat.{_≤_};
-ghost use Rattle.zerorates.specs.inner.Halving.{AboveUntil, BelowFrom, Known};
+ghost use Rattle.zerorates.specs.inner.Known.{AboveUntil, BelowFrom, Known};
 ghost use Rattle.zerorates.specs.inner.Ranges.{GuessWithin};
 ghost use Rattle.ratetests.specs.inner.Ranges.{StepWithin};
 use model::case::Case;
@@ -16,11 +16,11 @@ pub struct Interval {
     pub hi: u64,
 }
 
-// The number of steps.
-pub const STEPS: u64 = 22_001;
+// The last of the steps, which are counted from 0.
+pub const LAST_STEP: u64 = 22_000;
 
 // The last step that is guessed, so that two steps follow it.
-const LAST_GUESS: u64 = 21_998;
+pub const LAST_GUESS: u64 = 21_998;
 
 // The step of the lower zero rate of term t + 1, or the step before it, by a mean: of t years at the step of term t, and of one year at
 // the growth from the factor of term t, `before`, to the factor of term t + 1. Nothing but speed depends on it.
@@ -67,7 +67,7 @@ fn surely_below(t: usize, i: u64, factor: Bracket) -> u64
             return i;
         }
     }
-    STEPS
+    LAST_STEP + 1
 }
 
 // What is known from step `guess` and from the second step after it, at both ends of the factor.

@@ -6,8 +6,8 @@ ghost use Rattle.model.specs.Buffers.{byTerm, entryOf};
 ghost use Rattle.zerorates.specs.inner.Ranges.{RatesWithin};
 use super::known::guess_rate;
 use super::known::known_near;
-use super::search::search_lower_rate;
-use super::search::search_upper_rate;
+use super::search::TESTS;
+use super::search::steps_left;
 use model::case::Case;
 use model::figures::Bracket;
 
@@ -37,10 +37,11 @@ pub fn zero_rates(factors: [u64; 240]) -> [i64; 240]
         };
         let guess = guess_rate(t, step, before, factor.lower);
         let known = known_near(t + 1, guess, factor);
-        step = search_lower_rate(t + 1, factor.upper, known);
-        let upper = search_upper_rate(t + 1, factor.lower, known);
-        out[2 * t] = rate_at(step);
-        out[2 * t + 1] = rate_at(upper);
+        let lower = steps_left(false, t + 1, factor.upper, TESTS, known);
+        let upper = steps_left(true, t + 1, factor.lower, TESTS, known);
+        step = lower.first;
+        out[2 * t] = rate_at(lower.first);
+        out[2 * t + 1] = rate_at(upper.first);
         before = factor.upper;
         t += 1;
     }

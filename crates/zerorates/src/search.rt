@@ -1,82 +1,93 @@
-// The steps of the zero rates of a term, found by bisection over the steps 0 to 22,000: the results fall as the step rises.
+// The search for a zero rate of a term. It halves the steps 0 to 22,000 until one is left: the results of the tests fall as the step rises,
+// so each test rules out all steps on one side of the step that it tests.
 ghost use mathlib.Core.Path.{_≡_};
 ghost use Prim.Native.Nat.{_≤_};
-ghost use lib.Dec.{leb};
-ghost use Rattle.arith.specs.Rounding.{low, high};
-ghost use Rattle.model.specs.Rounded.{tested};
-ghost use Rattle.model.specs.Brackets.{largest, smallest};
+ghost use Rattle.model.specs.Bisection.{middle, halved, afterTests};
 ghost use Rattle.ratetests.specs.inner.Ranges.{StepWithin};
-ghost use Rattle.ratetests.specs.inner.Results.{reached};
-ghost use Rattle.zerorates.specs.inner.Halving.{Known, halvedBy, FirstUnreached};
-ghost use Rattle.zerorates.specs.inner.Ranges.{IntervalWithin, LowerWithin, UpperWithin};
+ghost use Rattle.ratetests.specs.inner.Results.{endBy, passed};
+ghost use Rattle.zerorates.specs.inner.Known.{Known};
+ghost use Rattle.zerorates.specs.inner.Ranges.{LeftWithin};
 use super::known::Interval;
-use super::known::STEPS;
-use ratetests::reaches;
+use super::known::LAST_STEP;
+use model::steps::StepsLeft;
+use ratetests::passes;
 
-// After so many tests no step is undecided, because each halves what is left of STEPS.
-const TESTS: usize = 15;
+// So many tests leave one step of all: each halves what is left, and 2^15 is above 22,001.
+pub const TESTS: usize = 15;
 
-// The test of step i: whether its result reaches the factor. For most steps that is known.
+// The test of step i: whether it passes. For most steps that is known.
 fn test_step(up: bool, t: usize, i: u64, factor: u64, known: Interval) -> bool
     requires { ⌜ StepWithin t i × Known t factor known ⌝ }
-    ensures { λ r. ⌜ r ≡ reached up t factor i ⌝ }
+    ensures { λ r. ⌜ r ≡ passed up t factor i ⌝ }
 {
     if i < known.lo {
-        return true;
+        return !up;
     }
     if known.hi <= i {
-        return false;
+        return up;
     }
-    reaches(up, t, i, factor)
+    passes(up, t, i, factor)
 }
 
-// What is left of p when its middle has been tested. Where no step is left, nothing is tested.
-fn halved(up: bool, t: usize, factor: u64, known: Interval, p: Interval) -> Interval
-    requires { ⌜ (t ≤ 120) × Known t factor known × IntervalWithin p ⌝ }
-    ensures { λ r. ⌜ r ≡ halvedBy (reached up t factor) p ⌝ }
+// The step that is tested next.
+fn middle_step(up: bool, left: StepsLeft) -> u64
+    requires { ⌜ LeftWithin left ⌝ }
+    ensures { λ r. ⌜ r ≡ middle (endBy up) left ⌝ }
 {
-    if p.hi <= p.lo {
-        return p;
+    if up {
+        return (left.first + left.last) / 2;
     }
-    let step = (p.lo + p.hi) / 2;
-    if test_step(up, t, step, factor, known) {
-        return Interval {
-            lo: step + 1,
-            hi: p.hi,
+    (left.first + left.last + 1) / 2
+}
+
+// What one test leaves. A single step is not tested.
+fn halve(up: bool, t: usize, factor: u64, known: Interval, left: StepsLeft) -> StepsLeft
+    requires { ⌜ (t ≤ 120) × Known t factor known × LeftWithin left ⌝ }
+    ensures { λ r. ⌜ r ≡ halved (endBy up) (passed up t factor) left ⌝ }
+{
+    if left.last <= left.first {
+        return left;
+    }
+    let step = middle_step(up, left);
+    let passing = test_step(up, t, step, factor, known);
+    if up {
+        if passing {
+            return StepsLeft {
+                first: left.first,
+                last: step,
+            };
+        }
+        return StepsLeft {
+            first: step + 1,
+            last: left.last,
         };
     }
-    Interval { lo: p.lo, hi: step }
-}
-
-// The first step whose result does not reach the factor, or STEPS where all do.
-fn search(up: bool, t: usize, factor: u64, known: Interval) -> u64
-    requires { ⌜ (t ≤ 120) × Known t factor known ⌝ }
-    ensures { λ r. ⌜ FirstUnreached up t factor r ⌝ }
-{
-    let mut left = Interval { lo: 0, hi: STEPS };
-    let mut tests: usize = 0;
-    while tests < TESTS {
-        left = halved(up, t, factor, known, left);
-        tests += 1;
+    if passing {
+        return StepsLeft {
+            first: step,
+            last: left.last,
+        };
     }
-    left.lo
+    StepsLeft {
+        first: left.first,
+        last: step - 1,
+    }
 }
 
-// The step of the lower zero rate: the last one whose lower result is at least the upper end of the factor.
-pub fn search_lower_rate(t: usize, factor: u64, known: Interval) -> u64
-    requires { ⌜ LowerWithin t factor × Known t factor known ⌝ }
-    ensures { λ r. ⌜ r ≡ largest (λ i. leb factor (tested low t i)) 22001 22001 ⌝ }
-    ensures most { λ r. ⌜ r ≤ 22000 ⌝ }
+// The steps that are left for a rate after a number of tests: the lower rate, by the upper end of the factor, or the upper rate, by the
+// lower end.
+pub fn steps_left(up: bool, t: usize, factor: u64, tests: usize, known: Interval) -> StepsLeft
+    requires { ⌜ (t ≤ 120) × Known t factor known ⌝ }
+    ensures { λ r. ⌜ r ≡ afterTests (endBy up) (passed up t factor) tests ⌝ }
 {
-    let first = search(false, t, factor, known);
-    first - 1
-}
-
-// The step of the upper zero rate: the first one whose upper result is at most the lower end of the factor.
-pub fn search_upper_rate(t: usize, factor: u64, known: Interval) -> u64
-    requires { ⌜ UpperWithin t factor × Known t factor known ⌝ }
-    ensures { λ r. ⌜ r ≡ smallest (λ i. leb (tested high t i) factor) 0 22001 22001 ⌝ }
-    ensures most { λ r. ⌜ r ≤ 22000 ⌝ }
-{
-    search(true, t, factor, known)
+    let mut left = StepsLeft {
+        first: 0,
+        last: LAST_STEP,
+    };
+    let mut done: usize = 0;
+    while done < tests {
+        left = halve(up, t, factor, known, left);
+        done += 1;
+    }
+    left
 }

@@ -4,10 +4,11 @@
 -- and the one after that the upper test, which no two neighbouring steps do (`one-passes`).
 -- Assumes nothing.
 use Prim.Native.Nat.{ℕ, _+_, _*_, _^_, _≤_, _<_}
-use mathlib.Core.Path.{_≡_, refl}
-use lib.Dec.{T, leb→le, le→leb, lit<, lit≤}
+use mathlib.Core.Path.{_≡_, refl, _∙_}
+use lib.Dec.{T, leb→le, le→leb}
 use native.Mathlib.Omega.{arith}
-use native.Mathlib.Nat.{le-trans, lt-of-not-le}
+use native.Mathlib.Nat.{le-trans}
+use borrow.Author.Tests.{lt-leb, leb-false}
 use native.Mathlib.Decide.{decLe}
 use lib.IntN.{ℤ, pos, negℤ, _+ℤ_}
 use lib.Signed.{_≤ℤ_, _<ℤ_}
@@ -18,7 +19,6 @@ use Rattle.model.specs.Exact as Exact
 use Rattle.model.specs.Constants.{unit, stepsPerOne}
 use Rattle.model.specs.Rounded as Rounded
 use Rattle.model.specs.Rounded.{scaled, tested, stepAt, lowerTest, upperTest}
-use Rattle.model.specs.Brackets.{largest, smallest}
 use Rattle.model.specs.Fraction.{Fraction}
 use Rattle.model.specs.inner.CurveWithin.{BaseWithin}
 use Rattle.model.specs.Limits.{Between}
@@ -29,9 +29,10 @@ use Rattle.theory.proofs.curve.Steps.{scaled-in}
 use Rattle.theory.proofs.curve.Factor.{factor-in, product-pos}
 use Rattle.theory.proofs.curve.Width.{factor-width}
 use Rattle.theory.proofs.general.Lists.{every-le}
-use Rattle.theory.proofs.general.Search.{largest-found, smallest-found, past-largest, before-smallest}
 use Rattle.theory.proofs.curve.BaseCurve.{weighedBound, factorBound, factor-bound}
 use Rattle.theory.proofs.curve.RateTests.{one-passes}
+use Rattle.theory.proofs.curve.Bisection as Bisection
+use Rattle.theory.proofs.curve.Bisection.{RateExists, found-passes, splits}
 
 -- ---- step i as an integer
 step-diff : (i : ℕ) → Diff (stepAt i) i 2000
@@ -81,27 +82,28 @@ module _ (c : Curve) (b : BaseWithin c) (t : ℕ) (within : t ≤ 120) where
       le→leb (tested high t 22000) (Rounded.factor c low t)
       (le-trans (stops t (omega arith)) (factor-bound c b low t .le))
 
-  -- the index of the step found
-  found : End → ℕ
-  found low = largest (lowerTest (Rounded.factor c) t) 22001 22001
-  found high = smallest (upperTest (Rounded.factor c) t) 0 22001 22001
+  pub rate-exists : (e : End) → RateExists (Rounded.factor c) e t
+  rate-exists low = first-passes
+  rate-exists high = last-passes
+
+  -- the step of the rate
+  abbrev found : End → ℕ
+  found e = Bisection.found (Rounded.factor c) t e
 
   rate-is : (e : End) → Rounded.zeroRate c e t ≡ stepAt (found e)
-  unfolding Rounded.rateOf found
-  rate-is low = refl
-  rate-is high = refl
+  rate-is e = Bisection.rate-is (Rounded.factor c) t e
 
-  found-passes : (e : End) → (found e ≤ 22000) × (Rounded.factor c (other e) t ≤⟨ e ⟩ tested e t (found e))
-  unfolding found
-  found-passes low =
-      let r = largest-found (lowerTest (Rounded.factor c) t) 22001 22001 0 (lit< tt) first-passes in
-      (omega (arith, r .1), record { le = leb→le (Rounded.factor c high t) (tested low t (found low)) (r .0) })
-  found-passes high =
-      let r = smallest-found (upperTest (Rounded.factor c) t) 0 22001 22001 22000 (lit≤ tt) (lit< tt) last-passes in
-      (r .1, record { le = leb→le (tested high t (found high)) (Rounded.factor c low t) (r .0) })
+  step-most : (e : End) → found e ≤ 22000
+  step-most e = found-passes (Rounded.factor c) t e (rate-exists e) .1
+
+  factor-order : (e : End) → Rounded.factor c (other e) t ≤⟨ e ⟩ tested e t (found e)
+  factor-order low =
+      record { le = leb→le (Rounded.factor c high t) (tested low t (found low)) (found-passes (Rounded.factor c) t low (rate-exists low) .0) }
+  factor-order high =
+      record { le = leb→le (tested high t (found high)) (Rounded.factor c low t) (found-passes (Rounded.factor c) t high (rate-exists high) .0) }
 
   pub rate-found : (e : End) → Between (negℤ (pos 2000)) (pos 20000) (Rounded.zeroRate c e t)
-  rate-found e = rw (rate-is e) (step-within (found e) (found-passes e .0))
+  rate-found e = rw (rate-is e) (step-within (found e) (step-most e))
 
   pub rate-in : (e : End) → RateBounds e (Rounded.zeroRate c e t) t (Exact.product c t)
   unfolding Exact.factor
@@ -113,12 +115,11 @@ module _ (c : Curve) (b : BaseWithin c) (t : ℕ) (within : t ≤ 120) where
         aboveMinusOne = above-minus-one (found e);
         order = rate-order e (stepAt (found e)) t x
             (rw (step-natural (found e))
-            (power-order (v ^ t) (stepsPerOne ^ t) (x .num) (x .den) (factor-in c (b .within) (other e) t .is) (found-passes e .1)
+            (power-order (v ^ t) (stepsPerOne ^ t) (x .num) (x .den) (factor-in c (b .within) (other e) t .is) (factor-order e)
             (scaled-in e stepsPerOne v t (omega arith) .is)));
       }
 
   narrow : 1 ≤ t → found high ≤ found low + 2
-  unfolding found
   narrow h = go (decLe (found high) (found low + 2))
     where
       i : ℕ
@@ -127,10 +128,12 @@ module _ (c : Curve) (b : BaseWithin c) (t : ℕ) (within : t ≤ 120) where
       go : Dec (found high ≤ found low + 2) → found high ≤ found low + 2
       go (yes k) = k
       go (no k) =
-          let few : i + 1 < 22001 = omega (arith, found-passes high .0) in
+          let few : i + 1 < 22001 = omega (arith, step-most high) in
           absurd (one-passes t i (Rounded.factor c low t) (Rounded.factor c high t) h within (omega arith) (factor-bound c b low t .le) (factor-width c (b .within) t)
-          (lt-of-not-le (λ q. past-largest (lowerTest (Rounded.factor c) t) 22001 22001 i (omega arith) (omega arith) (le→leb (Rounded.factor c high t) (tested low t i) q)))
-          (lt-of-not-le (λ q. before-smallest (upperTest (Rounded.factor c) t) 22001 22001 (i + 1) (omega arith) few (le→leb (tested high t (i + 1)) (Rounded.factor c low t) q))))
+          (leb-false (Rounded.factor c high t) (tested low t i)
+          (splits (Rounded.factor c) t low (rate-exists low) i (omega arith) ∙ lt-leb i (found low) (omega arith)))
+          (leb-false (tested high t (i + 1)) (Rounded.factor c low t)
+          (splits (Rounded.factor c) t high (rate-exists high) (i + 1) few ∙ lt-leb (found high) (i + 1) (omega arith))))
 
   pub rate-width : 1 ≤ t → Rounded.zeroRate c high t ≤ℤ (Rounded.zeroRate c low t +ℤ pos 2)
   rate-width h =

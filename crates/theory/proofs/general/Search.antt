@@ -1,13 +1,14 @@
--- What the searches of the definitions find, `largest` and `smallest`: an index that passes, if there is one, and the only one that
--- passes beside one that does not, if the test is monotone. So a search by halving may take their place.
+-- What the searches of the definitions find, `largest` and `smallest`: an index that passes, if there is one, and the one at which a
+-- monotone test changes. So a search by halving may take their place.
 -- Assumes nothing.
 use Prim.Native.Nat.{ℕ, zero, suc, _+_, _≤_, _<_}
 use mathlib.Core.Path.{_≡_, refl, sym, _∙_, ap, subst}
 use mathlib.Core.Bool.{Bool, true, false, cond}
 use native.Mathlib.Omega.{arith}
-use native.Mathlib.Nat.{le-antisymm, not-suc-le-zero}
+use native.Mathlib.Nat.{not-suc-le-zero}
 use native.Mathlib.Decide.{decLe}
-use lib.Dec.{T}
+use borrow.Author.Tests.{le-leb, lt-leb}
+use lib.Dec.{leb, T}
 use Rattle.model.specs.Brackets.{largest, smallest}
 
 -- where index i passes, so does the one found, on the right side of i
@@ -44,28 +45,29 @@ smallest-found f i (suc n) none m h l t = go (f i) refl (smallest-found f (suc i
         later (no k) = let q : m ≡ i = omega arith in absurd (subst T (ap f q ∙ e) t)
 
 -- so no index on the wrong side of it passes
-pub past-largest : (f : ℕ → Bool) (n none i : ℕ) → largest f n none < i → i < n → T (f i) → ⊥
+past-largest : (f : ℕ → Bool) (n none i : ℕ) → largest f n none < i → i < n → T (f i) → ⊥
 past-largest f n none i l h t = let r = largest-found f n none i h t in omega (arith, r .2)
 
-pub before-smallest : (f : ℕ → Bool) (n none i : ℕ) → i < smallest f 0 n none → i < n → T (f i) → ⊥
+before-smallest : (f : ℕ → Bool) (n none i : ℕ) → i < smallest f 0 n none → i < n → T (f i) → ⊥
 before-smallest f n none i l h t = let r = smallest-found f 0 n none i (omega arith) (omega arith) t in omega (arith, r .1)
 
--- where the test falls, or rises, it is the only index that passes and whose neighbour does not
-pub largest-is : (f : ℕ → Bool) → ((i j : ℕ) → i ≤ j → T (f j) → T (f i)) → (n none i : ℕ) → i < n → T (f i) → (suc i < n → T (f (suc i)) → ⊥) → largest f n none ≡ i
-largest-is f falls n none i h p last =
-    let r = largest-found f n none i h p in
-    le-antisymm (go (decLe (largest f n none) i) r) (r .2)
+-- where the test falls, it passes up to the index found and no further; where it rises, from that index on and no sooner
+pub largest-splits : (f : ℕ → Bool) → ((i j : ℕ) → i ≤ j → T (f j) → T (f i)) → (n none m : ℕ) → m < n → T (f m)
+    → (i : ℕ) → i < n → f i ≡ leb i (largest f n none)
+largest-splits f falls n none m h p i l = go (decLe i (largest f n none)) (f i) refl
   where
-    go : Dec (largest f n none ≤ i) → T (f (largest f n none)) × (largest f n none < n) × (i ≤ largest f n none) → largest f n none ≤ i
-    go (yes k) r = k
-    go (no k) r = absurd (last (omega (arith, r .1)) (falls (suc i) (largest f n none) (omega arith) (r .0)))
+    go : Dec (i ≤ largest f n none) → (b : Bool) → f i ≡ b → f i ≡ leb i (largest f n none)
+    go (yes k) true e = e ∙ sym (le-leb i (largest f n none) k)
+    go (yes k) false e = absurd (subst T e (falls i (largest f n none) k (largest-found f n none m h p .0)))
+    go (no k) true e = absurd (past-largest f n none i (omega arith) l (subst T (sym e) tt))
+    go (no k) false e = e ∙ sym (lt-leb i (largest f n none) (omega arith))
 
-pub smallest-is : (f : ℕ → Bool) → ((i j : ℕ) → i ≤ j → T (f i) → T (f j)) → (n none i : ℕ) → i < n → T (f i) → ((j : ℕ) → suc j ≡ i → T (f j) → ⊥) → smallest f 0 n none ≡ i
-smallest-is f rises n none i h p first =
-    let r = smallest-found f 0 n none i (omega arith) (omega arith) p in
-    le-antisymm (r .1) (go i first (decLe i (smallest f 0 n none)) r)
+pub smallest-splits : (f : ℕ → Bool) → ((i j : ℕ) → i ≤ j → T (f i) → T (f j)) → (n none m : ℕ) → m < n → T (f m)
+    → (i : ℕ) → i < n → f i ≡ leb (smallest f 0 n none) i
+smallest-splits f rises n none m h p i l = go (decLe (smallest f 0 n none) i) (f i) refl
   where
-    go : (i : ℕ) → ((j : ℕ) → suc j ≡ i → T (f j) → ⊥) → Dec (i ≤ smallest f 0 n none) → T (f (smallest f 0 n none)) × (smallest f 0 n none ≤ i) → i ≤ smallest f 0 n none
-    go i first (yes k) r = k
-    go zero first (no k) r = omega arith
-    go (suc j) first (no k) r = absurd (first j (omega arith) (rises (smallest f 0 n none) j (omega arith) (r .0)))
+    go : Dec (smallest f 0 n none ≤ i) → (b : Bool) → f i ≡ b → f i ≡ leb (smallest f 0 n none) i
+    go (yes k) true e = e ∙ sym (le-leb (smallest f 0 n none) i k)
+    go (yes k) false e = absurd (subst T e (rises (smallest f 0 n none) i k (smallest-found f 0 n none m (omega arith) (omega arith) p .0)))
+    go (no k) true e = absurd (before-smallest f n none i (omega arith) l (subst T (sym e) tt))
+    go (no k) false e = e ∙ sym (lt-leb (smallest f 0 n none) i (omega arith))

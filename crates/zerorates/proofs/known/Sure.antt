@@ -5,7 +5,7 @@ use Rattle.arith.specs.Rounding.{low, high}
 use Rattle.model.specs.declared.figures.Bracket.{Bracket}
 use Rattle.theory.proofs.curve.RateTests.{tested-anti}
 use Rattle.ratetests.specs.inner.Results.{Results}
-use Rattle.zerorates.specs.inner.Halving.{AboveUntil, BelowFrom}
+use Rattle.zerorates.specs.inner.Known.{AboveUntil, BelowFrom}
 
 module _ {bounds : Bracket} {t i : ℕ} (factor : ℕ) (k : Results bounds t i) where
   pub above-until : factor < bounds .lower → AboveUntil t factor (i + 1)

@@ -1,15 +1,15 @@
--- What the functions of `zerorates` ask of their numbers, so that nothing on the way passes 64 bits and every search ends at a step.
+-- What the functions of `zerorates` ask of their numbers, so that nothing on the way passes 64 bits and every rate is a step.
 use Prim.Native.Nat.{ℕ, _+_, _*_, _/_, _^_, _≤_, _<_}
 use mathlib.Core.List.{List}
 use Rattle.arith.specs.Rounding.{low, high}
 use Rattle.model.specs.Buffers.{entryOf}
 use Rattle.model.specs.Rounded.{tested}
-use Rattle.zerorates.specs.declared.known.Interval.{Interval}
+use Rattle.model.specs.declared.steps.StepsLeft.{StepsLeft}
 
--- of the steps that a search has not decided
-pub record IntervalWithin (p : Interval) : Type 0 where
-  pub order : p .lo ≤ p .hi
-  pub most : p .hi ≤ 22001
+-- of the steps that are left in a search
+pub record LeftWithin (p : StepsLeft) : Type 0 where
+  pub order : p .first ≤ p .last
+  pub most : p .last ≤ 22000
 
 -- of a guess of the rate of term t + 1: a divisor that is not 0, and what its products are at most
 pub record GuessWithin (t step before factor : ℕ) : Type 0 where
@@ -20,16 +20,7 @@ pub record GuessWithin (t step before factor : ℕ) : Type 0 where
   pub term : t < 120
   pub last : step ≤ 22000
 
--- of a search: the first step passes the lower test, or the last one the upper test
-pub record LowerWithin (t factor : ℕ) : Type 0 where
-  pub term : t ≤ 120
-  pub passes : factor ≤ tested low t 0
-
-pub record UpperWithin (t factor : ℕ) : Type 0 where
-  pub term : t ≤ 120
-  pub passes : tested high t 22000 ≤ factor
-
--- of the factors of the terms 1 to 120
+-- of the factors of the terms 1 to 120: the first step passes the lower test, and the last one the upper test
 pub record RatesWithin (factors : List ℕ) : Type 0 where
-  pub lower : (t : ℕ) → 1 ≤ t → t ≤ 120 → LowerWithin t (entryOf factors high t)
-  pub upper : (t : ℕ) → 1 ≤ t → t ≤ 120 → UpperWithin t (entryOf factors low t)
+  pub lower : (t : ℕ) → 1 ≤ t → t ≤ 120 → entryOf factors high t ≤ tested low t 0
+  pub upper : (t : ℕ) → 1 ≤ t → t ≤ 120 → tested high t 22000 ≤ entryOf factors low t

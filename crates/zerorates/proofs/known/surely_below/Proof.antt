@@ -12,11 +12,11 @@ returns c =
     let bounds = c .before .before .before .before .before .before .result-bounds .ensures in
     (below-from _ bounds (c .before .before .before .if1 .taken), below-from _ bounds (c .if2 .taken))
 
+add-result : tie.Need-add-result
+add-result c = search needs
+
 returns-2 : tie.Need-returns-2
 returns-2 c = search needs
 
-returns-3 : tie.Need-returns-3
-returns-3 c = search needs
-
 pub surely-below-spec : {M : Type 1} → statement M
-surely-below-spec = tie.close (tie.spec result-bounds-requires returns returns-2 returns-3)
+surely-below-spec = tie.close (tie.spec result-bounds-requires returns add-result returns-2)

@@ -8,7 +8,8 @@ use Rattle.model.specs.Buffers.{byTerm, entryOf}
 use Rattle.model.specs.Rounded.{rateOf}
 use Rattle.theory.proofs.general.Lists.{all-filled}
 use Rattle.theory.proofs.general.Entries.{term-filled}
-use Rattle.zerorates.proofs.rates.Rated.{lower-within, upper-within, guess-within, factor-most, lower-rate, upper-rate}
+use Rattle.zerorates.proofs.rates.Rated.{guess-within, factor-most, lower-rate, upper-rate}
+use Rattle.zerorates.proofs.Left.{first-most}
 use Rattle.zerorates.proofs.rates.zero_rates.Statement.{statement}
 use Rattle.zerorates.proofs.rates.zero_rates.Tie as tie
 
@@ -23,26 +24,26 @@ loop-holds : tie.Need-loop-holds Inv-loop μ-loop
 unfolding byTerm
 loop-holds c = (omega arith, refl, refl, omega arith, omega arith)
 
-mul-t12 : tie.Need-mul-t12 Inv-loop μ-loop
-mul-t12 c = omega arith
-
 mul-t13 : tie.Need-mul-t13 Inv-loop μ-loop
 mul-t13 c = omega arith
 
-array-read-t16 : tie.Need-array-read-t16 Inv-loop μ-loop
-array-read-t16 c = omega arith
+mul-t14 : tie.Need-mul-t14 Inv-loop μ-loop
+mul-t14 c = omega arith
 
-mul-t17 : tie.Need-mul-t17 Inv-loop μ-loop
-mul-t17 c = omega arith
+array-read-t17 : tie.Need-array-read-t17 Inv-loop μ-loop
+array-read-t17 c = omega arith
 
-add-t18 : tie.Need-add-t18 Inv-loop μ-loop
-add-t18 c = omega arith
+mul-t18 : tie.Need-mul-t18 Inv-loop μ-loop
+mul-t18 c = omega arith
 
-mul-t19 : tie.Need-mul-t19 Inv-loop μ-loop
-mul-t19 c = omega arith
+add-t19 : tie.Need-add-t19 Inv-loop μ-loop
+add-t19 c = omega arith
 
-array-read-t22 : tie.Need-array-read-t22 Inv-loop μ-loop
-array-read-t22 c = omega arith
+mul-t20 : tie.Need-mul-t20 Inv-loop μ-loop
+mul-t20 c = omega arith
+
+array-read-t23 : tie.Need-array-read-t23 Inv-loop μ-loop
+array-read-t23 c = omega arith
 
 guess-rate-requires : tie.Need-guess-rate-requires Inv-loop μ-loop
 guess-rate-requires c κs =
@@ -55,20 +56,20 @@ add-known-near c = omega arith
 known-near-requires : tie.Need-known-near-requires Inv-loop μ-loop
 known-near-requires c κs = (omega arith, c .guess-rate .ensures)
 
-add-search-lower-rate : tie.Need-add-search-lower-rate Inv-loop μ-loop
-add-search-lower-rate c = omega arith
+add-steps-left : tie.Need-add-steps-left Inv-loop μ-loop
+add-steps-left c = omega arith
 
-search-lower-rate-requires : tie.Need-search-lower-rate-requires Inv-loop μ-loop
-search-lower-rate-requires c κs = (lower-within _ _ (c .before .before .before .before .pre) (omega arith), c .known-near .ensures .1)
+steps-left-requires : tie.Need-steps-left-requires Inv-loop μ-loop
+steps-left-requires c κs = (omega arith, c .known-near .ensures .1)
 
-add-search-upper-rate : tie.Need-add-search-upper-rate Inv-loop μ-loop
-add-search-upper-rate c = omega arith
+add-steps-left-2 : tie.Need-add-steps-left-2 Inv-loop μ-loop
+add-steps-left-2 c = omega arith
 
-search-upper-rate-requires : tie.Need-search-upper-rate-requires Inv-loop μ-loop
-search-upper-rate-requires c κs = (upper-within _ _ (c .before .before .before .before .before .pre) (omega arith), c .before .known-near .ensures .0)
+steps-left-requires-2 : tie.Need-steps-left-requires-2 Inv-loop μ-loop
+steps-left-requires-2 c κs = (omega arith, c .before .known-near .ensures .0)
 
 rate-at-requires : tie.Need-rate-at-requires Inv-loop μ-loop
-rate-at-requires c κs = c .before .search-lower-rate .ensures .1
+rate-at-requires c κs = first-most _ _ _ (c .before .steps-left .ensures)
 
 mul-out : tie.Need-mul-out Inv-loop μ-loop
 mul-out c = omega arith
@@ -80,7 +81,7 @@ array-set-from-out : tie.Need-array-set-from-out Inv-loop μ-loop
 array-set-from-out c = omega arith
 
 rate-at-requires-2 : tie.Need-rate-at-requires-2 Inv-loop μ-loop
-rate-at-requires-2 c κs = c .before .search-upper-rate .ensures .1
+rate-at-requires-2 c κs = first-most _ _ _ (c .before .steps-left2 .ensures)
 
 mul-out-3 : tie.Need-mul-out-3 Inv-loop μ-loop
 mul-out-3 c = omega arith
@@ -103,16 +104,17 @@ loop-less c = omega arith
 loop-again : tie.Need-loop-again Inv-loop μ-loop
 loop-again c =
     let inv = c .before .before .before .before .before .before .before .loop .inv in
-    let lower = c .before .before .before .search-lower-rate .ensures in
-    let upper = c .before .before .search-upper-rate .ensures in (
+    let pre = c .before .before .before .before .before .before .before .before .pre in
+    let lower = c .before .before .before .steps-left .ensures in
+    let upper = c .before .before .steps-left2 .ensures in (
       omega arith,
       simp length-set (inv .1),
       term-filled _ _ _ _ _ _ (omega arith)
-          (lower-rate _ _ _ _ (c .before .rate-at .ensures) (lower .1) (lower .0))
-          (upper-rate _ _ _ _ (c .rate-at2 .ensures) (upper .1) (upper .0))
+          (lower-rate _ _ pre (omega arith) _ _ (c .before .rate-at .ensures) lower)
+          (upper-rate _ _ pre (omega arith) _ _ (c .rate-at2 .ensures) upper)
           (inv .2),
-      lower .1,
-      factor-most _ _ (c .before .before .before .before .before .before .before .before .pre) (omega arith),
+      first-most _ _ _ lower,
+      factor-most _ _ pre (omega arith),
     )
 
 returns : tie.Need-returns Inv-loop μ-loop
@@ -128,20 +130,20 @@ zero-rates-spec =
     Inv-loop
     μ-loop
     loop-holds
-    mul-t12
     mul-t13
-    array-read-t16
-    mul-t17
-    add-t18
-    mul-t19
-    array-read-t22
+    mul-t14
+    array-read-t17
+    mul-t18
+    add-t19
+    mul-t20
+    array-read-t23
     guess-rate-requires
     add-known-near
     known-near-requires
-    add-search-lower-rate
-    search-lower-rate-requires
-    add-search-upper-rate
-    search-upper-rate-requires
+    add-steps-left
+    steps-left-requires
+    add-steps-left-2
+    steps-left-requires-2
     rate-at-requires
     mul-out
     mul-out-2

@@ -2,7 +2,7 @@
 use mathlib.Core.Path.{sym}
 use native.Mathlib.Omega.{arith}
 use borrow.Author.Needs.{needs}
-use Rattle.ratetests.proofs.Tested.{surely-reaches, surely-not}
+use Rattle.ratetests.proofs.Tested.{results-above, results-below}
 use Rattle.zerorates.proofs.search.test_step.Statement.{statement}
 use Rattle.zerorates.proofs.search.test_step.Tie as tie
 
@@ -10,19 +10,19 @@ returns : tie.Need-returns
 returns c =
     let start = c .before .before in
     let a = start .args in
-    sym (surely-reaches (a .up) (a .t) (a .factor) (a .i) (start .pre .1 .above _ (c .if1 .taken)))
+    sym (results-above (a .up) (a .t) (a .factor) (a .i) (start .pre .1 .above _ (c .if1 .taken)))
 
 returns-2 : tie.Need-returns-2
 returns-2 c =
     let start = c .before .before .before .before in
     let a = start .args in
-    sym (surely-not (a .up) (a .t) (a .factor) (a .i) (start .pre .1 .below _ (c .if2 .taken) (omega (arith, start .pre .0 .step))))
+    sym (results-below (a .up) (a .t) (a .factor) (a .i) (start .pre .1 .below _ (c .if2 .taken) (omega (arith, start .pre .0 .step))))
 
-reaches-requires : tie.Need-reaches-requires
-reaches-requires c κs = search needs
+passes-requires : tie.Need-passes-requires
+passes-requires c κs = search needs
 
 returns-3 : tie.Need-returns-3
 returns-3 c = search needs
 
 pub test-step-spec : {M : Type 1} → statement M
-test-step-spec = tie.close (tie.spec returns returns-2 reaches-requires returns-3)
+test-step-spec = tie.close (tie.spec returns returns-2 passes-requires returns-3)

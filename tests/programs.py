@@ -1,7 +1,8 @@
-"""The program `answers`, which takes many files at once, and what the reference says that it writes of each.
+"""The programs `answers` and `searches`, which take many files at once, and what the reference says they write of each.
 
-Its input (crates/batch): the files one after the other, each behind its length in four bytes. Of each file it writes three
-answers: the reading, the listing, and both lent buffers.
+Their input (crates/batch): the files one after the other, each behind its length in four bytes. Of each file `answers`
+writes three answers: the reading, the listing, and both lent buffers. `searches` writes of each search for a zero rate
+the steps left after each test, a search a line, or the refusal.
 """
 
 import os
@@ -11,7 +12,7 @@ import sys
 from typing import NamedTuple
 
 import reference
-from reference import STEPS, Refusal
+from reference import ENDS, STEPS, TESTS, Refusal, StepsLeft
 
 ROOT = os.path.join(os.path.dirname(os.path.abspath(__file__)), "..")
 
@@ -23,7 +24,7 @@ def asked(word):
     return len(sys.argv) == 2
 
 
-# ---------------------------------------------------------------- what the program writes
+# ---------------------------------------------------------------- what the programs write
 
 class Answers(NamedTuple):
     """The three answers of one file, as the program writes them; None stands for one that is not compared."""
@@ -32,7 +33,18 @@ class Answers(NamedTuple):
     buffers: bytes | None = None
 
 
+class Search(NamedTuple):
+    """The search for one of the two rates of a term, as `searches` writes it."""
+    end: int
+    term: int
+    left: list  # the StepsLeft after 0, 1, .. 15 tests
+
+
 WRITTEN = re.compile(rb"([RC] .*\n)" rb"(R \d+\n|(?:[LBAS]\d? \d+ \d+\n)+V [A-Z ]+\n)" rb"(F .*\nZ .*\n)")
+NUMBER = "(?:0|[1-9][0-9]*)"
+SEARCH = f"{NUMBER}(?: {NUMBER}){{{2 * (TESTS + 1)}}}\n"  # the term, then first and last after each test
+SEARCHED = re.compile(f"R {NUMBER}\n|(?:L {SEARCH}U {SEARCH}){{120}}".encode())
+LETTERS = "LU"  # by the end
 
 
 def program(name):
@@ -56,13 +68,52 @@ def unframed(text):
     return files
 
 
-def answers(files):
-    """The program's answers of each file, all of one run."""
-    text = subprocess.run([program("answers")], input=framed(files), capture_output=True, check=True).stdout
-    found = [Answers(*match.groups()) for match in WRITTEN.finditer(text)]
-    if sum(len(part) for answer in found for part in answer) != len(text) or len(found) != len(files):
-        raise SystemExit(f"the program answered {len(found)} of {len(files)} files, or wrote something else")
+def output(name, files):
+    """What a program writes of these files, all of one run."""
+    return subprocess.run([program(name)], input=framed(files), capture_output=True, check=True).stdout
+
+
+def cut(pattern, text, count):
+    """The text of each of so many files; all of it must be theirs."""
+    found = list(pattern.finditer(text))
+    if sum(len(match.group()) for match in found) != len(text) or len(found) != count:
+        raise SystemExit(f"the program answered {len(found)} of {count} files, or wrote something else")
     return found
+
+
+def answers_in(text, count):
+    return [Answers(*match.groups()) for match in cut(WRITTEN, text, count)]
+
+
+def answers(files):
+    """The answers of each file."""
+    return answers_in(output("answers", files), len(files))
+
+
+def search_in(line):
+    letter, term, *numbers = line.split()
+    steps = [int(number) for number in numbers]
+    return Search(LETTERS.index(letter), int(term), [StepsLeft(*pair) for pair in zip(steps[::2], steps[1::2])])
+
+
+def file_searches(text):
+    """The searches in what is written of one file, or its refusal."""
+    lines = text.decode().splitlines()
+    if lines[0].startswith("R"):
+        return Refusal(int(lines[0].split()[1]))
+    found = [search_in(line) for line in lines]
+    if [search.term for search in found] != [t for t in range(1, 121) for _ in ENDS]:
+        raise SystemExit("the searches of a file are not those of the terms 1 to 120")
+    return found
+
+
+def searches_in(text, count):
+    return [file_searches(match.group()) for match in cut(SEARCHED, text, count)]
+
+
+def searches(files):
+    """Of each file its 240 searches in the order in which they are written, or its refusal."""
+    return searches_in(output("searches", files), len(files))
 
 
 def compared(found, expected):
@@ -124,6 +175,22 @@ UNTOUCHED = buffers(b"")
 def refused(number):
     """All that is written of a refused file: its number, no part that holds rates, and buffers that keep their content."""
     return Answers(row(["R", number, 0, 0, 0]), row(["R", number]), UNTOUCHED)
+
+
+def expected_searches(data):
+    """What `searches` is to find of a file."""
+    case = reference.read(data)
+    if isinstance(case, Refusal):
+        return case
+    factors = reference.rounded_factors(case)
+    return [Search(end, t, reference.steps_left(factors[t], t, end)) for t in range(1, 121) for end in ENDS]
+
+
+def written_searches(answer):
+    """The text that `searches` is to write of it."""
+    if isinstance(answer, Refusal):
+        return row(["R", answer.number])
+    return b"".join(row([LETTERS[end], t, *(step for pair in left for step in pair)]) for end, t, left in answer)
 
 
 # ---------------------------------------------------------------- files in the tree that a script writes

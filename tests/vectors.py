@@ -1,6 +1,6 @@
-"""Writes the input and the expected output of the program answers, both from the reference alone.
+"""Writes the input and the expected output of the programs answers and searches, all from the reference alone.
 
-Command line: python3 tests/vectors.py           writes crates/answers/stdin and crates/answers/stdout
+Command line: python3 tests/vectors.py           writes stdin and stdout of crates/answers and of crates/searches
               python3 tests/vectors.py --check   ends with 1 if one of them is another
 """
 
@@ -44,13 +44,33 @@ def vector_files():
     return worked() + [files.file_of(rng, case) for case in cases] + damaged + list(files.long_files(rng))[:3]
 
 
-def wanted():
-    """Every file that this script writes, by its path."""
+def search_files():
+    """Curves: one whose zero rates are a whole step at every term, a bent, a rising and a steep one, the lowest and the
+    highest. Among them files that are refused."""
+    steep = replace(examples.up(), days=[files.zigzag(20, True)])
+    cases = [c1(days=flat(4_200)), examples.bent(), examples.long(), steep, *files.ends()]
+    accepted = [encode(case, True, bool(case.bonds), True) for case in cases]
+    return [accepted[0], b"", *accepted[1:4], files.all_fields() + b"\0", *accepted[4:]]
+
+
+def answer_vectors():
     stored = vector_files()
     answers = [programs.expected(data) for data in stored]
     assert {programs.outcome(answer.listing) for answer in answers} == set(programs.OUTCOMES)
     return {"crates/answers/stdin": programs.framed(stored),
             "crates/answers/stdout": b"".join(part for answer in answers for part in answer)}
+
+
+def search_vectors():
+    stored = search_files()
+    found = [programs.expected_searches(data) for data in stored]
+    return {"crates/searches/stdin": programs.framed(stored),
+            "crates/searches/stdout": b"".join(map(programs.written_searches, found))}
+
+
+def wanted():
+    """Every file that this script writes, by its path."""
+    return answer_vectors() | search_vectors()
 
 
 if __name__ == "__main__":

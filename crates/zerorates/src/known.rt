@@ -9,8 +9,8 @@ use model::figures::Bracket;
 use ratetests::FIRST_DIVISOR;
 use ratetests::result_bounds;
 
-// The steps that are not decided, from lo on and below hi: the results of all steps below lo reach the factor, and no result of a step
-// from hi on does.
+// The steps whose tests are not known, from lo on and below hi: the results of all steps below lo are above the factor, and those of all
+// steps from hi on are below it.
 pub struct Interval {
     pub lo: u64,
     pub hi: u64,

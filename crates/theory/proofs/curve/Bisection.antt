@@ -4,7 +4,7 @@
 -- Assumes nothing.
 use Prim.Native.Nat.{ℕ, zero, suc, _+_, _-_, _*_, _^_, _≤_, _<_}
 use mathlib.Core.Path.{_≡_, refl, sym, _∙_, ap}
-use mathlib.Core.Bool.{Bool, true, false, _&&_, cond}
+use mathlib.Core.Bool.{Bool, true, false, cond}
 use native.Mathlib.Omega.{arith}
 use native.Mathlib.Nat.{le-trans, mul-le-mul-left, pow-suc}
 use native.Mathlib.Decide.{decLe}
@@ -14,7 +14,7 @@ use Rattle.arith.specs.Rounding.{End, low, high}
 use Rattle.arith.proofs.Rounding.{divide-ceiling}
 use Rattle.model.specs.Rounded.{stepAt, tested, lowerTest, upperTest, rateOf}
 use Rattle.model.specs.Brackets.{largest, smallest}
-use Rattle.model.specs.Bisection.{middle, leaves, halved, afterTests, rateTest, stepsLeft, isLeft, howMany, countLeft, mostLeft, RateLeft, ShortSearch}
+use Rattle.model.specs.Bisection.{middle, leaves, halved, afterTests, rateTest, stepsLeft, isLeft, howMany, countLeft, mostLeft, ShortSearch}
 use Rattle.model.specs.declared.steps.StepsLeft.{StepsLeft}
 use Rattle.theory.proofs.general.Powers.{pow-pos}
 use Rattle.theory.proofs.general.Search.{largest-found, smallest-found, largest-splits, smallest-splits}

@@ -1,5 +1,4 @@
 -- `zerorates::search::middle_step` meets its contract. Assumes nothing.
-use mathlib.Core.Path.{refl}
 use borrow.Author.Needs.{needs}
 use Rattle.zerorates.proofs.search.middle_step.Statement.{statement}
 use Rattle.zerorates.proofs.search.middle_step.Tie as tie

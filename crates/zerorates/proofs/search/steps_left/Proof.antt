@@ -1,9 +1,9 @@
 -- `zerorates::search::steps_left` meets its contract. Each turn is one test. Assumes nothing.
-use Prim.Native.Nat.{suc, _-_, _≤_}
-use mathlib.Core.Path.{_≡_, refl, sym, _∙_, ap}
+use Prim.Native.Nat.{_-_, _≤_}
+use mathlib.Core.Path.{_≡_, refl, _∙_, ap}
 use native.Mathlib.Omega.{arith}
 use native.Mathlib.Numerals.{add-one}
-use Rattle.model.specs.Bisection.{halved, afterTests}
+use Rattle.model.specs.Bisection.{afterTests}
 use Rattle.ratetests.specs.inner.Results.{endBy, passed}
 use Rattle.zerorates.proofs.Left.{left-within}
 use Rattle.zerorates.proofs.search.steps_left.Statement.{statement}

@@ -3,4 +3,6 @@ pub mod factor;
 pub mod growth;
 pub mod shift;
 pub mod times;
+pub mod unadjusted;
 pub mod weights;
+pub mod years;

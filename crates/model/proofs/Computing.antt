@@ -39,8 +39,8 @@ unfolding
     fileMap fileOf caseOf daysAt dayCount firstOf forwardsRight checks refusal ratesPart
     daysOf shortest caseChecks caseRefusal saveRefusal saveAnswer savedAfter
     movedSum curve P
-    weights weight Exact.G Exact.weighed Exact.growth Exact.product Exact.factor Exact.worth Exact.judge
-    Rounded.scaled Rounded.growth Rounded.weighed Rounded.factor largest smallest Rounded.rateOf Rounded.worth Rounded.judge
+    weights weight Exact.G Exact.weighed Exact.growth Exact.productOf Exact.factor Exact.unadjusted Exact.worth Exact.judge
+    Rounded.scaled Rounded.growth Rounded.weighed Rounded.unadjusted Rounded.factor largest smallest Rounded.rateOf Rounded.worth Rounded.judge
     divide root rootOfDigits size
     afterTests howMany
     weightedSum valuationRefusal byTerm factorEntries rateEntries factorsAfter ratesAfter valuationOf windowPoint

@@ -30,14 +30,23 @@ weighed c t = ((1000 - weight t) // 1000) *ᶠ G c t +ᶠ (weight t // 1000) *�
 unfoldable pub growth : Curve → ℕ → Fraction
 growth c t = cond (leb t lastUnweighedTerm) (G c t) (cond (leb t lastMarketTerm) (weighed c t) (onePlusUfr c))
 
--- "the product of growths 1 to t". The zero rate is "the number above -1 whose (1 + rate)^t is that product".
-unfoldable pub product : Curve → ℕ → Fraction
-product c zero = whole 1
-product c (suc t) = product c t *ᶠ growth c (suc t)
+-- "the product of growths 1 to t", of any growths
+unfoldable pub productOf : (ℕ → Fraction) → ℕ → Fraction
+productOf growth zero = whole 1
+productOf growth (suc t) = productOf growth t *ᶠ growth (suc t)
+
+-- of the adjusted growths. The zero rate is "the number above -1 whose (1 + rate)^t is that product".
+abbrev pub product : Curve → ℕ → Fraction
+product c = productOf (growth c)
 
 -- "Factor: one over the product of growths 1 to t."
 unfoldable pub factor : Curve → ℕ → Fraction
 factor c t = whole 1 ÷ᶠ product c t
+
+-- The factor that bond flows use: "the rule that document 01 gives for factors up to term 20" (document 02, request Four), at every term
+-- to 60. Up to 20 no growth is adjusted, so this is one over the product of the growths G(1) to G(t), and no UFR is in it.
+unfoldable pub unadjusted : Curve → ℕ → Fraction
+unadjusted c t = whole 1 ÷ᶠ productOf (G c) t
 
 -- "flows times factors", by the factors of the terms, the first flow at term t
 unfoldable pub worth : (ℕ → Fraction) → ℕ → List ℕ → Fraction
@@ -47,8 +56,9 @@ worth factors t (euros ∷ flows) = whole (100 * euros) *ᶠ factors t +ᶠ wort
 abbrev pub L : FileCase → Move → Fraction
 L k m = worth (factor (curve k m)) 1 (k .pension)
 
+-- "bond flows at every term use the rule .. up to term 20, on all three curves. The exact B changes with it" (document 02, request Four)
 abbrev pub B : FileCase → Move → Fraction
-B k m = worth (factor (curve k m)) 1 (k .bonds)
+B k m = worth (unadjusted (curve k m)) 1 (k .bonds)
 
 -- "B plus all amounts except currency exposure"
 abbrev pub A : FileCase → Fraction

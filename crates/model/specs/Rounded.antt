@@ -40,12 +40,17 @@ unfoldable pub weighed : Curve → End → ℕ → ℕ
 weighed c e t =
     cond (leb t lastMarketTerm) (divide e ((1000 - weight t) * growth c e t + weight t * ufrGrowth c) 1000) (ufrGrowth c)
 
--- "Factor, t to 20: from 10^12, t times × N ÷ P(t)."; then "new lower factor = old lower × 10^12 ÷ upper growth, and crosswise"
+-- "Factor, t to 20: from 10^12, t times × N ÷ P(t).", for terms to 60: the rule that bond flows use at every term (document 02, request
+-- Four)
+unfoldable pub unadjusted : Curve → End → ℕ → ℕ
+unadjusted c e t = scaled e (c .N) (P c t) t
+
+-- The adjusted factor, by that rule to 20; then "new lower factor = old lower × 10^12 ÷ upper growth, and crosswise"
 unfoldable pub factor : Curve → End → ℕ → ℕ
 factor c e zero = unit
 factor c e (suc t) =
     cond (leb (suc t) lastUnweighedTerm)
-    (scaled e (c .N) (P c (suc t)) (suc t))
+    (unadjusted c e (suc t))
     (divide e (factor c e t * unit) (weighed c (other e) (suc t)))
 
 -- "Zero rate: test steps z from -2,000 to 20,000. Multiply 10^12 t times by 100,000 ÷ (100,000 + z)." The steps are counted from 0:
@@ -162,8 +167,10 @@ verdictOf l b a x p = judge (assets (b base) a) (l base) (bufferOf l b a x p)
 abbrev pub L : FileCase → Move → End → ℕ
 L k m e = worth e (factor (curve k m) e) 1 (k .pension)
 
+-- "bond flows at every term use the rule that document 01 gives for factors up to term 20, on all three curves" (document 02, request
+-- Four)
 abbrev pub B : FileCase → Move → End → ℕ
-B k m e = worth e (factor (curve k m) e) 1 (k .bonds)
+B k m e = worth e (unadjusted (curve k m) e) 1 (k .bonds)
 
 abbrev pub A : FileCase → End → ℕ
 A k = assets (B k base) (k .amounts)

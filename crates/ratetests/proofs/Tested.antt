@@ -14,8 +14,8 @@ use Rattle.model.specs.Rounded.{scaled, tested}
 use Rattle.model.specs.declared.figures.Bracket.{Bracket}
 use Rattle.theory.proofs.general.Lists.{every-le}
 use Rattle.theory.proofs.general.Powers.{pow-pos}
-use Rattle.theory.proofs.curve.Steps.{ends, scaled-in, scaled-ends}
-use Rattle.theory.proofs.curve.RateTests.{tested-small, testWidth, tested-width}
+use Rattle.theory.proofs.curve.Steps.{ends, scaled-in, scaled-ends, widthAfter}
+use Rattle.theory.proofs.curve.RateTests.{tested-small, tested-width}
 use Rattle.ratetests.specs.inner.Powers.{Encloses, powerMost}
 use Rattle.ratetests.specs.inner.Ranges.{StepWithin}
 use Rattle.ratetests.specs.inner.Results.{passed}
@@ -37,9 +37,9 @@ pub test-all : (e : End) (x k t i : ℕ) → x ≡ tested e k i → k ≤ t → 
 test-all e x k t i q h l = let p : k ≡ t = omega arith in rw p at q
 
 -- the two results are at most 1,000 apart: computed of each term
-near : (t : ℕ) → t < 121 → testWidth t ≤ 1000
-unfolding every testWidth divide
-near t = every-le testWidth (λ _. 1000) 121 t refl
+near : (t : ℕ) → t < 121 → widthAfter t ≤ 1000
+unfolding every widthAfter divide
+near t = every-le widthAfter (λ _. 1000) 121 t refl
 
 -- ---- the unrounded result is between the two, so its bounds are at most 1,000 from bounds of both
 module _ {x : Bracket} {t i : ℕ} (w : StepWithin t i) (p : Encloses x t i (powerMost t)) (n : ℕ) where

@@ -5,6 +5,7 @@ pub mod Steps
 pub mod CaseCurves
 pub mod Changed
 pub mod Growth
+pub mod Unadjusted
 pub mod Factor
 pub mod Agree
 pub mod Width

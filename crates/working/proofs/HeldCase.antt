@@ -16,13 +16,14 @@ use Rattle.model.specs.Buffers.{byTerm, factorEntries, rateEntries}
 use Rattle.model.specs.Rounded as Rounded
 use Rattle.model.specs.Rounded.{rateOf}
 use Rattle.theory.proofs.general.Lists.{length-table, getD-table}
+use Rattle.theory.proofs.curve.Agree.{same-unadjusted}
+use Rattle.theory.proofs.money.Worth.{same-worth}
 use Rattle.curve.specs.inner.Shifted.{curveHeld}
-use Rattle.working.proofs.HeldCurves.{held-per-step-most, held-curve-within, held-base-within, held-factor}
+use Rattle.working.proofs.HeldCurves.{held-per-step-most, held-agree, held-curve-within, held-base-within, held-factor}
 use Rattle.solvency.specs.inner.ByWorths.{moneyBy}
 use Rattle.worth.specs.inner.Ranges.{FlowsFit}
-use Rattle.solvency.specs.declared.figures.Money.{Money}
 use Rattle.working.specs.inner.Ranges.{CaseFits}
-use Rattle.working.specs.inner.Working.{factorsOn, ratesOn, moneyOf}
+use Rattle.working.specs.inner.Working.{factorsOn, ratesOn, owed, bonds, moneyOf}
 
 -- the flows of a padded list
 take-padded : (n : ℕ) (xs : List ℕ) → length xs ≤ n → take (length xs) (padded n xs) ≡ xs
@@ -48,6 +49,7 @@ module _ (k : FileCase) (w : WithinLimits k) where
     base = held-base-within k w;
     pension = flows-fit 120 (k .pension) (w .mostPension) (omega arith) (w .pension);
     bonds = flows-fit 60 (k .bonds) (w .mostBonds) (omega arith) (w .bonds);
+    bondTerms = w .mostBonds;
     amounts = w .amounts;
     shocks = w .shocks;
     people = w .people;
@@ -61,19 +63,27 @@ module _ (k : FileCase) (w : WithinLimits k) where
   unfolding held
   held-bonds = take-padded 60 (k .bonds) (w .mostBonds)
 
-  factors : _≡_ {A = Move → End → ℕ → ℕ} (λ m. Rounded.factor (curveHeld (held k) m)) (λ m. Rounded.factor (curve k m))
-  factors = fun-ext (λ m. held-factor k w m)
+  owed-is : _≡_ {A = Move → End → ℕ} (owed (λ m. Rounded.factor (curveHeld (held k) m)) (held k)) (Rounded.L k)
+  owed-is =
+      ap (λ (f : Move → End → ℕ → ℕ). (λ (m : Move) (e : End). Rounded.worth e (f m e) 1 (take (held k .«pension_count») (held k .pension))))
+      (fun-ext (λ m. held-factor k w m))
+      ∙ ap (λ (flows : List ℕ). (λ (m : Move) (e : End). Rounded.worth e (Rounded.factor (curve k m) e) 1 flows)) held-pension
 
-  abbrev parts : (Move → End → ℕ → ℕ) → List ℕ → List ℕ → Money
-  parts f pension bonds =
-      moneyBy (λ m e. Rounded.worth e (f m e) 1 pension) (λ m e. Rounded.worth e (f m e) 1 bonds) (k .amounts) (k .shocks) (k .people)
+  bonds-at : (m : Move) (e : End) → Rounded.worth e (Rounded.unadjusted (curveHeld (held k) m) e) 1 (k .bonds) ≡ Rounded.B k m e
+  bonds-at m e =
+      same-worth 60 e (Rounded.unadjusted (curveHeld (held k) m) e) (Rounded.unadjusted (curve k m) e)
+      (λ t i l. same-unadjusted (curveHeld (held k) m) (curve k m) (held-agree k w m) e t l) 1 (k .bonds) (omega arith) (omega (arith, w .mostBonds))
+
+  bonds-are : _≡_ {A = Move → End → ℕ} (bonds (λ m. Rounded.unadjusted (curveHeld (held k) m)) (held k)) (Rounded.B k)
+  bonds-are =
+      ap (λ (flows : List ℕ). (λ (m : Move) (e : End). Rounded.worth e (Rounded.unadjusted (curveHeld (held k) m) e) 1 flows)) held-bonds
+      ∙ fun-ext (λ m. fun-ext (λ e. bonds-at m e))
 
   pub held-money : moneyOf (held k) ≡ record { figures = Rounded.figures k; verdict = Rounded.verdict k }
   unfolding held
   held-money =
-      ap (λ (f : Move → End → ℕ → ℕ). parts f (take (held k .«pension_count») (held k .pension)) (take (held k .«bond_count») (held k .bonds))) factors
-      ∙ ap (λ (x : List ℕ). parts (λ m. Rounded.factor (curve k m)) x (take (held k .«bond_count») (held k .bonds))) held-pension
-      ∙ ap (λ (x : List ℕ). parts (λ m. Rounded.factor (curve k m)) (k .pension) x) held-bonds
+      ap (λ (l : Move → End → ℕ). moneyBy l (bonds (λ m. Rounded.unadjusted (curveHeld (held k) m)) (held k)) (k .amounts) (k .shocks) (k .people)) owed-is
+      ∙ ap (λ (b : Move → End → ℕ). moneyBy (Rounded.L k) b (k .amounts) (k .shocks) (k .people)) bonds-are
 
   pub held-factors : factorsOn (held k) base ≡ factorEntries k
   unfolding factorEntries

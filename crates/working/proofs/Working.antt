@@ -1,24 +1,26 @@
 -- What the code asks of a case that fits, and its figures by entries of factors. Assumes nothing.
-use Prim.Native.Nat.{ℕ, suc, _+_, _*_, _≤_, _<_}
+use Prim.Native.Nat.{ℕ, suc, _*_, _≤_, _<_}
 use mathlib.Core.Path.{_≡_, refl, ap, sym, _∙_, subst, fun-ext}
-use mathlib.Core.List.{List, [], _∷_, _++_}
+use mathlib.Core.List.{List, _++_}
 use native.Mathlib.Omega.{arith}
+use native.Mathlib.Nat.{le-trans}
 use lib.Dec.{lit≤}
 use lib.IntN.{ℤ}
-use lib.ListN.{length, take, getD, drop}
+use lib.ListN.{length, take, getD, drop, length-append}
 use lib.Seq.{length-take-le}
 use Rattle.arith.specs.Rounding.{End, low, high}
-use Rattle.model.specs.Curve.{Curve, Move, base, up, down, P}
+use Rattle.model.specs.Curve.{Move, base, up, down, P}
 use Rattle.model.specs.inner.Shifts.{added, taken}
-use Rattle.model.specs.inner.CurveWithin.{CurveWithin}
 use Rattle.model.specs.Buffers.{byTerm, entryOf}
 use Rattle.model.specs.Rounded as Rounded
 use Rattle.model.specs.Rounded.{worth, rateOf}
 use Rattle.model.specs.declared.case.Case.{Case}
 use Rattle.model.specs.declared.figures.Valuation.the-variants.{Valued}
 use Rattle.theory.proofs.general.Lists.{getD-table}
-use Rattle.theory.proofs.general.Entries.{length-byTerm, entry-is}
+use Rattle.theory.proofs.general.Entries.{length-byTerm, entry-is, entry-in}
+use Rattle.theory.proofs.curve.Unadjusted.{unadjusted-most}
 use Rattle.theory.proofs.money.MoneySizes.{factor-most}
+use Rattle.theory.proofs.money.Worth.{same-worth}
 use Rattle.curve.specs.declared.shift.CurveSums.{CurveSums}
 use Rattle.curve.specs.inner.Shifted.{curveOf, shiftedSum, shiftedSums, movedSums, curveHeld}
 use Rattle.curve.specs.inner.Ranges.{ShiftWithin, FactorsWithin}
@@ -32,7 +34,7 @@ use Rattle.solvency.specs.declared.figures.Money.{Money}
 use Rattle.worth.specs.declared.Worths.{Worths}
 use Rattle.worth.specs.declared.Curves.{Curves}
 use Rattle.working.specs.inner.Ranges.{CaseFits}
-use Rattle.working.specs.inner.Working.{factorsOn, curvesOn, ratesOn, owed, bonds, moneyOn, moneyOf}
+use Rattle.working.specs.inner.Working.{factorsOn, curvesOn, lastUnadjusted, bondFactorsOn, bondCurvesOn, ratesOn, owed, bonds, moneyOn, moneyOf}
 
 -- ---- the curves
 -- the base curve's sums are the case's own
@@ -66,66 +68,98 @@ sums-within {c} m s h e =
 pub factors-are : (c : Case) (m : Move) (s : CurveSums) (r : List ℕ) → s ≡ movedSums m c → r ≡ byTerm (Rounded.factor (curveOf s)) 120 → r ≡ factorsOn c m
 factors-are c m s r e f = f ∙ ap (λ (x : CurveSums). byTerm (Rounded.factor (curveOf x)) 120) e
 
--- entries of factors: 240, and none above 2.2
-entries-fit : (c : Curve) → CurveWithin c → FactorsFit (byTerm (Rounded.factor c) 120)
-entries-fit c w = record {
-  terms = rw (length-byTerm (Rounded.factor c) 120) (lit≤ tt);
-  factor = λ e t h k. rw (entry-is (Rounded.factor c) 120 e t h k) (factor-most c w e t);
-}
+-- what `unadjusted_factors` asks of the adjusted factors, and what it gives
+pub adjusted-by : (c : Case) (m : Move) (s : CurveSums) (r : List ℕ) → s ≡ movedSums m c → r ≡ factorsOn c m → r ≡ byTerm (Rounded.factor (curveOf s)) 120
+adjusted-by c m s r e f = f ∙ ap (λ (x : CurveSums). byTerm (Rounded.factor (curveOf x)) 120) (sym e)
 
-module _ {c : Case} (h : CaseFits c) (s : Curves) (e : s ≡ curvesOn c) where
-  fit : (m : Move) → FactorsFit (factorsOn c m)
-  fit m = entries-fit (curveHeld c m) (h .curves m)
+pub bond-factors-are : (c : Case) (m : Move) (s : CurveSums) (r adjusted : List ℕ) → s ≡ movedSums m c → adjusted ≡ factorsOn c m
+    → r ≡ byTerm (Rounded.unadjusted (curveOf s)) (lastUnadjusted c) ++ drop (2 * lastUnadjusted c) adjusted → r ≡ bondFactorsOn c m
+bond-factors-are c m s r adjusted e a f =
+    f ∙ ap (λ (x : CurveSums). byTerm (Rounded.unadjusted (curveOf x)) (lastUnadjusted c) ++ drop (2 * lastUnadjusted c) adjusted) e
+    ∙ ap (λ (x : List ℕ). byTerm (Rounded.unadjusted (curveHeld c m)) (lastUnadjusted c) ++ drop (2 * lastUnadjusted c) x) a
 
-  pub curves-fit : CurvesFit s
-  curves-fit = subst CurvesFit (sym e) (record { base = fit base; up = fit up; down = fit down })
+-- ---- the entries of three curves: those of f, at the terms to `last`
+abbrev EntriesOf : (Move → End → ℕ → ℕ) → ℕ → Curves → Type 0
+EntriesOf f last s = (m : Move) (e : End) (t : ℕ) → 1 ≤ t → t ≤ last → entryOf (entriesOn s m) e t ≡ f m e t
 
-  pub rates-within : RatesWithin (s .base)
-  rates-within = subst (λ (x : Curves). RatesWithin (x .base)) (sym e) (entries-within (curveHeld c base) (h .base))
+abbrev adjusted : Case → Move → End → ℕ → ℕ
+adjusted c m = Rounded.factor (curveHeld c m)
 
--- ---- the flows: by entries, or by the factors themselves
-worth-same : (e : End) (f g : ℕ → ℕ) (t : ℕ) (xs : List ℕ) → ((i : ℕ) → i < length xs → f (t + i) ≡ g (t + i)) → worth e f t xs ≡ worth e g t xs
-unfolding worth
-worth-same e f g t [] h = refl
-worth-same e f g t (x ∷ xs) h =
-    let z : t + 0 ≡ t = omega arith in
-    let a : f t ≡ g t = rw z at (h 0 (omega arith)) in
-    rw (a, worth-same e f g (suc t) xs (λ i l. let s : t + suc i ≡ suc t + i = omega arith in rw s at (h (suc i) (omega arith))))
+abbrev unadjusted : Case → Move → End → ℕ → ℕ
+unadjusted c m = Rounded.unadjusted (curveHeld c m)
 
-worth-entries : (f : End → ℕ → ℕ) (e : End) (xs : List ℕ) → length xs ≤ 120 → worth e (entryOf (byTerm f 120) e) 1 xs ≡ worth e (f e) 1 xs
-worth-entries f e xs h =
-    worth-same e (entryOf (byTerm f 120) e) (f e) 1 xs (λ i l. entry-is f 120 e (1 + i) (omega arith) (omega arith))
+own-entries : (c : Case) → EntriesOf (adjusted c) 120 (curvesOn c)
+own-entries c base = entry-is (adjusted c base) 120
+own-entries c up = entry-is (adjusted c up) 120
+own-entries c down = entry-is (adjusted c down) 120
 
--- ---- the figures
+bond-entries : (c : Case) → EntriesOf (unadjusted c) (lastUnadjusted c) (bondCurvesOn c)
+bond-entries c base = entry-in (unadjusted c base) (lastUnadjusted c) (drop (2 * lastUnadjusted c) (factorsOn c base))
+bond-entries c up = entry-in (unadjusted c up) (lastUnadjusted c) (drop (2 * lastUnadjusted c) (factorsOn c up))
+bond-entries c down = entry-in (unadjusted c down) (lastUnadjusted c) (drop (2 * lastUnadjusted c) (factorsOn c down))
+
+-- they fit, where none is above 3.4
 module _ {c : Case} (h : CaseFits c) where
-  few : (flows : List ℕ) (count : ℕ) → FlowsFit flows count → length (take count flows) ≤ 120
-  few flows count f = rw (length-take-le count flows (f .there)) (f .few)
+  own-fit : (count : ℕ) → count ≤ 120 → (m : Move) → FactorsFit (factorsOn c m) count
+  own-fit count l m = record {
+    terms = rw (length-byTerm (adjusted c m) 120) (omega arith);
+    factor = λ e t i k. rw (entry-is (adjusted c m) 120 e t i (le-trans k l)) (le-trans (factor-most (curveHeld c m) (h .curves m) e t) (lit≤ tt));
+  }
 
-  flows-by : (xs : List ℕ) → length xs ≤ 120
-      → _≡_ {A = Move → End → ℕ} (λ m e. worth e (entryOf (entriesOn (curvesOn c) m) e) 1 xs) (λ m e. worth e (Rounded.factor (curveHeld c m) e) 1 xs)
-  flows-by xs l = fun-ext (λ m. fun-ext (λ e. at m e))
-    where
-      at : (m : Move) (e : End) → worth e (entryOf (entriesOn (curvesOn c) m) e) 1 xs ≡ worth e (Rounded.factor (curveHeld c m) e) 1 xs
-      at base e = worth-entries (Rounded.factor (curveHeld c base)) e xs l
-      at up e = worth-entries (Rounded.factor (curveHeld c up)) e xs l
-      at down e = worth-entries (Rounded.factor (curveHeld c down)) e xs l
+  bond-fit : (m : Move) → FactorsFit (bondFactorsOn c m) (c .«bond_count»)
+  bond-fit m =
+      let n : ℕ = lastUnadjusted c in
+      let later : List ℕ = drop (2 * n) (factorsOn c m) in record {
+        terms = omega (arith, length-append (byTerm (unadjusted c m) n) later, length-byTerm (unadjusted c m) n);
+        factor = λ e t i k.
+            rw (entry-in (unadjusted c m) n later e t i (omega arith)) (unadjusted-most (curveHeld c m) (h .curves m) e t (le-trans k (h .bondTerms)));
+      }
 
-  own-money : moneyOn (factorsIn (curvesOn c)) c ≡ moneyOf c
+  module _ (s : Curves) (e : s ≡ curvesOn c) where
+    pub curves-fit : CurvesFit s (c .«pension_count»)
+    curves-fit =
+        let fit = own-fit (c .«pension_count») (h .pension .few) in
+        subst (λ (x : Curves). CurvesFit x (c .«pension_count»)) (sym e) (record { base = fit base; up = fit up; down = fit down })
+
+    pub rates-within : RatesWithin (s .base)
+    rates-within = subst (λ (x : Curves). RatesWithin (x .base)) (sym e) (entries-within (curveHeld c base) (h .base))
+
+  pub bond-curves-fit : (b : Curves) → b ≡ bondCurvesOn c → CurvesFit b (c .«bond_count»)
+  bond-curves-fit b e =
+      subst (λ (x : Curves). CurvesFit x (c .«bond_count»)) (sym e) (record { base = bond-fit base; up = bond-fit up; down = bond-fit down })
+
+-- ---- the figures: by entries, or by the factors themselves
+flows-by : (f : Move → End → ℕ → ℕ) (last : ℕ) (s : Curves) → EntriesOf f last s → (flows : List ℕ) → length flows ≤ last
+    → _≡_ {A = Move → End → ℕ} (λ m e. worth e (factorsIn s m e) 1 flows) (λ m e. worth e (f m e) 1 flows)
+flows-by f last s k flows l =
+    fun-ext (λ m. fun-ext (λ e. same-worth last e (factorsIn s m e) (f m e) (k m e) 1 flows (omega arith) (omega arith)))
+
+module _ {c : Case} (h : CaseFits c) where
+  counted : (flows : List ℕ) (count : ℕ) → FlowsFit flows count → length (take count flows) ≡ count
+  counted flows count f = length-take-le count flows (f .there)
+
+  own-money : moneyOn (factorsIn (curvesOn c)) (factorsIn (bondCurvesOn c)) c ≡ moneyOf c
   own-money =
-      ap (λ (l : Move → End → ℕ). moneyBy l (bonds (factorsIn (curvesOn c)) c) (c .amounts) (c .shocks) (c .people))
-      (flows-by (take (c .«pension_count») (c .pension)) (few (c .pension) (c .«pension_count») (h .pension)))
-      ∙ ap (λ (b : Move → End → ℕ). moneyBy (owed (λ m. Rounded.factor (curveHeld c m)) c) b (c .amounts) (c .shocks) (c .people))
-      (flows-by (take (c .«bond_count») (c .bonds)) (few (c .bonds) (c .«bond_count») (h .bonds)))
+      let pension : List ℕ = take (c .«pension_count») (c .pension) in
+      let bond : List ℕ = take (c .«bond_count») (c .bonds) in
+      let some : length pension ≤ 120 = omega (arith, counted (c .pension) (c .«pension_count») (h .pension), h .pension .few) in
+      let few : length bond ≤ lastUnadjusted c = omega (arith, counted (c .bonds) (c .«bond_count») (h .bonds)) in
+      ap (λ (l : Move → End → ℕ). moneyBy l (bonds (factorsIn (bondCurvesOn c)) c) (c .amounts) (c .shocks) (c .people))
+      (flows-by (adjusted c) 120 (curvesOn c) (own-entries c) pension some)
+      ∙ ap (λ (b : Move → End → ℕ). moneyBy (owed (adjusted c) c) b (c .amounts) (c .shocks) (c .people))
+      (flows-by (unadjusted c) (lastUnadjusted c) (bondCurvesOn c) (bond-entries c) bond few)
 
-  module _ (s : Curves) (e : s ≡ curvesOn c) (r : Money) (g : r ≡ moneyOn (factorsIn s) c) where
+  module _ (s b : Curves) (e : s ≡ curvesOn c) (d : b ≡ bondCurvesOn c) (r : Money) (g : r ≡ moneyOn (factorsIn s) (factorsIn b) c) where
     pub money-is : r ≡ moneyOf c
-    money-is = g ∙ ap (λ (x : Curves). moneyOn (factorsIn x) c) e ∙ own-money
+    money-is =
+        g ∙ ap (λ (x : Curves). moneyOn (factorsIn x) (factorsIn b) c) e ∙ ap (λ (x : Curves). moneyOn (factorsIn (curvesOn c)) (factorsIn x) c) d
+        ∙ own-money
 
     -- `value_case`: the answer, and both buffers at the end
-    pub valued : (b f f₀ : List ℕ) (z y y₀ : List ℤ) → b ≡ s .base → z ≡ byTerm (rateOf (entryOf b)) 120 → f ≡ b ++ drop 240 f₀ → y ≡ z ++ drop 240 y₀
+    pub valued : (a f f₀ : List ℕ) (z y y₀ : List ℤ) → a ≡ s .base → z ≡ byTerm (rateOf (entryOf a)) 120 → f ≡ a ++ drop 240 f₀ → y ≡ z ++ drop 240 y₀
         → (Valued (r .figures) (r .verdict) ≡ Valued (moneyOf c .figures) (moneyOf c .verdict)) × ((f ≡ factorsOn c base ++ drop 240 f₀) × (y ≡ ratesOn c ++ drop 240 y₀))
-    valued b f f₀ z y y₀ i j k l =
-        let x : b ≡ factorsOn c base = i ∙ ap (λ (w : Curves). w .base) e in
+    valued a f f₀ z y y₀ i j k l =
+        let x : a ≡ factorsOn c base = i ∙ ap (λ (w : Curves). w .base) e in
         let q : z ≡ ratesOn c = j ∙ ap (λ (w : List ℕ). byTerm (rateOf (entryOf w)) 120) x ∙ rates-of-entries (Rounded.factor (curveHeld c base)) in
         (ap (λ (w : Money). Valued (w .figures) (w .verdict)) money-is, (k ∙ ap (λ (w : List ℕ). w ++ drop 240 f₀) x, l ∙ ap (λ (w : List ℤ). w ++ drop 240 y₀) q))
 
@@ -141,9 +175,8 @@ on-worths f = fun-ext (λ m. fun-ext (λ e. at m e))
     at down low = refl
     at down high = refl
 
-pub money-at : (c : Case) (s : Curves) (l b : Worths) (r : Money) → l ≡ worths (owed (factorsIn s) c) → b ≡ worths (bonds (factorsIn s) c)
-    → r ≡ moneyBy (on l) (on b) (c .amounts) (c .shocks) (c .people) → r ≡ moneyOn (factorsIn s) c
-money-at c s l b r i j e =
-    let f : Move → End → ℕ → ℕ = factorsIn s in
-    e ∙ ap (λ (y : Move → End → ℕ). moneyBy y (on b) (c .amounts) (c .shocks) (c .people)) (ap on i ∙ on-worths (owed f c))
-    ∙ ap (λ (y : Move → End → ℕ). moneyBy (owed f c) y (c .amounts) (c .shocks) (c .people)) (ap on j ∙ on-worths (bonds f c))
+pub money-at : (c : Case) (s t : Curves) (l b : Worths) (r : Money) → l ≡ worths (owed (factorsIn s) c) → b ≡ worths (bonds (factorsIn t) c)
+    → r ≡ moneyBy (on l) (on b) (c .amounts) (c .shocks) (c .people) → r ≡ moneyOn (factorsIn s) (factorsIn t) c
+money-at c s t l b r i j e =
+    e ∙ ap (λ (y : Move → End → ℕ). moneyBy y (on b) (c .amounts) (c .shocks) (c .people)) (ap on i ∙ on-worths (owed (factorsIn s) c))
+    ∙ ap (λ (y : Move → End → ℕ). moneyBy (owed (factorsIn s) c) y (c .amounts) (c .shocks) (c .people)) (ap on j ∙ on-worths (bonds (factorsIn t) c))

@@ -1,4 +1,5 @@
-// The rounded working of a case that the engine holds: the factors of its three curves, its zero rates, its figures and its verdict.
+// The rounded working of a case that the engine holds: the factors of its three curves, adjusted for its pension flows and unadjusted for
+// its bonds, its zero rates, its figures and its verdict.
 mod fill;
 
 ghost use mathlib.Core.Path.{_≡_};
@@ -9,10 +10,11 @@ ghost use Rattle.model.specs.Curve.{base};
 ghost use Rattle.model.specs.declared.figures.Valuation.the-variants.{Valued};
 ghost use Rattle.worth.specs.inner.OnCurves.{factorsIn};
 ghost use Rattle.worth.specs.inner.Ranges.{CurvesFit};
-ghost use Rattle.working.specs.inner.Working.{factorsOn, curvesOn, ratesOn, moneyOn, moneyOf};
+ghost use Rattle.working.specs.inner.Working.{factorsOn, curvesOn, bondCurvesOn, ratesOn, moneyOn, moneyOf};
 ghost use Rattle.working.specs.inner.Ranges.{CaseFits};
 use curve::factor::factors;
 use curve::shift::shifted_curve;
+use curve::unadjusted::unadjusted_factors;
 use fill::fill_factors;
 use fill::fill_rates;
 use model::case::Case;
@@ -23,7 +25,7 @@ use worth::Curves;
 use worth::worths_of;
 use zerorates::rates::zero_rates;
 
-// The factors of the base curve alone.
+// The adjusted factors of the base curve alone.
 pub fn factors_of(case: Case) -> [u64; 240]
     requires { ⌜ CaseFits case ⌝ }
     ensures { λ r. ⌜ r ≡ factorsOn case base ⌝ }
@@ -32,7 +34,7 @@ pub fn factors_of(case: Case) -> [u64; 240]
     factors(base_curve)
 }
 
-// The factors of the base, the up and the down curve.
+// The adjusted factors of the base, the up and the down curve.
 pub fn curves_of(case: Case) -> Curves
     requires { ⌜ CaseFits case ⌝ }
     ensures { λ r. ⌜ r ≡ curvesOn case ⌝ }
@@ -46,13 +48,31 @@ pub fn curves_of(case: Case) -> Curves
     Curves { base, up, down }
 }
 
-// The figures and the verdict of a case at given factors of the three curves, its own or others.
-pub fn money_on(case: Case, c: Curves) -> Money
-    requires { ⌜ CaseFits case × CurvesFit c ⌝ }
-    ensures { λ r. ⌜ r ≡ moneyOn (factorsIn c) case ⌝ }
+// The unadjusted factors of the three curves at the terms of the bond flows, from the adjusted ones.
+pub fn bond_curves_of(case: Case, c: Curves) -> Curves
+    requires { ⌜ CaseFits case × (c ≡ curvesOn case) ⌝ }
+    ensures { λ r. ⌜ r ≡ bondCurvesOn case ⌝ }
+{
+    let on_base = c.base;
+    let base_curve = shifted_curve(case, 0, 0);
+    let base = unadjusted_factors(base_curve, on_base, case.bond_count);
+    let on_up = c.up;
+    let up_curve = shifted_curve(case, case.shocks.up_shift, 0);
+    let up = unadjusted_factors(up_curve, on_up, case.bond_count);
+    let on_down = c.down;
+    let down_curve = shifted_curve(case, 0, case.shocks.down_shift);
+    let down = unadjusted_factors(down_curve, on_down, case.bond_count);
+    Curves { base, up, down }
+}
+
+// The figures and the verdict of a case at given factors of the three curves, its own or others: `c` for its pension flows, `b` for its
+// bonds.
+pub fn money_on(case: Case, c: Curves, b: Curves) -> Money
+    requires { ⌜ CaseFits case × CurvesFit c (case .«pension_count») × CurvesFit b (case .«bond_count») ⌝ }
+    ensures { λ r. ⌜ r ≡ moneyOn (factorsIn c) (factorsIn b) case ⌝ }
 {
     let owed = worths_of(&case.pension, case.pension_count, c);
-    let bonds = worths_of(&case.bonds, case.bond_count, c);
+    let bonds = worths_of(&case.bonds, case.bond_count, b);
     money_by(owed, bonds, case.amounts, case.shocks, case.people)
 }
 
@@ -62,7 +82,8 @@ pub fn money_of(case: Case) -> Money
     ensures { λ r. ⌜ r ≡ moneyOf case ⌝ }
 {
     let curves = curves_of(case);
-    money_on(case, curves)
+    let bond_curves = bond_curves_of(case, curves);
+    money_on(case, curves, bond_curves)
 }
 
 // Values a case: writes the entries 0 to 239 of both lent buffers, and answers the figures and the verdict.
@@ -77,7 +98,8 @@ pub fn value_case(case: Case, factors: &mut [u64], rates: &mut [i64]) -> Valuati
     let steps = zero_rates(base);
     fill_factors(base, factors);
     fill_rates(steps, rates);
-    let money = money_on(case, curves);
+    let bond_curves = bond_curves_of(case, curves);
+    let money = money_on(case, curves, bond_curves);
     let figures = money.figures;
     let verdict = money.verdict;
     Valuation::Valued(figures, verdict)

@@ -43,14 +43,14 @@ factor-low entries i = let q : suc i - 1 ≡ i = omega arith in rw q
 pub factor-high : (entries : List ℕ) (i : ℕ) → entryOf entries high (suc i) ≡ getD entries (2 * i + 1) 0
 factor-high entries i = let q : suc i - 1 ≡ i = omega arith in rw q
 
-pub low-most : (factors : List ℕ) (i : ℕ) → FactorsFit factors → i < 120 → getD factors (2 * i) 0 ≤ 22 * 10 ^ 11
-low-most factors i f h = rw (factor-low factors i) at (f .factor low (suc i) (omega arith) h)
+pub low-most : (factors : List ℕ) (count i : ℕ) → FactorsFit factors count → i < count → getD factors (2 * i) 0 ≤ 34 * 10 ^ 11
+low-most factors count i f h = rw (factor-low factors i) at (f .factor low (suc i) (omega arith) h)
 
-pub high-most : (factors : List ℕ) (i : ℕ) → FactorsFit factors → i < 120 → getD factors (2 * i + 1) 0 ≤ 22 * 10 ^ 11
-high-most factors i f h = rw (factor-high factors i) at (f .factor high (suc i) (omega arith) h)
+pub high-most : (factors : List ℕ) (count i : ℕ) → FactorsFit factors count → i < count → getD factors (2 * i + 1) 0 ≤ 34 * 10 ^ 11
+high-most factors count i f h = rw (factor-high factors i) at (f .factor high (suc i) (omega arith) h)
 
--- one flow: its product is in range, and it is worth at most 220,000,000 euros
-pub flow-range : (x f : ℕ) → x ≤ 100000000 → f ≤ 22 * 10 ^ 11 → InRange x f 10000000000
+-- one flow: its product is in range, and it is worth at most 340,000,000 euros
+pub flow-range : (x f : ℕ) → x ≤ 100000000 → f ≤ 34 * 10 ^ 11 → InRange x f 10000000000
 flow-range x f h k = record {
   left = omega arith;
   right = omega arith;
@@ -59,8 +59,8 @@ flow-range x f h k = record {
   fits = lt-of-le-of-lt (mul-le-mul h k) (lit< tt);
 }
 
-pub flow-most : (e : End) (x f v : ℕ) → x ≤ 100000000 → f ≤ 22 * 10 ^ 11 → v ≡ divide e (x * f) 10000000000 → v ≤ 22 * 10 ^ 9
-flow-most e x f v h k p = rw p (divide-le e (x * f) 10000000000 (22 * 10 ^ 9) (lit< tt) (le-trans (mul-le-mul h k) (lit≤ tt)))
+pub flow-most : (e : End) (x f v : ℕ) → x ≤ 100000000 → f ≤ 34 * 10 ^ 11 → v ≡ divide e (x * f) 10000000000 → v ≤ 34 * 10 ^ 9
+flow-most e x f v h k p = rw p (divide-le e (x * f) 10000000000 (34 * 10 ^ 9) (lit< tt) (le-trans (mul-le-mul h k) (lit≤ tt)))
 
 -- all counted flows
 pub worth-done : (flows factors : List ℕ) (i count lower upper : ℕ) → i ≡ count

@@ -1,4 +1,4 @@
-// What flows are worth at the factors of a curve.
+// What flows are worth at the factors of a curve: pension flows at adjusted factors, bond flows at unadjusted ones.
 ghost use Rattle.model.specs.Buffers.{entryOf};
 ghost use mathlib.Core.Path.{_≡_};
 ghost use lib.ListN.{take};
@@ -26,7 +26,7 @@ pub struct Worths {
 
 // The first `count` flows times the factors of their terms: each rounded, then summed.
 fn worth_of(flows: &[u64], count: usize, factors: &[u64]) -> Bracket
-    requires { ⌜ FlowsFit (now flows) count × FactorsFit (now factors) ⌝ }
+    requires { ⌜ FlowsFit (now flows) count × FactorsFit (now factors) count ⌝ }
     ensures { λ r. ⌜ r ≡ bracket (λ e. worth e (entryOf (now (factors .entry)) e) 1 (take count (now (flows .entry)))) ⌝ }
     ensures bound { λ r. ⌜ WorthFits r ⌝ }
 {
@@ -48,7 +48,7 @@ fn worth_of(flows: &[u64], count: usize, factors: &[u64]) -> Bracket
 
 // The flows at the factors of the three curves.
 pub fn worths_of(flows: &[u64], count: usize, c: Curves) -> Worths
-    requires { ⌜ FlowsFit (now flows) count × CurvesFit c ⌝ }
+    requires { ⌜ FlowsFit (now flows) count × CurvesFit c count ⌝ }
     ensures { λ r. ⌜ r ≡ worths (λ m e. worth e (entryOf (entriesOn c m) e) 1 (take count (now (flows .entry)))) ⌝ }
     ensures bound { λ r. ⌜ WorthsFit r ⌝ }
 {

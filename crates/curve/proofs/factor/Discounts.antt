@@ -2,7 +2,6 @@
 use Prim.Native.Nat.{ℕ, zero, suc, _+_, _*_, _-_, _^_, _≤_, _<_}
 use mathlib.Core.Path.{_≡_, refl, sym, _∙_}
 use native.Mathlib.Omega.{arith}
-use native.Mathlib.Nat.{lt-of-le-of-lt}
 use lib.Dec.{lit<}
 use lib.ListN.{getD}
 use Rattle.arith.specs.Rounding.{End, low, high, other, divide}
@@ -12,16 +11,15 @@ use Rattle.model.specs.Rounded as Rounded
 use Rattle.model.specs.Rounded.{scaled}
 use Rattle.model.specs.Brackets.{bracket, endOf}
 use Rattle.model.specs.declared.figures.Bracket.{Bracket}
-use Rattle.theory.proofs.curve.Growth.{P-pos}
-use Rattle.theory.proofs.curve.Factor.{rounded-factor-first, rounded-factor-next, weighed-from-61, factor-ends}
-use Rattle.theory.proofs.curve.Sizes.{first-size}
+use Rattle.theory.proofs.curve.Factor.{rounded-factor-to-20, rounded-factor-next, weighed-from-61, factor-ends}
 use Rattle.theory.proofs.money.MoneySizes.{factor-most}
 use Rattle.curve.specs.declared.shift.CurveSums.{CurveSums}
 use Rattle.curve.specs.inner.Shifted.{curveOf}
-use Rattle.curve.specs.inner.Ranges.{TimesWithin, ScaledWithin, CrossWithin, FactorsWithin, NextWithin}
+use Rattle.curve.specs.inner.Ranges.{TimesWithin, CrossWithin, FactorsWithin, NextWithin}
 use Rattle.theory.proofs.general.ByEnds.{by-ends, end-is}
 use Rattle.curve.proofs.Weighing.{weight-of-most}
-use Rattle.curve.proofs.Curves.{N-of, P-of, ufr-most, sum-most}
+use Rattle.curve.proofs.Curves.{ufr-most}
+use Rattle.curve.proofs.UnadjustedLaws.{unadjusted-are}
 use Rattle.curve.proofs.factor.Growths.{weighed-most, weighed-some}
 
 pub no-factor : (c : CurveSums) → record { lower = unit; upper = unit } ≡ bracket (λ e. Rounded.factor (curveOf c) e 0)
@@ -38,23 +36,12 @@ low-end c f t k = end-is f (λ e. Rounded.factor (curveOf c) e t) k low
 pub high-end : (c : CurveSums) (f : Bracket) (t : ℕ) → f ≡ bracket (λ e. Rounded.factor (curveOf c) e t) → f .upper ≡ Rounded.factor (curveOf c) high t
 high-end c f t k = end-is f (λ e. Rounded.factor (curveOf c) e t) k high
 
-module _ (c : CurveSums) (f : Bracket) (t : ℕ) (w : NextWithin c f t) where
-  pub first-within : t ≤ 20 → ScaledWithin (c .n) (getD (c .sums) t 0) t
-  unfolding curveOf
-  first-within h = record {
-    some = rw (← P-of c t) (P-pos (curveOf c) (w .curve .within) t (omega arith));
-    most = omega (arith, sum-most c (w .curve) t (omega arith));
-    ratio = omega (arith, N-of c, P-of c t, w .curve .within .least t (omega arith));
-    years = λ i l. rw (← P-of c t, ← N-of c) (lt-of-le-of-lt (first-size (curveOf c) (w .curve .within) t i (omega arith) (omega arith)) (lit< tt));
-  }
-
-first-end : (c : CurveSums) (e : End) (t : ℕ) → 1 ≤ t → t ≤ 20 → scaled e (c .n) (getD (c .sums) t 0) t ≡ Rounded.factor (curveOf c) e t
-first-end c e zero h l = absurd (let z : ⊥ = omega arith in z)
-first-end c e (suc j) h l = rw (rounded-factor-first (curveOf c) e j l, P-of c (suc j), N-of c)
-
-pub first-is : (c : CurveSums) (r : Bracket) (t : ℕ) → 1 ≤ t → t ≤ 20 → r ≡ bracket (λ e. scaled e (c .n) (getD (c .sums) t 0) t)
+-- to 20: the unadjusted factor
+pub first-is : (c : CurveSums) (r : Bracket) (t : ℕ) → t ≤ 20 → r ≡ bracket (λ e. scaled e (c .n) (getD (c .sums) t 0) t)
     → r ≡ bracket (λ e. Rounded.factor (curveOf c) e t)
-first-is c r t h l k = k ∙ by-ends (λ e. scaled e (c .n) (getD (c .sums) t 0) t) (λ e. Rounded.factor (curveOf c) e t) (λ e. first-end c e t h l)
+first-is c r t h k =
+    unadjusted-are c r t k
+    ∙ by-ends (λ e. Rounded.unadjusted (curveOf c) e t) (λ e. Rounded.factor (curveOf c) e t) (λ e. sym (rounded-factor-to-20 (curveOf c) e t h))
 
 -- from 21 to 60
 cross-suc : (c : CurveSums) → FactorsWithin c → (f g : Bracket) (j : ℕ) → 20 < suc j → suc j ≤ 60 → f ≡ bracket (λ e. Rounded.factor (curveOf c) e j)

@@ -55,6 +55,7 @@ module _ (c : CurveSums) (w : FactorsWithin c) where
   growth-within-suc : (j : ℕ) → suc j ≤ 60 → GrowthWithin (c .n) (getD (c .sums) (suc j) 0) (getD (c .sums) j 0) j
   growth-within-suc j h = record {
     years = record {
+      few = omega arith;
       some = rw (← P-of c j) (P-pos (curveOf c) (w .within) j (omega arith));
       most = omega (arith, sum-most c w j (omega arith));
       ratio = omega (arith, P-of c j, P-of c (suc j), w .within .least j (omega arith), w .within .most (suc j) h);

@@ -10,5 +10,5 @@ larger-end r a b x y e p q = omega arith
 pub larger-most : (r a b m x y : ℕ) → r ≡ max a b → a ≡ x → b ≡ y → x ≤ m → y ≤ m → r ≤ m
 larger-most r a b m x y e p q h k = omega arith
 
-pub fall-most : (a b c d : ℕ) → a ≤ 264 * 10 ^ 10 → b ≤ 264 * 10 ^ 10 → (a + b) - (c + d) ≤ 50 * 10 ^ 12
+pub fall-most : (a b c d : ℕ) → a ≤ 408 * 10 ^ 10 → b ≤ 408 * 10 ^ 10 → (a + b) - (c + d) ≤ 50 * 10 ^ 12
 fall-most a b c d h k = omega arith

@@ -19,14 +19,14 @@ module _ (h d : ℕ) (some : 1 ≤ h) (most : h ≤ 1000000) (gap : d ≤ 1200) 
   pub heads-square : h * ((320 + 3 * d) * (320 + 3 * d)) ≤ 15366400000000
   heads-square = le-trans (mul-le-mul most gap-square) (lit≤ tt)
 
-  module _ (l v k : ℕ) (hl : l ≤ 264 * 10 ^ 10) (ek : k ≡ h * ((320 + 3 * d) * (320 + 3 * d)) + 92160000) (e : v ≡ l * l * k) where
+  module _ (l v k : ℕ) (hl : l ≤ 408 * 10 ^ 10) (ek : k ≡ h * ((320 + 3 * d) * (320 + 3 * d)) + 92160000) (e : v ≡ l * l * k) where
     pub margin-fits : v < 2 ^ 112 * (256000000 * h)
     margin-fits =
         let hk : k ≤ 2 ^ 45 = omega (arith, heads-square) in
         let m : 256000000 ≤ 256000000 * h = omega arith in
         rw e
         (lt-of-le-of-lt (mul-le-mul (mul-le-mul hl hl) hk)
-        (lt-of-lt-of-le (lit< {m = 264 * 10 ^ 10 * (264 * 10 ^ 10) * 2 ^ 45} {n = 2 ^ 112 * 256000000} tt) (mul-le-mul-left (2 ^ 112) m)))
+        (lt-of-lt-of-le (lit< {m = 408 * 10 ^ 10 * (408 * 10 ^ 10) * 2 ^ 45} {n = 2 ^ 112 * 256000000} tt) (mul-le-mul-left (2 ^ 112) m)))
 
     pub margin-end : (end : End) (r : ℕ) → r ≡ root end v (256000000 * h) → r ≤ 50 * 10 ^ 12
     margin-end end r p =

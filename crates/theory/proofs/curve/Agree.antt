@@ -8,6 +8,7 @@ use Rattle.model.specs.Curve.{Curve, P}
 use Rattle.model.specs.Rounded as Rounded
 use Rattle.model.specs.inner.CurveWithin.{CurveWithin, BaseWithin}
 use Rattle.theory.proofs.curve.Growth.{growth-suc}
+use Rattle.theory.proofs.curve.Unadjusted.{unadjusted-is}
 use Rattle.theory.proofs.curve.Factor.{weighed-to-60, weighed-from-61, rounded-factor-first, rounded-factor-next}
 
 pub record Agree (c d : Curve) : Type 0 where
@@ -37,6 +38,10 @@ module _ (c d : Curve) (a : Agree c d) where
 
   pub same-factors : Rounded.factor c ≡ Rounded.factor d
   same-factors = fun-ext (λ e. fun-ext (λ t. factor-at e t))
+
+  -- bond flows have no term past 60, and P(t) agrees to there
+  pub same-unadjusted : (e : End) (t : ℕ) → t ≤ 60 → Rounded.unadjusted c e t ≡ Rounded.unadjusted d e t
+  same-unadjusted e t h = rw (unadjusted-is c e t, unadjusted-is d e t, a .sameP t h, a .sameN)
 
   -- the limits carry over
   pub same-within : CurveWithin c → CurveWithin d

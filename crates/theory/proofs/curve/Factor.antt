@@ -1,27 +1,26 @@
--- The factor of every term lies in its bracket. To 20 the growths 1 to t multiply out to (1 + R(t))^t, so the factor is 1 taken t times
--- × N ÷ P(t), and each time keeps the bracket. From 21 it is the factor before it, divided by the other end of the growth: a larger
--- divisor gives a smaller quotient, so that keeps the bracket too.
+-- The adjusted factor of every term lies in its bracket. To 20 it is the unadjusted one (Unadjusted). From 21 it is the factor before it,
+-- divided by the other end of the growth: a larger divisor gives a smaller quotient, so that keeps the bracket.
 -- Assumes nothing.
 use Prim.Native.Nat.{ℕ, zero, suc, _+_, _*_, _-_, _^_, _≤_, _<_}
-use mathlib.Core.Path.{_≡_, _∙_, ap}
+use mathlib.Core.Path.{_≡_, refl, _∙_}
 use native.Mathlib.Omega.{arith}
-use native.Mathlib.Nat.{mul-le-mul-left, pow-zero, mul-pos}
+use native.Mathlib.Nat.{mul-le-mul-left, mul-pos}
 use native.Mathlib.Decide.{decLe}
 use Rattle.arith.specs.Rounding.{End, low, high, other, divide}
 use Rattle.arith.proofs.Ends.{_≤⟨_⟩_}
-use Rattle.model.specs.Fraction.{_÷ᶠ_, _^ᶠ_, _≈_}
+use Rattle.model.specs.Fraction.{_÷ᶠ_, _≈_}
 use Rattle.model.specs.Curve.{Curve, P, weight}
 use Rattle.model.specs.Exact as Exact
-use Rattle.model.specs.Exact.{G, onePlusR, onePlusUfr}
+use Rattle.model.specs.Exact.{G, onePlusUfr, productOf}
 use Rattle.model.specs.Constants.{unit}
 use Rattle.model.specs.Rounded as Rounded
 use Rattle.model.specs.Rounded.{scaled, ufrGrowth}
 use Rattle.model.specs.inner.CurveWithin.{CurveWithin}
 use Rattle.theory.proofs.curve.Bracket.{Bounded}
 use Rattle.theory.proofs.general.Conditions.{cond-le, cond-gt}
-use Rattle.theory.proofs.general.Powers.{pow-pos}
-use Rattle.theory.proofs.curve.Steps.{same, cross, weigh, mixed, ends, across, exactly, scaled-in}
-use Rattle.theory.proofs.curve.Growth.{growth-in, growth-width, growth-least, G-pos, G-suc, P-pos}
+use Rattle.theory.proofs.curve.Steps.{same, cross, weigh, mixed, ends, across, exactly}
+use Rattle.theory.proofs.curve.Growth.{growth-in, growth-width, growth-least, G-pos}
+use Rattle.theory.proofs.curve.Unadjusted.{unadjusted-is, unadjusted-in}
 
 -- which growth, by the term
 pub growth-to-20 : (c : Curve) (t : ℕ) → t ≤ 20 → Exact.growth c t ≡ G c t
@@ -36,12 +35,20 @@ pub growth-from-61 : (c : Curve) (t : ℕ) → 60 < t → Exact.growth c t ≡ o
 unfolding Exact.growth
 growth-from-61 c t h = cond-gt t 20 _ _ (omega arith) ∙ cond-gt t 60 _ _ h
 
--- to 20 the product of the growths is (1 + R(t))^t
-product-first : (c : Curve) → CurveWithin c → (t : ℕ) → t ≤ 20 → Exact.product c t ≈ onePlusR c t ^ᶠ t
-unfolding Exact.product
-product-first c f zero h = rw (pow-zero (P c 0), pow-zero (c .N))
-product-first c f (suc j) h = rw (growth-to-20 c (suc j) h, G-suc c j)
-    (omega (arith, ap (λ m. m * (P c (suc j) ^ suc j * c .N ^ suc j)) (product-first c f j (omega arith))))
+-- to 20 the factor is the unadjusted one, in both workings
+product-to-20 : (c : Curve) (t : ℕ) → t ≤ 20 → Exact.product c t ≡ productOf (G c) t
+unfolding productOf
+product-to-20 c zero h = refl
+product-to-20 c (suc j) h = rw (growth-to-20 c (suc j) h, product-to-20 c j (omega arith))
+
+pub factor-to-20 : (c : Curve) (t : ℕ) → t ≤ 20 → Exact.factor c t ≡ Exact.unadjusted c t
+unfolding Exact.factor Exact.unadjusted
+factor-to-20 c t h = rw (product-to-20 c t h)
+
+pub rounded-factor-to-20 : (c : Curve) (e : End) (t : ℕ) → t ≤ 20 → Rounded.factor c e t ≡ Rounded.unadjusted c e t
+unfolding Rounded.factor Rounded.unadjusted scaled
+rounded-factor-to-20 c e zero h = refl
+rounded-factor-to-20 c e (suc j) h = cond-le (suc j) 20 _ _ h
 
 -- the growth that a factor is divided by, from term 21
 pub weighed-to-60 : (c : Curve) (e : End) (t : ℕ) → t ≤ 60 → Rounded.weighed c e t ≡ divide e ((1000 - weight t) * Rounded.growth c e t + weight t * ufrGrowth c) 1000
@@ -84,7 +91,7 @@ growth-fraction-pos c f j = go (decLe (suc j) 20) (decLe (suc j) 60)
     go (no h) (no k) = rw (growth-from-61 c (suc j) (omega arith)) (omega arith)
 
 pub product-pos : (c : Curve) → CurveWithin c → (t : ℕ) → (0 < Exact.product c t .num) × (0 < Exact.product c t .den)
-unfolding Exact.product
+unfolding productOf
 product-pos c f zero = (omega arith, omega arith)
 product-pos c f (suc t) =
     (mul-pos (product-pos c f t .0) (growth-fraction-pos c f t .0), mul-pos (product-pos c f t .1) (growth-fraction-pos c f t .1))
@@ -93,22 +100,15 @@ pub factor-den : (c : Curve) → CurveWithin c → (t : ℕ) → 0 < Exact.facto
 unfolding Exact.factor
 factor-den c f t = omega (arith, product-pos c f t .0)
 
-factor-first : (c : Curve) → CurveWithin c → (e : End) (t : ℕ) → t ≤ 20 → Bounded e unit (scaled e (c .N) (P c t) t) (Exact.factor c t)
-unfolding Exact.factor
-factor-first c f e t h =
-    let hp : 0 < P c t = P-pos c f t (omega arith) in
-    same (Exact.factor c t) (pow-pos (P c t) t hp) (omega (arith, product-first c f t h)) (scaled-in e (c .N) (P c t) t hp)
-
 pub rounded-factor-first : (c : Curve) (e : End) (j : ℕ) → suc j ≤ 20 → Rounded.factor c e (suc j) ≡ scaled e (c .N) (P c (suc j)) (suc j)
-unfolding Rounded.factor
-rounded-factor-first c e j h = cond-le (suc j) 20 _ _ h
+rounded-factor-first c e j h = rounded-factor-to-20 c e (suc j) h ∙ unadjusted-is c e (suc j)
 
 pub rounded-factor-next : (c : Curve) (e : End) (j : ℕ) → 20 < suc j → Rounded.factor c e (suc j) ≡ divide e (Rounded.factor c e j * unit) (Rounded.weighed c (other e) (suc j))
 unfolding Rounded.factor
 rounded-factor-next c e j h = cond-gt (suc j) 20 _ _ h
 
 factor-next : (c : Curve) (t : ℕ) → Exact.factor c t ÷ᶠ Exact.growth c (suc t) ≈ Exact.factor c (suc t)
-unfolding Exact.factor Exact.product
+unfolding Exact.factor productOf
 factor-next c t = omega arith
 
 -- the lower end of a growth, and of a weighed growth from 21 on
@@ -145,11 +145,11 @@ unfolding Exact.factor
 quotient-pos c f j = mul-pos (mul-pos (omega arith) (product-pos c f j .0)) (growth-fraction-pos c f j .0)
 
 pub factor-in : (c : Curve) → CurveWithin c → (e : End) (t : ℕ) → Bounded e unit (Rounded.factor c e t) (Exact.factor c t)
-factor-in c f e zero = unfold Exact.factor Exact.product Rounded.factor in (exactly (omega arith))
+factor-in c f e zero = unfold Exact.factor productOf Rounded.factor in (exactly (omega arith))
 factor-in c f e (suc j) = go (decLe (suc j) 20) (factor-in c f e j)
   where
     go : Dec (suc j ≤ 20) → Bounded e unit (Rounded.factor c e j) (Exact.factor c j) → Bounded e unit (Rounded.factor c e (suc j)) (Exact.factor c (suc j))
-    go (yes h) ih = rw (rounded-factor-first c e j h) (factor-first c f e (suc j) h)
+    go (yes h) ih = rw (rounded-factor-to-20 c e (suc j) h, factor-to-20 c (suc j) h) (unadjusted-in c f e (suc j) (omega arith))
     go (no h) ih =
         rw (rounded-factor-next c e j (omega arith))
         (same (Exact.factor c (suc j)) (quotient-pos c f j) (factor-next c j)

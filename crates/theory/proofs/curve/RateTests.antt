@@ -8,12 +8,11 @@ use mathlib.Core.Path.{_≡_, refl}
 use native.Mathlib.Omega.{arith}
 use native.Mathlib.Nat.{mul-le-mul-left, mul-le-mul-right, le-of-mul-le-mul-right, le-trans}
 use Rattle.arith.specs.Rounding.{End, low, high, divide}
-use Rattle.arith.proofs.Rounding.{divide-ceiling}
 use Rattle.model.specs.Curve.{weight, weights}
 use Rattle.model.specs.Constants.{unit, stepsPerOne}
 use Rattle.model.specs.Rounded.{scaled, tested}
 use Rattle.model.specs.Numbers.{every}
-use Rattle.theory.proofs.curve.Steps.{wider, scaled-in, scaled-mono, scaled-ends}
+use Rattle.theory.proofs.curve.Steps.{widthAfter, scaled-wide, scaled-in, scaled-mono, scaled-ends}
 use Rattle.theory.proofs.general.Lists.{every-le}
 use Rattle.theory.proofs.general.Powers.{pow-pos, bernoulli}
 use Rattle.theory.proofs.curve.BaseCurve.{weighedBound, factorBound}
@@ -34,18 +33,9 @@ pub tested-small : (e : End) (t i : ℕ) → t ≤ 120 → tested e t i ≤ 12 *
 tested-small high t i h = high-small t i h
 tested-small low t i h = le-trans (scaled-ends stepsPerOne (98000 + i) t (omega arith)) (high-small t i h)
 
--- ---- the ends of a result: a year takes a width w to at most w × 100 ÷ 98, and its two roundings add at most one
-unfoldable pub testWidth : ℕ → ℕ
-testWidth zero = 0
-testWidth (suc t) = divide high (testWidth t * 100) 98 + 1
-
-pub tested-width : (t i : ℕ) → tested high t i ≤ tested low t i + testWidth t
-unfolding scaled testWidth
-tested-width zero i = omega arith
-tested-width (suc t) i =
-    let w : ℕ = divide high (testWidth t * 100) 98 in
-    wider (tested low t i) (tested high t i) stepsPerOne (98000 + i) (testWidth t) w (omega arith) (tested-width t i)
-    (omega (arith, divide-ceiling (testWidth t * 100) 98 (omega arith) .0))
+-- ---- the ends of a result
+pub tested-width : (t i : ℕ) → tested high t i ≤ tested low t i + widthAfter t
+tested-width t i = scaled-wide stepsPerOne (98000 + i) t (omega arith) (omega arith)
 
 -- ---- one step further on, the power is smaller by t ÷ (v + t) of itself or more, where v is 100,000 + z
 steps-apart : (t i : ℕ) → tested low t (i + 1) * (98000 + i + t) ≤ (98000 + i) * tested high t i
@@ -63,12 +53,12 @@ steps-apart t i =
 
 -- ---- that is more than all the widths together, of every term from 1 to 120: even the smallest factor is large beside them
 sharp : (s : ℕ) → s < 120
-    → suc (120000 * (2 * testWidth (suc s) + 4 * suc s * suc s) + testWidth (suc s) * suc s) ≤ factorBound low (suc s) * suc s
-unfolding every factorBound weighedBound divide scaled weight weights testWidth
+    → suc (120000 * (2 * widthAfter (suc s) + 4 * suc s * suc s) + widthAfter (suc s) * suc s) ≤ factorBound low (suc s) * suc s
+unfolding every factorBound weighedBound divide scaled weight weights widthAfter
 sharp s =
-    every-le (λ s. suc (120000 * (2 * testWidth (suc s) + 4 * suc s * suc s) + testWidth (suc s) * suc s)) (λ s. factorBound low (suc s) * suc s) 120 s refl
+    every-le (λ s. suc (120000 * (2 * widthAfter (suc s) + 4 * suc s * suc s) + widthAfter (suc s) * suc s)) (λ s. factorBound low (suc s) * suc s) 120 s refl
 
-sharp-at : (t : ℕ) → 1 ≤ t → t ≤ 120 → 120000 * (2 * testWidth t + 4 * t * t) + testWidth t * t < factorBound low t * t
+sharp-at : (t : ℕ) → 1 ≤ t → t ≤ 120 → 120000 * (2 * widthAfter t + 4 * t * t) + widthAfter t * t < factorBound low t * t
 sharp-at zero h k = omega arith
 sharp-at (suc s) h k = sharp s (omega arith)
 
@@ -77,11 +67,11 @@ pub one-passes : (t i l u : ℕ) → 1 ≤ t → t ≤ 120 → i ≤ 22000 → f
     → tested low t i < u → l < tested high t (i + 1) → ⊥
 one-passes t i l u t1 t2 hi least wide lower-fails upper-fails =
     let v : ℕ = 98000 + i in
-    let w : ℕ = 2 * testWidth t + 4 * t * t in
+    let w : ℕ = 2 * widthAfter t + 4 * t * t in
     let x : ℕ = tested high t i in
     let y : ℕ = tested low t (i + 1) in
     let near : x ≤ y + w = omega (arith, tested-width t i, tested-width t (i + 1)) in
-    let large : factorBound low t * t ≤ (y + testWidth t) * t = mul-le-mul-right t (omega (arith, tested-width t (i + 1))) in
+    let large : factorBound low t * t ≤ (y + widthAfter t) * t = mul-le-mul-right t (omega (arith, tested-width t (i + 1))) in
     let most : v * w ≤ 120000 * w = mul-le-mul-right w (omega arith) in
     let apart : y * (v + t) ≤ v * x = steps-apart t i in
     omega (arith, mul-le-mul-left v near, most, large, apart, sharp-at t t1 t2)

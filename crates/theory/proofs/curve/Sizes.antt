@@ -20,6 +20,7 @@ use Rattle.theory.proofs.general.Powers.{pow-pos, backward}
 use Rattle.theory.proofs.curve.Steps.{scaled-in, scaled-mono, scaled-width}
 use Rattle.theory.proofs.curve.Growth.{growth-suc, P-pos, N-pos}
 use Rattle.theory.proofs.curve.Factor.{rounded-factor-first, rounded-factor-next, weighed-from-61, least}
+use Rattle.theory.proofs.curve.Unadjusted.{years-bound}
 use Rattle.theory.proofs.curve.Width.{factorMost, middle}
 
 -- r + i p is at most (i + 1) q for each i up to j, if it is so at j
@@ -67,18 +68,13 @@ growth-size c f j h =
     (omega (arith, mul-le-mul-right (P c (suc j)) (years-most c f j j h (omega arith)), f .most (suc j) h)))
 
 -- the factor, to 20 and at every term
-firsts : (i : ℕ) → i < 21 → scaled high 100 98 i ≤ 15 * 10 ^ 11
+firsts : (i : ℕ) → i < 21 → scaled high 100 98 i ≤ 22 * 10 ^ 11
 unfolding every scaled divide
-firsts i = every-le (λ i. scaled high 100 98 i) (λ _. 15 * 10 ^ 11) 21 i refl
+firsts i = every-le (λ i. scaled high 100 98 i) (λ _. 22 * 10 ^ 11) 21 i refl
 
 middles : (j : ℕ) → j < 41 → factorMost j ≤ 22 * 10 ^ 11
 unfolding every factorMost scaled divide weight weights
 middles j = every-le factorMost (λ _. 22 * 10 ^ 11) 41 j refl
-
-pub first-size : (c : Curve) → CurveWithin c → (t i : ℕ) → t ≤ 60 → i ≤ 20 → scaled high (c .N) (P c t) i ≤ 15 * 10 ^ 11
-first-size c f t i h k =
-    le-trans (scaled-mono high (c .N) (P c t) 100 98 i (P-pos c f t h) (omega arith) (omega (arith, f .least t h)))
-    (firsts i (omega arith))
 
 late-size : (c : Curve) → CurveWithin c → (i : ℕ) → Rounded.factor c high (60 + i) ≤ 22 * 10 ^ 11
 late-size c f zero = le-trans (middle c f 40 (omega arith) .0) (middles 40 (omega arith))
@@ -91,7 +87,7 @@ factor-size c f t = go (decLe t 20) (decLe t 60)
   where
     first : (t : ℕ) → t ≤ 20 → Rounded.factor c high t ≤ 22 * 10 ^ 11
     first zero h = unfold Rounded.factor in (omega arith)
-    first (suc j) h = rw (rounded-factor-first c high j h) (omega (arith, first-size c f (suc j) (suc j) (omega arith) h))
+    first (suc j) h = rw (rounded-factor-first c high j h) (le-trans (years-bound c f (suc j) (suc j) (omega arith)) (firsts (suc j) (omega arith)))
 
     go : Dec (t ≤ 20) → Dec (t ≤ 60) → Rounded.factor c high t ≤ 22 * 10 ^ 11
     go (yes h) k = first t h

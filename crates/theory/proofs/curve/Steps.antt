@@ -127,3 +127,19 @@ scaled-width a b k h l zero m = omega arith
 scaled-width a b k h l (suc j) m =
     let ih : scaled high a b j ≤ scaled low a b j + 3 * j = scaled-width a b k h l j (omega arith) in
     omega (arith, wider (scaled low a b j) (scaled high a b j) a b (3 * j) (3 * j + 2) h ih (ratio a b k j (omega arith) l))
+
+-- The same with a ÷ b up to 1 ÷ 0.98, for any number of times: each takes a width w to at most w × 100 ÷ 98, and its two roundings add at
+-- most one. The recursion reads no file, so that its numbers can be computed.
+unfoldable pub widthAfter : ℕ → ℕ
+widthAfter zero = 0
+widthAfter (suc j) = divide high (widthAfter j * 100) 98 + 1
+
+pub scaled-wide : (a b j : ℕ) → 0 < b → 98 * a ≤ 100 * b → scaled high a b j ≤ scaled low a b j + widthAfter j
+unfolding scaled widthAfter
+scaled-wide a b zero h l = omega arith
+scaled-wide a b (suc j) h l =
+    let w : ℕ = widthAfter j in
+    let v : ℕ = divide high (w * 100) 98 in
+    let k : w * 100 ≤ v * 98 = divide-ceiling (w * 100) 98 (omega arith) .0 in
+    let r : w * a ≤ v * b = le-of-mul-le-mul-right {k = 98} (omega (arith, mul-le-mul-left w l, mul-le-mul-right b k)) (omega arith) in
+    wider (scaled low a b j) (scaled high a b j) a b w v h (scaled-wide a b j h l) r

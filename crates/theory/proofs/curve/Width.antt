@@ -18,7 +18,8 @@ use Rattle.model.specs.Numbers.{every}
 use Rattle.model.specs.inner.CurveWithin.{CurveWithin}
 use Rattle.theory.proofs.curve.Steps.{wider, scaled-width, scaled-mono, ends}
 use Rattle.theory.proofs.curve.Growth.{growth-width, P-pos}
-use Rattle.theory.proofs.curve.Factor.{least, weighed-least, weighed-to-60, weighed-from-61, weighed-in, growth-fraction-pos, rounded-factor-first, rounded-factor-next}
+use Rattle.theory.proofs.curve.Factor.{least, weighed-least, weighed-to-60, weighed-from-61, weighed-in, growth-fraction-pos, rounded-factor-to-20, rounded-factor-first, rounded-factor-next}
+use Rattle.theory.proofs.curve.Unadjusted.{unadjusted-width}
 use Rattle.theory.proofs.general.Lists.{every-le}
 
 -- One crosswise division, of a factor from lo to hi by a growth from gl to gh. A is at most the growth, H at least the factor, H′ at
@@ -128,16 +129,8 @@ late c f (suc i) =
 pub factor-width : (c : Curve) → CurveWithin c → (t : ℕ) → Rounded.factor c high t ≤ Rounded.factor c low t + 4 * t * t
 factor-width c f t = go (decLe t 20) (decLe t 60)
   where
-    first : (t : ℕ) → t ≤ 20 → Rounded.factor c high t ≤ Rounded.factor c low t + 4 * t * t
-    first zero h = unfold Rounded.factor in (omega arith)
-    first (suc j) h =
-        let hl : 98 * c .N ≤ 100 * P c (suc j) = f .least (suc j) (omega arith) in
-        let x : ℕ = P c (suc j) in
-        rw (rounded-factor-first c high j h, rounded-factor-first c low j h)
-        (omega (arith, scaled-width (c .N) x 20 (P-pos c f (suc j) (omega arith)) (omega (arith, hl)) (suc j) h))
-
     go : Dec (t ≤ 20) → Dec (t ≤ 60) → Rounded.factor c high t ≤ Rounded.factor c low t + 4 * t * t
-    go (yes h) k = first t h
+    go (yes h) k = rw (rounded-factor-to-20 c high t h, rounded-factor-to-20 c low t h) (unadjusted-width c f t (omega arith))
     go (no h) (yes k) =
         let l : 20 ≤ t = omega arith in
         let (j, e) = le-dest l in

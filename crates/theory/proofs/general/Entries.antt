@@ -77,6 +77,16 @@ by-term d entries f n lower upper high (suc t) h k = let q : suc t - 1 ≡ t = o
 pub entry-is : (f : End → ℕ → ℕ) (n : ℕ) (e : End) (t : ℕ) → 1 ≤ t → t ≤ n → entryOf (byTerm f n) e t ≡ f e t
 entry-is f n = by-term 0 (byTerm f n) f n (λ t. lower-entry f n t 0) (λ t. upper-entry f n t 0)
 
+pub entry-in : (f : End → ℕ → ℕ) (n : ℕ) (rest : List ℕ) (e : End) (t : ℕ) → 1 ≤ t → t ≤ n → entryOf (byTerm f n ++ rest) e t ≡ f e t
+entry-in f n rest = by-term 0 (byTerm f n ++ rest) f n (lower-in f n rest 0) (upper-in f n rest 0)
+
+-- entries of two figures that are the same at the terms to n
+pub same-terms : {A : Type 0} (f g : End → ℕ → A) (n : ℕ) → ((e : End) (t : ℕ) → t ≤ n → f e t ≡ g e t) → byTerm f n ≡ byTerm g n
+unfolding byTerm
+same-terms f g zero h = refl
+same-terms f g (suc n) h =
+    rw (same-terms f g n (λ e t l. h e t (omega arith)), h low (suc n) (omega arith), h high (suc n) (omega arith))
+
 -- an array that a loop fills, one term more: its two entries
 pub term-filled : {A : Type 0} (f : End → ℕ → A) (held out : List A) (t : ℕ) (a b : A) → 2 * t + 1 < length held → a ≡ f low (t + 1) → b ≡ f high (t + 1)
     → out ≡ byTerm f t ++ drop (2 * t) held → set (set out (2 * t) a) (2 * t + 1) b ≡ byTerm f (t + 1) ++ drop (2 * (t + 1)) held

@@ -3,61 +3,25 @@
 -- Assumes nothing.
 use Prim.Native.Nat.{ℕ, suc, _+_, _*_, _^_, _≤_, _<_, max}
 use mathlib.Core.Path.{_≡_}
-use mathlib.Core.List.{List, [], _∷_}
-use lib.ListN.{length}
 use native.Mathlib.Omega.{arith}
 use native.Mathlib.Nat.{mul-le-mul-left, mul-le-mul-right, le-of-mul-le-mul-right, mul-pos, max-eq-left, max-eq-right, max-comm, le-max-right}
 use native.Mathlib.Decide.{decLe}
 use Rattle.arith.specs.Rounding.{End, low, high, other, divide}
 use Rattle.arith.specs.Root.{root}
-use Rattle.arith.proofs.Rounding.{divide-floor, divide-ceiling}
 use Rattle.arith.proofs.Ends.{_and_, _times_, from, cancel, divide-end, root-end}
-use Rattle.model.specs.Constants.{unit}
 use Rattle.model.specs.Fraction.{Fraction, _//_, _+ᶠ_, _*ᶠ_, square, whole, larger, _≤ᶠ_}
 use Rattle.model.specs.Case.{FileCase, allExceptCurrency, ageGap}
 use Rattle.model.specs.Limits.{WithinLimits}
-use Rattle.model.specs.Curve.{Curve, Move, base, up, down, curve}
+use Rattle.model.specs.Curve.{Move, base, up, down, curve}
 use Rattle.model.specs.Exact as Exact
 use Rattle.model.specs.Exact.{loss, S², S6²}
 use Rattle.model.specs.Rounded as Rounded
 use Rattle.model.specs.Rounded.{mortality}
-use Rattle.model.specs.Margins.{weightedSum, W}
-use Rattle.model.specs.inner.CurveWithin.{CurveWithin}
 use Rattle.theory.proofs.curve.Bracket.{Bounded}
 use Rattle.theory.proofs.curve.CaseCurves.{curve-within}
 use Rattle.theory.proofs.general.Conditions.{cond-le, cond-gt}
 use Rattle.theory.proofs.curve.Steps.{exactly, same, sum, minus, prod}
-use Rattle.theory.proofs.curve.Factor.{factor-in, product-pos}
-use Rattle.theory.proofs.curve.Width.{factor-width}
-
--- one flow, and the flows
-flow : {e : End} {f : ℕ} {F : Fraction} (x : ℕ) → Bounded e unit f F → Bounded e 1 (divide e (x * f) (10 ^ 10)) (whole (100 * x) *ᶠ F)
-flow {e} {f} {F} x h =
-    record { is = cancel {c = 10 ^ 10} (omega arith) (from (divide-end e (x * f) (10 ^ 10) (omega arith) times F .den and h .is times x) (omega arith)) }
-
-pub worth-in : (c : Curve) → CurveWithin c → (e : End) (t : ℕ) (xs : List ℕ) → Bounded e 1 (Rounded.worth e (Rounded.factor c e) t xs) (Exact.worth (Exact.factor c) t xs)
-unfolding Exact.worth Rounded.worth
-worth-in c f e t [] = exactly (omega arith)
-worth-in c f e t (x ∷ xs) = sum (flow x (factor-in c f e t)) (worth-in c f e (suc t) xs)
-
-pub worth-den : (c : Curve) → CurveWithin c → (t : ℕ) (xs : List ℕ) → 0 < Exact.worth (Exact.factor c) t xs .den
-unfolding Exact.worth Exact.factor
-worth-den c f t [] = omega arith
-worth-den c f t (x ∷ xs) = mul-pos (mul-pos (omega arith) (mul-pos (omega arith) (product-pos c f t .0))) (worth-den c f (suc t) xs)
-
--- at most 2 cents a flow, and the factors' widths
-flow-wide : (x lo hi v : ℕ) → hi ≤ lo + v → divide high (x * hi) (10 ^ 10) * 10 ^ 10 ≤ divide low (x * lo) (10 ^ 10) * 10 ^ 10 + 2 * 10 ^ 10 + v * x
-flow-wide x lo hi v h = omega (arith, mul-le-mul-left x h, divide-floor (x * lo) (10 ^ 10) (omega arith), divide-ceiling (x * hi) (10 ^ 10) (omega arith))
-
-worth-wide : (c : Curve) → CurveWithin c → (t : ℕ) (xs : List ℕ)
-    → Rounded.worth high (Rounded.factor c high) t xs * 10 ^ 10 ≤ Rounded.worth low (Rounded.factor c low) t xs * 10 ^ 10 + 2 * length xs * 10 ^ 10 + weightedSum t xs
-unfolding Rounded.worth weightedSum
-worth-wide c f t [] = omega arith
-worth-wide c f t (x ∷ xs) =
-    omega (arith, flow-wide x (Rounded.factor c low t) (Rounded.factor c high t) (4 * t * t) (factor-width c f t), worth-wide c f (suc t) xs)
-
-pub worth-width : (c : Curve) → CurveWithin c → (xs : List ℕ) → Rounded.worth high (Rounded.factor c high) 1 xs ≤ Rounded.worth low (Rounded.factor c low) 1 xs + W xs
-worth-width c f xs = omega (arith, worth-wide c f 1 xs, divide-ceiling (weightedSum 1 xs) (10 ^ 10) (omega arith))
+use Rattle.theory.proofs.money.Worth.{adjusted-known, unadjusted-known, worth-in, worth-den}
 
 -- maxima: a lower end of x is also a lower end of every y that x is at most
 carry : (u n a b c d : ℕ) → 0 < b → a * d ≤ c * b → n * b ≤ u * a → n * d ≤ u * c
@@ -151,16 +115,16 @@ den-pos s l h hs hl hh =
 -- ---- the figures of a case within the limits
 module _ (k : FileCase) (w : WithinLimits k) where
   pub L-in : (m : Move) (e : End) → Bounded e 1 (Rounded.L k m e) (Exact.L k m)
-  L-in m e = worth-in (curve k m) (curve-within k w m) e 1 (k .pension)
+  L-in m e = worth-in (adjusted-known (curve k m) (curve-within k w m)) e 1 (k .pension) (omega (arith, w .mostPension))
 
   pub B-in : (m : Move) (e : End) → Bounded e 1 (Rounded.B k m e) (Exact.B k m)
-  B-in m e = worth-in (curve k m) (curve-within k w m) e 1 (k .bonds)
+  B-in m e = worth-in (unadjusted-known (curve k m) (curve-within k w m)) e 1 (k .bonds) (omega (arith, w .mostBonds))
 
   pub L-den : (m : Move) → 0 < Exact.L k m .den
-  L-den m = worth-den (curve k m) (curve-within k w m) 1 (k .pension)
+  L-den m = worth-den (adjusted-known (curve k m) (curve-within k w m)) 1 (k .pension) (omega (arith, w .mostPension))
 
   pub B-den : (m : Move) → 0 < Exact.B k m .den
-  B-den m = worth-den (curve k m) (curve-within k w m) 1 (k .bonds)
+  B-den m = worth-den (unadjusted-known (curve k m) (curve-within k w m)) 1 (k .bonds) (omega (arith, w .mostBonds))
 
   pub A-in : (e : End) → Bounded e 1 (Rounded.A k e) (Exact.A k)
   A-in e = sum (B-in base e) (exactly {x = whole (100 * allExceptCurrency (k .amounts))} (omega arith))

@@ -1,11 +1,9 @@
 -- How large the money figures become: every end lies below 2^53, so that a double holds it. Each limit of a file bounds one number of a
--- product, no factor passes 2.2, and a root of squares with a correlation of at most 1 is at most the sum of its parts.
+-- product, no adjusted factor passes 2.2 and no unadjusted one 3.4, and a root of squares with a correlation of at most 1 is at most the sum of its parts.
 -- Assumes nothing.
 use Prim.Native.Nat.{ℕ, suc, _+_, _*_, _^_, _≤_, _<_, max}
-use mathlib.Core.List.{List, [], _∷_}
 use native.Mathlib.Omega.{arith}
 use native.Mathlib.Nat.{mul-le-mul, mul-le-mul-left, mul-le-mul-right, le-trans, le-refl}
-use lib.ListN.{length, getD}
 use Rattle.arith.specs.Rounding.{End, low, high}
 use Rattle.arith.proofs.Rounding.{divide-le}
 use Rattle.arith.proofs.Root.{root-le}
@@ -18,25 +16,14 @@ use Rattle.model.specs.inner.CurveWithin.{CurveWithin}
 use Rattle.theory.proofs.curve.CaseCurves.{curve-within}
 use Rattle.theory.proofs.curve.Factor.{factor-ends}
 use Rattle.theory.proofs.curve.Sizes.{factor-size}
+use Rattle.theory.proofs.curve.Unadjusted.{unadjusted-most}
+use Rattle.theory.proofs.money.Worth.{worth-most}
 use Rattle.theory.proofs.money.MoneyWidth.{share}
 
 -- at both ends
 pub factor-most : (c : Curve) → CurveWithin c → (e : End) (t : ℕ) → Rounded.factor c e t ≤ 22 * 10 ^ 11
 factor-most c f high t = factor-size c f t
 factor-most c f low t = le-trans (factor-ends c f t) (factor-size c f t)
-
--- at most 220,000,000 euros a flow
-pub worth-most : (c : Curve) → CurveWithin c → (e : End) (t : ℕ) (flows : List ℕ) → ((i : ℕ) → i < length flows → getD flows i 0 ≤ 100000000)
-    → Rounded.worth e (Rounded.factor c e) t flows ≤ 22 * 10 ^ 9 * length flows
-unfolding Rounded.worth
-worth-most c f e t [] h = omega arith
-worth-most c f e t (x ∷ xs) h =
-    omega (
-      arith,
-      divide-le e (x * Rounded.factor c e t) (10 ^ 10) (22 * 10 ^ 9) (omega arith)
-          (le-trans (mul-le-mul (h 0 (omega arith)) (factor-most c f e t)) (omega arith)),
-      worth-most c f e (suc t) xs (λ i l. h (suc i) (omega arith)),
-    )
 
 -- a product of an amount and thousandths
 times-most : (a b x y : ℕ) → a ≤ x → b ≤ y → a * b ≤ x * y
@@ -50,20 +37,32 @@ buffer-most e c a1 a2 a3 a4 a5 a6 h =
 
 module _ (k : FileCase) (w : WithinLimits k) where
   pub L-most : (m : Move) (e : End) → Rounded.L k m e ≤ 264 * 10 ^ 10
-  L-most m e = omega (arith, worth-most (curve k m) (curve-within k w m) e 1 (k .pension) (w .pension .each), w .mostPension)
+  L-most m e =
+      let c : Curve = curve k m in
+      omega (
+        arith,
+        worth-most 22 120 e (Rounded.factor c e) (λ t h. factor-most c (curve-within k w m) e t) 1 (k .pension) (omega (arith, w .mostPension)) (w .pension .each),
+        w .mostPension,
+      )
 
-  pub B-most : (m : Move) (e : End) → Rounded.B k m e ≤ 132 * 10 ^ 10
-  B-most m e = omega (arith, worth-most (curve k m) (curve-within k w m) e 1 (k .bonds) (w .bonds .each), w .mostBonds)
+  pub B-most : (m : Move) (e : End) → Rounded.B k m e ≤ 204 * 10 ^ 10
+  B-most m e =
+      let c : Curve = curve k m in
+      omega (
+        arith,
+        worth-most 34 60 e (Rounded.unadjusted c e) (λ t h. unadjusted-most c (curve-within k w m) e t h) 1 (k .bonds) (omega (arith, w .mostBonds)) (w .bonds .each),
+        w .mostBonds,
+      )
 
-  pub A-most : (e : End) → Rounded.A k e ≤ 72 * 10 ^ 12
+  pub A-most : (e : End) → Rounded.A k e ≤ 73 * 10 ^ 12
   A-most e =
       let a = w .amounts in
       omega (arith, B-most base e, a .mature, a .emerging, a .private, a .property, a .commodities, a .credit, a .cash)
 
-  pub S1-most : (e : End) → Rounded.S1 k e ≤ 396 * 10 ^ 10
-  S1-most e = most2 (Rounded.fall k up e) (Rounded.fall k down e) (396 * 10 ^ 10) (fall-most up e) (fall-most down e)
+  pub S1-most : (e : End) → Rounded.S1 k e ≤ 468 * 10 ^ 10
+  S1-most e = most2 (Rounded.fall k up e) (Rounded.fall k down e) (468 * 10 ^ 10) (fall-most up e) (fall-most down e)
     where
-      fall-most : (m : Move) (e : End) → Rounded.fall k m e ≤ 396 * 10 ^ 10
+      fall-most : (m : Move) (e : End) → Rounded.fall k m e ≤ 468 * 10 ^ 10
       fall-most m e = omega (arith, B-most base e, L-most m e)
 
       most2 : (a b c : ℕ) → a ≤ c → b ≤ c → max 0 (max a b) ≤ c
@@ -109,7 +108,7 @@ module _ (k : FileCase) (w : WithinLimits k) where
       root-le e (l * l * mortality h d) (256000000 * h) l (omega (arith, w .people .some))
       (mul-le-mul-left (l * l) (share h d (w .people .some) (omega (arith, w .people .pensionAge))))
 
-  pub S-most : (e : End) → Rounded.S k e ≤ 117 * 10 ^ 12
+  pub S-most : (e : End) → Rounded.S k e ≤ 118 * 10 ^ 12
   S-most e =
       omega (
         arith,

@@ -17,7 +17,7 @@ use Rattle.model.specs.Rounded as Rounded
 use Rattle.model.specs.Rounded.{mortality, buffer}
 use Rattle.model.specs.Margins.{WL, WB}
 use Rattle.theory.proofs.curve.CaseCurves.{curve-within}
-use Rattle.theory.proofs.money.Money.{worth-width}
+use Rattle.theory.proofs.money.Worth.{adjusted-known, unadjusted-known, worth-width}
 
 -- what is under the root of the buffer, times 1,000
 abbrev squares : ℕ → ℕ → ℕ → ℕ → ℕ → ℕ → ℕ → ℕ
@@ -102,10 +102,10 @@ max-wide a b c d v h k = omega arith
 
 module _ (k : FileCase) (w : WithinLimits k) where
   pub L-width : (m : Move) → Rounded.L k m high ≤ Rounded.L k m low + WL k
-  L-width m = worth-width (curve k m) (curve-within k w m) (k .pension)
+  L-width m = worth-width (adjusted-known (curve k m) (curve-within k w m)) (k .pension) (w .mostPension)
 
   pub B-width : (m : Move) → Rounded.B k m high ≤ Rounded.B k m low + WB k
-  B-width m = worth-width (curve k m) (curve-within k w m) (k .bonds)
+  B-width m = worth-width (unadjusted-known (curve k m) (curve-within k w m)) (k .bonds) (w .mostBonds)
 
   pub A-width : Rounded.A k high ≤ Rounded.A k low + WB k
   A-width = omega (arith, B-width base)

@@ -18,7 +18,7 @@ returns c =
     let second = c .before .before .before .before in
     let first = second .before .before .before .before in
     let a = first .before .before .before .before .args in
-    money-at (a .t1) (a .c) _ _ _ (first .worths-of .ensures .0) (second .worths-of2 .ensures .0) (c .money-by .ensures)
+    money-at (a .t1) (a .c) (a .b) _ _ _ (first .worths-of .ensures .0) (second .worths-of2 .ensures .0) (c .money-by .ensures)
 
 pub money-on-spec : {M : Type 1} → statement M
 money-on-spec =

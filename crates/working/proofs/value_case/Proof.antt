@@ -1,7 +1,7 @@
 -- `working::value_case` meets its contract. Assumes nothing.
 use mathlib.Core.Path.{refl}
 use borrow.Author.Needs.{needs}
-use Rattle.working.proofs.Working.{curves-fit, rates-within, valued}
+use Rattle.working.proofs.Working.{curves-fit, bond-curves-fit, rates-within, valued}
 use Rattle.working.proofs.value_case.Statement.{statement}
 use Rattle.working.proofs.value_case.Tie as tie
 
@@ -19,11 +19,14 @@ fill-factors-requires c κs = search needs
 fill-rates-requires : tie.Need-fill-rates-requires
 fill-rates-requires c κs = search needs
 
+bond-curves-of-requires : tie.Need-bond-curves-of-requires
+bond-curves-of-requires c κs = search needs
+
 money-on-requires : tie.Need-money-on-requires
 money-on-requires c κs =
-    let made = c .before .before .before .before .before .before .before .before .before in
+    let made = c .before .before .before .before .before .before .before .before .before .before in
     let fits = made .before .before .pre .0 in
-    (fits, curves-fit fits _ (made .curves-of .ensures))
+    (fits, curves-fit fits _ (made .curves-of .ensures), bond-curves-fit fits _ (c .bond-curves-of .ensures))
 
 same-length : tie.Need-same-length
 same-length c = search needs
@@ -33,13 +36,13 @@ same-length-2 c = search needs
 
 returns : tie.Need-returns
 returns c =
-    let filled = c .before .before .before .before .before .before .before in
+    let filled = c .before .before .before .before .before .before .before .before in
     let rated = filled .before .before in
     let made = rated .before .before in
     let start = made .before .before in
-    valued (start .pre .0) _ (made .curves-of .ensures) _ (c .before .money-on .ensures) _ _ (start .args .factors .now) _ _
+    valued (start .pre .0) _ _ (made .curves-of .ensures) (c .before .before .bond-curves-of .ensures) _ (c .before .money-on .ensures) _ _ (start .args .factors .now) _ _
     (start .args .rates .now) refl (rated .zero-rates .ensures) (filled .fill-factors .ensures)
-    (c .before .before .before .fill-rates .ensures)
+    (c .before .before .before .before .fill-rates .ensures)
 
 pub value-case-spec : {M : Type 1} → statement M
 value-case-spec =
@@ -49,6 +52,7 @@ value-case-spec =
     zero-rates-requires
     fill-factors-requires
     fill-rates-requires
+    bond-curves-of-requires
     money-on-requires
     same-length
     same-length-2

@@ -1,5 +1,6 @@
 -- The range in which a case that the engine holds is worked out: what the reader leaves true of every case that it accepts.
 use Prim.Native.Nat.{_≤_}
+use Rattle.model.specs.Constants.{lastMarketTerm}
 use Rattle.model.specs.Limits.{AmountsWithin, ShocksWithin, PeopleWithin}
 use Rattle.model.specs.Curve.{Move, base}
 use Rattle.model.specs.inner.CurveWithin.{CurveWithin, BaseWithin}
@@ -13,6 +14,7 @@ pub record CaseFits (c : Case) : Type 0 where
   pub curves : (m : Move) → CurveWithin (curveHeld c m)
   pub pension : FlowsFit (c .pension) (c .«pension_count»)
   pub bonds : FlowsFit (c .bonds) (c .«bond_count»)
+  pub bondTerms : c .«bond_count» ≤ lastMarketTerm
   pub amounts : AmountsWithin (c .amounts)
   pub shocks : ShocksWithin (c .shocks)
   pub people : PeopleWithin (c .people)

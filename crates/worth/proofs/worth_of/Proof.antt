@@ -15,8 +15,8 @@ Inv-loop flows count factors lower₀ upper₀ i₀ lower upper i =
     (i ≤ count)
     × (lower ≡ worth low (entryOf factors low) 1 (take i flows))
     × (upper ≡ worth high (entryOf factors high) 1 (take i flows))
-    × (lower ≤ 22 * 10 ^ 9 * i)
-    × (upper ≤ 22 * 10 ^ 9 * i)
+    × (lower ≤ 34 * 10 ^ 9 * i)
+    × (upper ≤ 34 * 10 ^ 9 * i)
 
 abbrev μ-loop : tie.MeasureT-loop
 μ-loop flows count factors lower₀ upper₀ i₀ lower upper i = count - i
@@ -37,7 +37,7 @@ mul-low-factor-2 : tie.Need-mul-low-factor-2 Inv-loop μ-loop
 mul-low-factor-2 c = omega arith
 
 shared-slice-read-low-factor : tie.Need-shared-slice-read-low-factor Inv-loop μ-loop
-shared-slice-read-low-factor c = let p = c .before .before .before .before .before .before .pre in omega (arith, p .0 .few, p .1 .terms)
+shared-slice-read-low-factor c = let p = c .before .before .before .before .before .before .pre in omega (arith, p .1 .terms)
 
 mul-high-factor : tie.Need-mul-high-factor Inv-loop μ-loop
 mul-high-factor c = omega arith
@@ -49,31 +49,31 @@ mul-high-factor-2 : tie.Need-mul-high-factor-2 Inv-loop μ-loop
 mul-high-factor-2 c = omega arith
 
 shared-slice-read-high-factor : tie.Need-shared-slice-read-high-factor Inv-loop μ-loop
-shared-slice-read-high-factor c = let p = c .before .before .before .before .before .before .before .pre in omega (arith, p .0 .few, p .1 .terms)
+shared-slice-read-high-factor c = let p = c .before .before .before .before .before .before .before .pre in omega (arith, p .1 .terms)
 
 mul-div-floor-requires : tie.Need-mul-div-floor-requires Inv-loop μ-loop
 mul-div-floor-requires c κs =
     let p = c .before .before .before .before .before .before .before .pre in
     let l = c .before .before .before .before .loop in
-    flow-range _ _ (p .0 .flow (l .i) (omega arith)) (low-most _ (l .i) (p .1) (omega (arith, p .0 .few)))
+    flow-range _ _ (p .0 .flow (l .i) (omega arith)) (low-most _ _ (l .i) (p .1) (omega arith))
 
 mul-div-ceil-requires : tie.Need-mul-div-ceil-requires Inv-loop μ-loop
 mul-div-ceil-requires c κs =
     let p = c .before .before .before .before .before .before .before .before .pre in
     let l = c .before .before .before .before .before .loop in
-    flow-range _ _ (p .0 .flow (l .i) (omega arith)) (high-most _ (l .i) (p .1) (omega (arith, p .0 .few)))
+    flow-range _ _ (p .0 .flow (l .i) (omega arith)) (high-most _ _ (l .i) (p .1) (omega arith))
 
 add-lower : tie.Need-add-lower Inv-loop μ-loop
 add-lower c =
     let p = c .before .before .before .before .before .before .before .before .before .pre in
     let l = c .before .before .before .before .before .before .loop in
-    omega (arith, p .0 .few, flow-most low _ _ _ (p .0 .flow (l .i) (omega arith)) (low-most _ (l .i) (p .1) (omega (arith, p .0 .few))) (c .before .mul-div-floor .ensures))
+    omega (arith, p .0 .few, flow-most low _ _ _ (p .0 .flow (l .i) (omega arith)) (low-most _ _ (l .i) (p .1) (omega arith)) (c .before .mul-div-floor .ensures))
 
 add-upper : tie.Need-add-upper Inv-loop μ-loop
 add-upper c =
     let p = c .before .before .before .before .before .before .before .before .before .pre in
     let l = c .before .before .before .before .before .before .loop in
-    omega (arith, p .0 .few, flow-most high _ _ _ (p .0 .flow (l .i) (omega arith)) (high-most _ (l .i) (p .1) (omega (arith, p .0 .few))) (c .mul-div-ceil .ensures))
+    omega (arith, p .0 .few, flow-most high _ _ _ (p .0 .flow (l .i) (omega arith)) (high-most _ _ (l .i) (p .1) (omega arith)) (c .mul-div-ceil .ensures))
 
 add-i : tie.Need-add-i Inv-loop μ-loop
 add-i c = omega arith
@@ -89,8 +89,8 @@ loop-again c =
       omega arith,
       worth-next low _ _ (l .i) _ _ h (l .inv .1) (rw (factor-low _ (l .i)) (c .before .mul-div-floor .ensures)),
       worth-next high _ _ (l .i) _ _ h (l .inv .2) (rw (factor-high _ (l .i)) (c .mul-div-ceil .ensures)),
-      omega (arith, flow-most low _ _ _ (p .0 .flow (l .i) (omega arith)) (low-most _ (l .i) (p .1) (omega (arith, p .0 .few))) (c .before .mul-div-floor .ensures)),
-      omega (arith, flow-most high _ _ _ (p .0 .flow (l .i) (omega arith)) (high-most _ (l .i) (p .1) (omega (arith, p .0 .few))) (c .mul-div-ceil .ensures)),
+      omega (arith, flow-most low _ _ _ (p .0 .flow (l .i) (omega arith)) (low-most _ _ (l .i) (p .1) (omega arith)) (c .before .mul-div-floor .ensures)),
+      omega (arith, flow-most high _ _ _ (p .0 .flow (l .i) (omega arith)) (high-most _ _ (l .i) (p .1) (omega arith)) (c .mul-div-ceil .ensures)),
     )
 
 returns : tie.Need-returns Inv-loop μ-loop

@@ -14,24 +14,24 @@ pub record FlowsFit (flows : List ℕ) (count : ℕ) : Type 0 where
   pub there : count ≤ length flows
   pub flow : (i : ℕ) → i < count → getD flows i 0 ≤ 100000000
 
--- two factors a term, of at most 2.2
-pub record FactorsFit (factors : List ℕ) : Type 0 where
-  pub terms : 240 ≤ length factors
-  pub factor : (e : End) (t : ℕ) → 1 ≤ t → t ≤ 120 → entryOf factors e t ≤ 22 * 10 ^ 11
+-- two factors for each of `count` terms, of at most 3.4, which only an unadjusted factor comes near
+pub record FactorsFit (factors : List ℕ) (count : ℕ) : Type 0 where
+  pub terms : 2 * count ≤ length factors
+  pub factor : (e : End) (t : ℕ) → 1 ≤ t → t ≤ count → entryOf factors e t ≤ 34 * 10 ^ 11
 
-pub record CurvesFit (c : Curves) : Type 0 where
-  pub base : FactorsFit (c .base)
-  pub up : FactorsFit (c .up)
-  pub down : FactorsFit (c .down)
+pub record CurvesFit (c : Curves) (count : ℕ) : Type 0 where
+  pub base : FactorsFit (c .base) count
+  pub up : FactorsFit (c .up) count
+  pub down : FactorsFit (c .down) count
 
 -- a bracket whose ends are at most `most` cents
 pub record UpTo (most : ℕ) (b : Bracket) : Type 0 where
   pub lower : b .lower ≤ most
   pub upper : b .upper ≤ most
 
--- the worth of 120 such flows
+-- the worth of 120 such flows at such factors
 abbrev pub WorthFits : Bracket → Type 0
-WorthFits b = UpTo (264 * 10 ^ 10) b
+WorthFits b = UpTo (408 * 10 ^ 10) b
 
 pub record WorthsFit (w : Worths) : Type 0 where
   pub base : WorthFits (w .base)

@@ -2,7 +2,8 @@
 use native.Mathlib.Omega.{arith}
 use borrow.Author.Needs.{needs}
 use Rattle.curve.proofs.Curves.{ufr-most}
-use Rattle.curve.proofs.factor.Discounts.{first-within, first-is, late-within, late-is, cross-within, next-is}
+use Rattle.curve.proofs.UnadjustedLaws.{unadjusted-within}
+use Rattle.curve.proofs.factor.Discounts.{first-is, late-within, late-is, cross-within, next-is}
 use Rattle.curve.proofs.factor.factor_of_term.Statement.{statement}
 use Rattle.curve.proofs.factor.factor_of_term.Tie as tie
 
@@ -12,11 +13,11 @@ mul-p c = search needs
 element-copy-out-p : tie.Need-element-copy-out-p
 element-copy-out-p c = search needs
 
-unweighed-factor-requires : tie.Need-unweighed-factor-requires
-unweighed-factor-requires c κs = first-within _ _ _ (c .before .before .pre) (c .before .if1 .taken)
+over-years-requires : tie.Need-over-years-requires
+over-years-requires c κs = unadjusted-within _ (c .before .before .pre .curve) _ (omega arith)
 
 returns : tie.Need-returns
-returns c = first-is _ _ _ (c .before .before .before .pre .some) (c .before .before .if1 .taken) (c .unweighed-factor .ensures)
+returns c = first-is _ _ _ (c .before .before .if1 .taken) (c .over-years .ensures)
 
 add-times-both : tie.Need-add-times-both
 add-times-both c = omega (arith, ufr-most _ (c .before .before .pre .curve))
@@ -42,7 +43,7 @@ factor-of-term-spec =
     (tie.spec
     mul-p
     element-copy-out-p
-    unweighed-factor-requires
+    over-years-requires
     returns
     add-times-both
     times-both-requires

@@ -4,7 +4,7 @@ use native.Mathlib.Omega.{arith}
 use Rattle.arith.specs.Rounding.{divide}
 use Rattle.model.specs.Brackets.{endOf}
 use Rattle.theory.proofs.general.ByEnds.{bracket-by}
-use Rattle.curve.proofs.Years.{short-way, long-way}
+use Rattle.curve.proofs.YearLaws.{short-way, long-way}
 use Rattle.curve.proofs.times.times_both.Statement.{statement}
 use Rattle.curve.proofs.times.times_both.Tie as tie
 

@@ -3,10 +3,11 @@ use Prim.Native.Nat.{ℕ, zero, suc, _+_, _*_, _-_, _^_, _≤_, _<_}
 use mathlib.Core.Path.{_≡_, refl, sym, _∙_}
 use native.Mathlib.Omega.{arith}
 use native.Mathlib.Numerals.{add-one}
-use native.Mathlib.Nat.{mul-le-mul, mul-le-mul-right}
+use native.Mathlib.Nat.{mul-le-mul, mul-le-mul-left, mul-le-mul-right, le-of-mul-le-mul-right, lt-of-le-of-lt}
+use lib.Dec.{lit<}
 use Rattle.arith.specs.inner.Range.{Small, InRange}
 use Rattle.arith.specs.Rounding.{End, low, high, divide}
-use Rattle.arith.proofs.Rounding.{divide-floor, le-divide}
+use Rattle.arith.proofs.Rounding.{divide-floor, divide-ceiling, divide-le, le-divide}
 use Rattle.model.specs.Constants.{unit}
 use Rattle.model.specs.Rounded.{scaled}
 use Rattle.model.specs.Brackets.{bracket, endOf}
@@ -94,19 +95,59 @@ after-years e a b i (suc j) = let k : i + suc j ≡ suc i + j = omega arith in r
 pub all-taken : (e : End) (a b j : ℕ) → scaledFrom e a b unit j ≡ scaled e a b j
 all-taken e a b j = let k : 0 + j ≡ j = omega arith in rw (← scaled-none e a b) (rw k at (after-years e a b 0 j))
 
-pub start-within : (a b j : ℕ) → ScaledWithin a b j → YearsWithin a b unit unit j
-start-within a b j w = record {
+-- Where shares of at most a half are added in all years together, no result reaches 2^41. The share of a year, with a whole number of
+-- units for its rounding, is g at most.
+module _ (a b j : ℕ) (some : 0 < b) (years : 0 < j) (few : j ≤ 60) (short : 2 * j * a ≤ (2 * j + 1) * b) where
+  g : ℕ
+  g = divide high (219 * 10 ^ 10) (2 * j)
+
+  g-ceiling : (219 * 10 ^ 10 ≤ g * (2 * j)) × (g * (2 * j) < 219 * 10 ^ 10 + 2 * j)
+  unfolding g
+  g-ceiling = divide-ceiling (219 * 10 ^ 10) (2 * j) (omega arith)
+
+  below : (i x : ℕ) → i ≤ j → x ≤ unit + i * g → x ≤ 219 * 10 ^ 10
+  below i x h k = omega (arith, mul-le-mul-right g h, g-ceiling .1)
+
+  linear : (i : ℕ) → i ≤ j → scaled high a b i ≤ unit + i * g
+  unfolding scaled
+  linear zero h = omega arith
+  linear (suc i) h =
+      let x : ℕ = scaled high a b i in
+      let ih : x ≤ unit + i * g = linear i (omega arith) in
+      let next : x * a ≤ (x + g) * b =
+      le-of-mul-le-mul-right {m = x * a} {n = (x + g) * b} {k = 2 * j}
+      (omega (arith, mul-le-mul-left x short, mul-le-mul-right b (below i x (omega arith) ih), mul-le-mul-right b (g-ceiling .0))) (omega arith) in
+      omega (arith, divide-le high (x * a) b (x + g) some next, ih)
+
+  all-short : (i : ℕ) → i ≤ j → scaled high a b i < 2 ^ 41
+  all-short i h = omega (arith, below i (scaled high a b i) h (linear i h))
+
+short-at : (a b j i : ℕ) → 0 < b → j ≤ 60 → 2 * j * a ≤ (2 * j + 1) * b → i ≤ j → scaled high a b i < 2 ^ 41
+short-at a b zero zero some few short h = rw (scaled-none high a b) (lit< tt)
+short-at a b zero (suc i) some few short h = absurd (let z : ⊥ = omega arith in z)
+short-at a b (suc j) i some few short h = all-short a b (suc j) some (omega arith) few short i h
+
+-- the products of that test fit
+pub twice-fits : (j x : ℕ) → j ≤ 60 → x ≤ 2 ^ 40 → (2 * j + 1) * x < 2 ^ 64
+twice-fits j x h k = lt-of-le-of-lt (mul-le-mul {n₁ = 2 * j + 1} {m₁ = x} {n₂ = 121} {m₂ = 2 ^ 40} (omega arith) k) (lit< tt)
+
+pub start-within : (a b j : ℕ) → ScaledWithin a b j → a < 2 ^ 23 → 2 * j * a ≤ (2 * j + 1) * b → YearsWithin a b unit unit j
+start-within a b j w small short = record {
+  small = small;
   some = w .some;
   most = w .most;
-  ratio = w .ratio;
   order = omega arith;
-  years = λ i h. rw (all-taken high a b i) (w .years i h);
+  years = λ i h. rw (all-taken high a b i) (short-at a b j i (w .some) (w .few) short h);
 }
 
 module _ (a b x y j : ℕ) (w : YearsWithin a b x y j) where
-  pub ends-within : TimesWithin (record { lower = x; upper = y }) a b
+  pub upper-short : Small y a b
   unfolding scaledFrom
-  ends-within = record { order = w .order; upper = w .years 0 (omega arith); some = w .some; most = w .most; ratio = w .ratio }
+  upper-short = short-way y a b (w .some) (w .most) (w .small) (w .years 0 (omega arith))
+
+  pub lower-short : Small x a b
+  unfolding scaledFrom
+  lower-short = short-way x a b (w .some) (w .most) (w .small) (let h : y < 2 ^ 41 = w .years 0 (omega arith) in omega (arith, h, w .order))
 
   ends-order : divide low (x * a) b ≤ divide high (y * a) b
   ends-order =
@@ -114,19 +155,18 @@ module _ (a b x y j : ℕ) (w : YearsWithin a b x y j) where
       (omega (arith, divide-floor (x * a) b (w .some), mul-le-mul-right a (w .order)))
 
   -- one year is taken, and the others are left
-  module _ (r : Bracket) (some : 0 < j) (k : r ≡ bracket (λ e. divide e (endOf (record { lower = x; upper = y }) e * a) b)) where
-    once : (e : End) → endOf r e ≡ divide e (endOf (record { lower = x; upper = y }) e * a) b
-    once = end-is r (λ e. divide e (endOf (record { lower = x; upper = y }) e * a) b) k
-
-    pub year-less : YearsWithin a b (r .lower) (r .upper) (j - 1)
+  module _ (some : 0 < j) (l u : ℕ) (p : l ≡ divide low (x * a) b) (q : u ≡ divide high (y * a) b) where
+    pub year-less : YearsWithin a b l u (j - 1)
     unfolding scaledFrom
     year-less = record {
+      small = w .small;
       some = w .some;
       most = w .most;
-      ratio = w .ratio;
-      order = rw (once low, once high) ends-order;
-      years = λ i m. rw (once high) (w .years (suc i) (omega arith));
+      order = rw (p, q) ends-order;
+      years = λ i m. rw q (w .years (suc i) (omega arith));
     }
 
-    pub then-others : (e : End) (z : ℕ) → z ≡ scaledFrom e a b (endOf r e) (j - 1) → z ≡ scaledFrom e a b (endOf (record { lower = x; upper = y }) e) j
-    then-others e z h = h ∙ rw (once e) (first-year e a b (endOf (record { lower = x; upper = y }) e) j some)
+    pub then-others : (e : End) (z : ℕ) → z ≡ scaledFrom e a b (endOf (record { lower = l; upper = u }) e) (j - 1)
+        → z ≡ scaledFrom e a b (endOf (record { lower = x; upper = y }) e) j
+    then-others low z h = h ∙ rw p (first-year low a b x j some)
+    then-others high z h = h ∙ rw q (first-year high a b y j some)

@@ -33,8 +33,9 @@ use Rattle.worth.specs.inner.Ranges.{FlowsFit, FactorsFit, CurvesFit}
 use Rattle.solvency.specs.declared.figures.Money.{Money}
 use Rattle.worth.specs.declared.Worths.{Worths}
 use Rattle.worth.specs.declared.Curves.{Curves}
-use Rattle.working.specs.inner.Ranges.{CaseFits}
-use Rattle.working.specs.inner.Working.{factorsOn, curvesOn, lastUnadjusted, bondFactorsOn, bondCurvesOn, ratesOn, owed, bonds, moneyOn, moneyOf}
+use Rattle.working.specs.inner.Ranges.{CaseFits, SumsFit}
+use Rattle.working.specs.declared.Sums.{Sums}
+use Rattle.working.specs.inner.Working.{sumsOn, factorsBy, factorsOn, curvesBy, lastUnadjusted, bondFactorsBy, bondCurvesBy, ratesOn, owed, bonds, moneyOn, moneyOf}
 
 -- ---- the curves
 -- the base curve's sums are the case's own
@@ -61,22 +62,14 @@ module _ {c : Case} (h : CaseFits c) where
     lessMost = shift-most m .1;
   }
 
-pub sums-within : {c : Case} (m : Move) (s : CurveSums) → CaseFits c → s ≡ movedSums m c → FactorsWithin s
-sums-within {c} m s h e =
-    subst FactorsWithin (sym e) (record { within = h .curves m; most = omega (arith, N-of (movedSums m c), N-held c m, h .perStep) })
+sums-within : {c : Case} (m : Move) → CaseFits c → FactorsWithin (movedSums m c)
+sums-within {c} m h = record { within = h .curves m; most = omega (arith, N-of (movedSums m c), N-held c m, h .perStep) }
 
-pub factors-are : (c : Case) (m : Move) (s : CurveSums) (r : List ℕ) → s ≡ movedSums m c → r ≡ byTerm (Rounded.factor (curveOf s)) 120 → r ≡ factorsOn c m
-factors-are c m s r e f = f ∙ ap (λ (x : CurveSums). byTerm (Rounded.factor (curveOf x)) 120) e
-
--- what `unadjusted_factors` asks of the adjusted factors, and what it gives
-pub adjusted-by : (c : Case) (m : Move) (s : CurveSums) (r : List ℕ) → s ≡ movedSums m c → r ≡ factorsOn c m → r ≡ byTerm (Rounded.factor (curveOf s)) 120
-adjusted-by c m s r e f = f ∙ ap (λ (x : CurveSums). byTerm (Rounded.factor (curveOf x)) 120) (sym e)
-
-pub bond-factors-are : (c : Case) (m : Move) (s : CurveSums) (r adjusted : List ℕ) → s ≡ movedSums m c → adjusted ≡ factorsOn c m
-    → r ≡ byTerm (Rounded.unadjusted (curveOf s)) (lastUnadjusted c) ++ drop (2 * lastUnadjusted c) adjusted → r ≡ bondFactorsOn c m
-bond-factors-are c m s r adjusted e a f =
-    f ∙ ap (λ (x : CurveSums). byTerm (Rounded.unadjusted (curveOf x)) (lastUnadjusted c) ++ drop (2 * lastUnadjusted c) adjusted) e
-    ∙ ap (λ (x : List ℕ). byTerm (Rounded.unadjusted (curveHeld c m)) (lastUnadjusted c) ++ drop (2 * lastUnadjusted c) x) a
+-- what `unadjusted_factors` gives, by the adjusted factors that it is handed
+pub bond-factors-are : (s : CurveSums) (count : ℕ) (r adjusted : List ℕ) → adjusted ≡ factorsBy s
+    → r ≡ byTerm (Rounded.unadjusted (curveOf s)) (lastUnadjusted count) ++ drop (2 * lastUnadjusted count) adjusted → r ≡ bondFactorsBy count s
+bond-factors-are s count r adjusted e f =
+    f ∙ ap (λ (x : List ℕ). byTerm (Rounded.unadjusted (curveOf s)) (lastUnadjusted count) ++ drop (2 * lastUnadjusted count) x) e
 
 -- ---- the entries of three curves: those of f, at the terms to `last`
 abbrev EntriesOf : (Move → End → ℕ → ℕ) → ℕ → Curves → Type 0
@@ -88,15 +81,15 @@ adjusted c m = Rounded.factor (curveHeld c m)
 abbrev unadjusted : Case → Move → End → ℕ → ℕ
 unadjusted c m = Rounded.unadjusted (curveHeld c m)
 
-own-entries : (c : Case) → EntriesOf (adjusted c) 120 (curvesOn c)
+own-entries : (c : Case) → EntriesOf (adjusted c) 120 (curvesBy (sumsOn c))
 own-entries c base = entry-is (adjusted c base) 120
 own-entries c up = entry-is (adjusted c up) 120
 own-entries c down = entry-is (adjusted c down) 120
 
-bond-entries : (c : Case) → EntriesOf (unadjusted c) (lastUnadjusted c) (bondCurvesOn c)
-bond-entries c base = entry-in (unadjusted c base) (lastUnadjusted c) (drop (2 * lastUnadjusted c) (factorsOn c base))
-bond-entries c up = entry-in (unadjusted c up) (lastUnadjusted c) (drop (2 * lastUnadjusted c) (factorsOn c up))
-bond-entries c down = entry-in (unadjusted c down) (lastUnadjusted c) (drop (2 * lastUnadjusted c) (factorsOn c down))
+bond-entries : (c : Case) → EntriesOf (unadjusted c) (lastUnadjusted (c .«bond_count»)) (bondCurvesBy (sumsOn c) (c .«bond_count»))
+bond-entries c base = entry-in (unadjusted c base) (lastUnadjusted (c .«bond_count»)) (drop (2 * lastUnadjusted (c .«bond_count»)) (factorsOn c base))
+bond-entries c up = entry-in (unadjusted c up) (lastUnadjusted (c .«bond_count»)) (drop (2 * lastUnadjusted (c .«bond_count»)) (factorsOn c up))
+bond-entries c down = entry-in (unadjusted c down) (lastUnadjusted (c .«bond_count»)) (drop (2 * lastUnadjusted (c .«bond_count»)) (factorsOn c down))
 
 -- they fit, where none is above 3.4
 module _ {c : Case} (h : CaseFits c) where
@@ -106,27 +99,39 @@ module _ {c : Case} (h : CaseFits c) where
     factor = λ e t i k. rw (entry-is (adjusted c m) 120 e t i (le-trans k l)) (le-trans (factor-most (curveHeld c m) (h .curves m) e t) (lit≤ tt));
   }
 
-  bond-fit : (m : Move) → FactorsFit (bondFactorsOn c m) (c .«bond_count»)
+  bond-fit : (m : Move) → FactorsFit (bondFactorsBy (c .«bond_count») (movedSums m c)) (c .«bond_count»)
   bond-fit m =
-      let n : ℕ = lastUnadjusted c in
+      let n : ℕ = lastUnadjusted (c .«bond_count») in
       let later : List ℕ = drop (2 * n) (factorsOn c m) in record {
         terms = omega (arith, length-append (byTerm (unadjusted c m) n) later, length-byTerm (unadjusted c m) n);
         factor = λ e t i k.
             rw (entry-in (unadjusted c m) n later e t i (omega arith)) (unadjusted-most (curveHeld c m) (h .curves m) e t (le-trans k (h .bondTerms)));
       }
 
-  module _ (s : Curves) (e : s ≡ curvesOn c) where
-    pub curves-fit : CurvesFit s (c .«pension_count»)
-    curves-fit =
-        let fit = own-fit (c .«pension_count») (h .pension .few) in
-        subst (λ (x : Curves). CurvesFit x (c .«pension_count»)) (sym e) (record { base = fit base; up = fit up; down = fit down })
+  -- the factors that the code works out, by the case's own sums
+  module _ (s : Sums) (e : s ≡ sumsOn c) where
+    pub sums-fit : SumsFit s
+    sums-fit = subst SumsFit (sym e) (record { base = sums-within base h; up = sums-within up h; down = sums-within down h })
 
-    pub rates-within : RatesWithin (s .base)
-    rates-within = subst (λ (x : Curves). RatesWithin (x .base)) (sym e) (entries-within (curveHeld c base) (h .base))
+    module _ (r : Curves) (f : r ≡ curvesBy s) where
+      curves-are : r ≡ curvesBy (sumsOn c)
+      curves-are = f ∙ ap curvesBy e
 
-  pub bond-curves-fit : (b : Curves) → b ≡ bondCurvesOn c → CurvesFit b (c .«bond_count»)
-  bond-curves-fit b e =
-      subst (λ (x : Curves). CurvesFit x (c .«bond_count»)) (sym e) (record { base = bond-fit base; up = bond-fit up; down = bond-fit down })
+      pub curves-fit : CurvesFit r (c .«pension_count»)
+      curves-fit =
+          let fit = own-fit (c .«pension_count») (h .pension .few) in
+          subst (λ (x : Curves). CurvesFit x (c .«pension_count»)) (sym curves-are) (record { base = fit base; up = fit up; down = fit down })
+
+      pub rates-within : RatesWithin (r .base)
+      rates-within = subst (λ (x : Curves). RatesWithin (x .base)) (sym curves-are) (entries-within (curveHeld c base) (h .base))
+
+    module _ (b : Curves) (g : b ≡ bondCurvesBy s (c .«bond_count»)) where
+      bond-curves-are : b ≡ bondCurvesBy (sumsOn c) (c .«bond_count»)
+      bond-curves-are = g ∙ ap (λ (x : Sums). bondCurvesBy x (c .«bond_count»)) e
+
+      pub bond-curves-fit : CurvesFit b (c .«bond_count»)
+      bond-curves-fit =
+          subst (λ (x : Curves). CurvesFit x (c .«bond_count»)) (sym bond-curves-are) (record { base = bond-fit base; up = bond-fit up; down = bond-fit down })
 
 -- ---- the figures: by entries, or by the factors themselves
 flows-by : (f : Move → End → ℕ → ℕ) (last : ℕ) (s : Curves) → EntriesOf f last s → (flows : List ℕ) → length flows ≤ last
@@ -138,30 +143,32 @@ module _ {c : Case} (h : CaseFits c) where
   counted : (flows : List ℕ) (count : ℕ) → FlowsFit flows count → length (take count flows) ≡ count
   counted flows count f = length-take-le count flows (f .there)
 
-  own-money : moneyOn (factorsIn (curvesOn c)) (factorsIn (bondCurvesOn c)) c ≡ moneyOf c
+  own-money : moneyOn (factorsIn (curvesBy (sumsOn c))) (factorsIn (bondCurvesBy (sumsOn c) (c .«bond_count»))) c ≡ moneyOf c
   own-money =
       let pension : List ℕ = take (c .«pension_count») (c .pension) in
       let bond : List ℕ = take (c .«bond_count») (c .bonds) in
       let some : length pension ≤ 120 = omega (arith, counted (c .pension) (c .«pension_count») (h .pension), h .pension .few) in
-      let few : length bond ≤ lastUnadjusted c = omega (arith, counted (c .bonds) (c .«bond_count») (h .bonds)) in
-      ap (λ (l : Move → End → ℕ). moneyBy l (bonds (factorsIn (bondCurvesOn c)) c) (c .amounts) (c .shocks) (c .people))
-      (flows-by (adjusted c) 120 (curvesOn c) (own-entries c) pension some)
+      let few : length bond ≤ lastUnadjusted (c .«bond_count») = omega (arith, counted (c .bonds) (c .«bond_count») (h .bonds)) in
+      ap (λ (l : Move → End → ℕ). moneyBy l (bonds (factorsIn (bondCurvesBy (sumsOn c) (c .«bond_count»))) c) (c .amounts) (c .shocks) (c .people))
+      (flows-by (adjusted c) 120 (curvesBy (sumsOn c)) (own-entries c) pension some)
       ∙ ap (λ (b : Move → End → ℕ). moneyBy (owed (adjusted c) c) b (c .amounts) (c .shocks) (c .people))
-      (flows-by (unadjusted c) (lastUnadjusted c) (bondCurvesOn c) (bond-entries c) bond few)
+      (flows-by (unadjusted c) (lastUnadjusted (c .«bond_count»)) (bondCurvesBy (sumsOn c) (c .«bond_count»)) (bond-entries c) bond few)
 
-  module _ (s b : Curves) (e : s ≡ curvesOn c) (d : b ≡ bondCurvesOn c) (r : Money) (g : r ≡ moneyOn (factorsIn s) (factorsIn b) c) where
-    pub money-is : r ≡ moneyOf c
+  module _ (s : Sums) (e : s ≡ sumsOn c) (r : Curves) (f : r ≡ curvesBy s) (b : Curves) (g : b ≡ bondCurvesBy s (c .«bond_count»))
+      (money : Money) (i : money ≡ moneyOn (factorsIn r) (factorsIn b) c) where
+    pub money-is : money ≡ moneyOf c
     money-is =
-        g ∙ ap (λ (x : Curves). moneyOn (factorsIn x) (factorsIn b) c) e ∙ ap (λ (x : Curves). moneyOn (factorsIn (curvesOn c)) (factorsIn x) c) d
+        i ∙ ap (λ (x : Curves). moneyOn (factorsIn x) (factorsIn b) c) (curves-are h s e r f)
+        ∙ ap (λ (x : Curves). moneyOn (factorsIn (curvesBy (sumsOn c))) (factorsIn x) c) (bond-curves-are h s e b g)
         ∙ own-money
 
     -- `value_case`: the answer, and both buffers at the end
-    pub valued : (a f f₀ : List ℕ) (z y y₀ : List ℤ) → a ≡ s .base → z ≡ byTerm (rateOf (entryOf a)) 120 → f ≡ a ++ drop 240 f₀ → y ≡ z ++ drop 240 y₀
-        → (Valued (r .figures) (r .verdict) ≡ Valued (moneyOf c .figures) (moneyOf c .verdict)) × ((f ≡ factorsOn c base ++ drop 240 f₀) × (y ≡ ratesOn c ++ drop 240 y₀))
-    valued a f f₀ z y y₀ i j k l =
-        let x : a ≡ factorsOn c base = i ∙ ap (λ (w : Curves). w .base) e in
-        let q : z ≡ ratesOn c = j ∙ ap (λ (w : List ℕ). byTerm (rateOf (entryOf w)) 120) x ∙ rates-of-entries (Rounded.factor (curveHeld c base)) in
-        (ap (λ (w : Money). Valued (w .figures) (w .verdict)) money-is, (k ∙ ap (λ (w : List ℕ). w ++ drop 240 f₀) x, l ∙ ap (λ (w : List ℤ). w ++ drop 240 y₀) q))
+    pub valued : (a k k₀ : List ℕ) (z y y₀ : List ℤ) → a ≡ r .base → z ≡ byTerm (rateOf (entryOf a)) 120 → k ≡ a ++ drop 240 k₀ → y ≡ z ++ drop 240 y₀
+        → (Valued (money .figures) (money .verdict) ≡ Valued (moneyOf c .figures) (moneyOf c .verdict)) × ((k ≡ factorsOn c base ++ drop 240 k₀) × (y ≡ ratesOn c ++ drop 240 y₀))
+    valued a k k₀ z y y₀ j l m n =
+        let x : a ≡ factorsOn c base = j ∙ ap (λ (w : Curves). w .base) (curves-are h s e r f) in
+        let q : z ≡ ratesOn c = l ∙ ap (λ (w : List ℕ). byTerm (rateOf (entryOf w)) 120) x ∙ rates-of-entries (Rounded.factor (curveHeld c base)) in
+        (ap (λ (w : Money). Valued (w .figures) (w .verdict)) money-is, (m ∙ ap (λ (w : List ℕ). w ++ drop 240 k₀) x, n ∙ ap (λ (w : List ℤ). w ++ drop 240 y₀) q))
 
 -- ---- at any factors
 on-worths : (f : Move → End → ℕ) → on (worths f) ≡ f

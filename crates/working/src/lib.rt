@@ -10,9 +10,10 @@ ghost use Rattle.model.specs.Curve.{base};
 ghost use Rattle.model.specs.declared.figures.Valuation.the-variants.{Valued};
 ghost use Rattle.worth.specs.inner.OnCurves.{factorsIn};
 ghost use Rattle.worth.specs.inner.Ranges.{CurvesFit};
-ghost use Rattle.working.specs.inner.Working.{factorsOn, curvesOn, bondCurvesOn, ratesOn, moneyOn, moneyOf};
-ghost use Rattle.working.specs.inner.Ranges.{CaseFits};
+ghost use Rattle.working.specs.inner.Working.{sumsOn, factorsOn, curvesBy, bondCurvesBy, ratesOn, moneyOn, moneyOf};
+ghost use Rattle.working.specs.inner.Ranges.{CaseFits, SumsFit};
 use curve::factor::factors;
+use curve::shift::CurveSums;
 use curve::shift::shifted_curve;
 use curve::unadjusted::unadjusted_factors;
 use fill::fill_factors;
@@ -25,43 +26,45 @@ use worth::Curves;
 use worth::worths_of;
 use zerorates::rates::zero_rates;
 
-// The adjusted factors of the base curve alone.
-pub fn factors_of(case: Case) -> [u64; 240]
-    requires { ⌜ CaseFits case ⌝ }
-    ensures { λ r. ⌜ r ≡ factorsOn case base ⌝ }
-{
-    let base_curve = shifted_curve(case, 0, 0);
-    factors(base_curve)
+// N and the sums P(t) of the base, the up and the down curve.
+pub struct Sums {
+    pub base: CurveSums,
+    pub up: CurveSums,
+    pub down: CurveSums,
 }
 
-// The adjusted factors of the base, the up and the down curve.
-pub fn curves_of(case: Case) -> Curves
+pub fn sums_of(case: Case) -> Sums
     requires { ⌜ CaseFits case ⌝ }
-    ensures { λ r. ⌜ r ≡ curvesOn case ⌝ }
+    ensures { λ r. ⌜ r ≡ sumsOn case ⌝ }
 {
-    let base_curve = shifted_curve(case, 0, 0);
-    let base = factors(base_curve);
-    let up_curve = shifted_curve(case, case.shocks.up_shift, 0);
-    let up = factors(up_curve);
-    let down_curve = shifted_curve(case, 0, case.shocks.down_shift);
-    let down = factors(down_curve);
+    let base = shifted_curve(case, 0, 0);
+    let up = shifted_curve(case, case.shocks.up_shift, 0);
+    let down = shifted_curve(case, 0, case.shocks.down_shift);
+    Sums { base, up, down }
+}
+
+// The adjusted factors of the three curves.
+pub fn curves_of(s: Sums) -> Curves
+    requires { ⌜ SumsFit s ⌝ }
+    ensures { λ r. ⌜ r ≡ curvesBy s ⌝ }
+{
+    let base = factors(s.base);
+    let up = factors(s.up);
+    let down = factors(s.down);
     Curves { base, up, down }
 }
 
-// The unadjusted factors of the three curves at the terms of the bond flows, from the adjusted ones.
-pub fn bond_curves_of(case: Case, c: Curves) -> Curves
-    requires { ⌜ CaseFits case × (c ≡ curvesOn case) ⌝ }
-    ensures { λ r. ⌜ r ≡ bondCurvesOn case ⌝ }
+// The unadjusted factors of the three curves at the terms of `count` bond flows, from the adjusted ones.
+pub fn bond_curves_of(s: Sums, c: Curves, count: usize) -> Curves
+    requires { ⌜ SumsFit s × (c ≡ curvesBy s) × (count ≤ 60) ⌝ }
+    ensures { λ r. ⌜ r ≡ bondCurvesBy s count ⌝ }
 {
     let on_base = c.base;
-    let base_curve = shifted_curve(case, 0, 0);
-    let base = unadjusted_factors(base_curve, on_base, case.bond_count);
+    let base = unadjusted_factors(s.base, on_base, count);
     let on_up = c.up;
-    let up_curve = shifted_curve(case, case.shocks.up_shift, 0);
-    let up = unadjusted_factors(up_curve, on_up, case.bond_count);
+    let up = unadjusted_factors(s.up, on_up, count);
     let on_down = c.down;
-    let down_curve = shifted_curve(case, 0, case.shocks.down_shift);
-    let down = unadjusted_factors(down_curve, on_down, case.bond_count);
+    let down = unadjusted_factors(s.down, on_down, count);
     Curves { base, up, down }
 }
 
@@ -81,8 +84,9 @@ pub fn money_of(case: Case) -> Money
     requires { ⌜ CaseFits case ⌝ }
     ensures { λ r. ⌜ r ≡ moneyOf case ⌝ }
 {
-    let curves = curves_of(case);
-    let bond_curves = bond_curves_of(case, curves);
+    let sums = sums_of(case);
+    let curves = curves_of(sums);
+    let bond_curves = bond_curves_of(sums, curves, case.bond_count);
     money_on(case, curves, bond_curves)
 }
 
@@ -93,12 +97,13 @@ pub fn value_case(case: Case, factors: &mut [u64], rates: &mut [i64]) -> Valuati
     ensures factors { λ r. ⌜ now (factors .exit) ≡ factorsOn case base ++ drop 240 (now (factors .entry)) ⌝ }
     ensures rates { λ r. ⌜ now (rates .exit) ≡ ratesOn case ++ drop 240 (now (rates .entry)) ⌝ }
 {
-    let curves = curves_of(case);
+    let sums = sums_of(case);
+    let curves = curves_of(sums);
     let base = curves.base;
     let steps = zero_rates(base);
     fill_factors(base, factors);
     fill_rates(steps, rates);
-    let bond_curves = bond_curves_of(case, curves);
+    let bond_curves = bond_curves_of(sums, curves, case.bond_count);
     let money = money_on(case, curves, bond_curves);
     let figures = money.figures;
     let verdict = money.verdict;

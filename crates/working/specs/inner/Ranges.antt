@@ -6,7 +6,9 @@ use Rattle.model.specs.Curve.{Move, base}
 use Rattle.model.specs.inner.CurveWithin.{CurveWithin, BaseWithin}
 use Rattle.model.specs.declared.case.Case.{Case}
 use Rattle.curve.specs.inner.Shifted.{curveHeld}
+use Rattle.curve.specs.inner.Ranges.{FactorsWithin}
 use Rattle.worth.specs.inner.Ranges.{FlowsFit}
+use Rattle.working.specs.declared.Sums.{Sums}
 
 pub record CaseFits (c : Case) : Type 0 where
   pub perStep : c .«per_step» ≤ 7000
@@ -18,3 +20,9 @@ pub record CaseFits (c : Case) : Type 0 where
   pub amounts : AmountsWithin (c .amounts)
   pub shocks : ShocksWithin (c .shocks)
   pub people : PeopleWithin (c .people)
+
+-- the range in which the factors of three curves are worked out
+pub record SumsFit (s : Sums) : Type 0 where
+  pub base : FactorsWithin (s .base)
+  pub up : FactorsWithin (s .up)
+  pub down : FactorsWithin (s .down)

@@ -10,31 +10,41 @@ use Rattle.model.specs.Buffers.{byTerm}
 use Rattle.model.specs.Rounded as Rounded
 use Rattle.model.specs.Rounded.{worth}
 use Rattle.model.specs.declared.case.Case.{Case}
-use Rattle.curve.specs.inner.Shifted.{curveHeld}
+use Rattle.curve.specs.declared.shift.CurveSums.{CurveSums}
+use Rattle.curve.specs.inner.Shifted.{curveOf, movedSums, curveHeld}
 use Rattle.solvency.specs.inner.ByWorths.{moneyBy}
 use Rattle.solvency.specs.declared.figures.Money.{Money}
 use Rattle.worth.specs.declared.Curves.{Curves}
+use Rattle.working.specs.declared.Sums.{Sums}
 
--- the adjusted factors of one of its curves, and of the three; the zero rates of the base curve: lower, upper, term by term
+-- the sums of its three curves
+abbrev pub sumsOn : Case → Sums
+sumsOn c = record { base = movedSums base c; up = movedSums up c; down = movedSums down c }
+
+-- the adjusted factors of a curve, and of three: lower, upper, term by term
+abbrev pub factorsBy : CurveSums → List ℕ
+factorsBy s = byTerm (Rounded.factor (curveOf s)) lastTerm
+
+abbrev pub curvesBy : Sums → Curves
+curvesBy s = record { base = factorsBy (s .base); up = factorsBy (s .up); down = factorsBy (s .down) }
+
+-- the last term that has its unadjusted factor: to 20 they are the adjusted ones, and no term after the last bond flow needs one
+abbrev pub lastUnadjusted : ℕ → ℕ
+lastUnadjusted count = max lastUnweighedTerm count
+
+-- the unadjusted factors to there, and the adjusted ones behind them
+abbrev pub bondFactorsBy : ℕ → CurveSums → List ℕ
+bondFactorsBy count s = byTerm (Rounded.unadjusted (curveOf s)) (lastUnadjusted count) ++ drop (2 * lastUnadjusted count) (factorsBy s)
+
+abbrev pub bondCurvesBy : Sums → ℕ → Curves
+bondCurvesBy s count = record { base = bondFactorsBy count (s .base); up = bondFactorsBy count (s .up); down = bondFactorsBy count (s .down) }
+
+-- the adjusted factors of one of its curves, and the zero rates of the base curve
 abbrev pub factorsOn : Case → Move → List ℕ
-factorsOn c m = byTerm (Rounded.factor (curveHeld c m)) lastTerm
-
-abbrev pub curvesOn : Case → Curves
-curvesOn c = record { base = factorsOn c base; up = factorsOn c up; down = factorsOn c down }
+factorsOn c m = factorsBy (movedSums m c)
 
 abbrev pub ratesOn : Case → List ℤ
 ratesOn c = byTerm (Rounded.zeroRate (curveHeld c base)) lastTerm
-
--- the last term that has its unadjusted factor: to 20 they are the adjusted ones, and no term after the last bond flow needs one
-abbrev pub lastUnadjusted : Case → ℕ
-lastUnadjusted c = max lastUnweighedTerm (c .«bond_count»)
-
--- the unadjusted factors to there, and the adjusted ones behind them
-abbrev pub bondFactorsOn : Case → Move → List ℕ
-bondFactorsOn c m = byTerm (Rounded.unadjusted (curveHeld c m)) (lastUnadjusted c) ++ drop (2 * lastUnadjusted c) (factorsOn c m)
-
-abbrev pub bondCurvesOn : Case → Curves
-bondCurvesOn c = record { base = bondFactorsOn c base; up = bondFactorsOn c up; down = bondFactorsOn c down }
 
 -- what its pension flows and its bonds are worth, each at any factors of the three curves, and its figures and verdict
 abbrev pub owed : (Move → End → ℕ → ℕ) → Case → Move → End → ℕ

@@ -1,5 +1,5 @@
 """Reference implementation of document 01, "The UFR curve and the solvency verdict of one fund", and of document 02's
-requests One and Three.
+requests One, Three and Four.
 
 Written from the papers alone, in their order and their words, to be run beside the engine.
 Whole numbers and fractions only; no float occurs.
@@ -332,6 +332,11 @@ WEIGHTS = dict(zip(range(21, 61), map(int, (  # in thousandths, terms 21 to 60
     "940 947 954 960 965 970 974 978 982 985 988 990 993 995 997 998").split())))
 
 
+def shifts(case):
+    """The three curves: what "Up and down curves add ... to, or take ... from, every mean rate", in steps."""
+    return {"base": 0, "up": case.shocks["up_shift"], "down": -case.shocks["down_shift"]}
+
+
 class ExactCurve:
     """One curve over fractions; shift in steps, 0 for the base curve."""
 
@@ -369,16 +374,32 @@ class ExactCurve:
         """"one over the product of growths 1 to t"."""
         return 1 / self.product(t)
 
-    def worth(self, flows):
-        """"flows times factors", in cents.
+    def bond_factor(self, t):
+        """Document 02, Four: "bond flows at every term use the rule that document 01 gives for factors up to term 20": one
+        over the product of the growths G(1) to G(t) as they are, without weights and UFR."""
+        product = Fraction(1)
+        for year in range(1, t + 1):
+            product *= self.growth(year)
+        return 1 / product
+
+    def worth(self, flows, growth):
+        """"flows times factors", in cents; growth gives each growth of the product in a factor.
 
         Summed from the last term inwards, f1/g1 + f2/(g1 g2) + ... = (f1 + (f2 + ...)/g2)/g1: the
         same sum, but each step meets one short growth instead of two fractions of 10,000 digits.
         """
         total = Fraction(0)
         for t in range(len(flows), 0, -1):
-            total = (total + 100 * flows[t - 1]) / self.adjusted_growth(t)
+            total = (total + 100 * flows[t - 1]) / growth(t)
         return total
+
+    def pension_worth(self, flows):
+        """Flows times the factors of the adjusted curve."""
+        return self.worth(flows, self.adjusted_growth)
+
+    def bond_worth(self, flows):
+        """Flows times bond factors."""
+        return self.worth(flows, self.growth)
 
 
 def exact_tso(case):
@@ -396,17 +417,15 @@ class Exact:
 
     def __init__(self, case):
         self.case = case
-        self.base = ExactCurve(case)
-        self.up = ExactCurve(case, case.shocks["up_shift"])
-        self.down = ExactCurve(case, -case.shocks["down_shift"])
+        self.base, self.up, self.down = (ExactCurve(case, shift) for shift in shifts(case).values())
 
     @cached_property
     def L(self):
-        return self.base.worth(self.case.pension)
+        return self.base.pension_worth(self.case.pension)
 
     @cached_property
     def B(self):
-        return self.base.worth(self.case.bonds)
+        return self.base.bond_worth(self.case.bonds)
 
     @cached_property
     def A(self):
@@ -415,7 +434,7 @@ class Exact:
 
     def fall(self, curve):
         """The fall of B - L from the base curve to another."""
-        return (self.B - self.L) - (curve.worth(self.case.bonds) - curve.worth(self.case.pension))
+        return (self.B - self.L) - (curve.bond_worth(self.case.bonds) - curve.pension_worth(self.case.pension))
 
     @cached_property
     def S1(self):
@@ -519,8 +538,8 @@ def weighed_growth(N, P, ufr, t, end):
     return divide((1_000 - w) * growth(N, P, t, end) + w * ufr_growth, 1_000, end)
 
 
-def early_factor(N, P, t, end):
-    """"Factor, t to 20: from 10^12, t times x N / P(t)"."""
+def unadjusted_factor(N, P, t, end):
+    """"Factor, t to 20: from 10^12, t times x N / P(t)". Of a bond flow at every term."""
     factor = ONE
     for _ in range(t):
         factor = divide(factor * N, P[t], end)
@@ -539,11 +558,19 @@ def rounded_factors(case, shift=0, last=120):
     factors = [(ONE, ONE)]
     for t in range(1, last + 1):
         if t <= 20:
-            factors.append(tuple(early_factor(N, P, t, end) for end in ENDS))
+            factors.append(tuple(unadjusted_factor(N, P, t, end) for end in ENDS))
         else:
             weighed = [weighed_growth(N, P, case.ufr, t, end) for end in ENDS]
             factors.append(next_factor(factors[-1], weighed))
     return factors
+
+
+def bond_factors(case, shift=0):
+    """Brackets at the places 1 to k, likewise. Document 02, Four: "From now on bond flows at every term use the rule that
+    document 01 gives for factors up to term 20, on all three curves"."""
+    N, P = points(case, shift)
+    return [(ONE, ONE)] + [tuple(unadjusted_factor(N, P, t, end) for end in ENDS)
+                           for t in range(1, len(case.bonds) + 1)]
 
 
 def discounted(z, t, end):
@@ -708,15 +735,15 @@ class Rounded:
     def __init__(self, case):
         self.case = case
         amounts, shocks = case.amounts, case.shocks
-        last = max(len(case.pension), len(case.bonds))
-        self.factors = rounded_factors(case)
-        up = rounded_factors(case, shocks["up_shift"], last)
-        down = rounded_factors(case, -shocks["down_shift"], last)
-        self.L, self.B = worth(case.pension, self.factors), worth(case.bonds, self.factors)
+        self.factors = rounded_factors(case)  # those given; bond flows have others
+        self.L = worth(case.pension, self.factors)
+        self.Bs = {name: worth(case.bonds, bond_factors(case, shift)) for name, shift in shifts(case).items()}
+        self.B = self.Bs["base"]
         held = 100 * sum(amounts[name] for name in AMOUNTS if name != "currency")
         self.A = tuple(self.B[end] + held for end in ENDS)
-        self.falls = {name: rounded_fall(self.B, self.L, worth(case.bonds, curve), worth(case.pension, curve))
-                      for name, curve in (("up", up), ("down", down))}
+        moved_L = lambda shift: worth(case.pension, rounded_factors(case, shift, len(case.pension)))
+        self.falls = {name: rounded_fall(self.B, self.L, self.Bs[name], moved_L(shift))
+                      for name, shift in shifts(case).items() if name != "base"}
         self.S1 = rounded_S1(self.falls.values())
         # A euro's thousandth is a tenth of a cent.
         self.S2 = rounded_once(sum(amounts[name] * shocks[name + "_fall"]

@@ -201,7 +201,7 @@ def form_kinds(rng, bases, full, quick):
 def kinds(rng, quick):
     """(kind, cases with the lengths of the buffer)."""
     some = lambda count: count // 20 if quick else count
-    pool = to_save.day_pool(rng, some(400))
+    pool = files.day_pool(rng, some(400))
     cases = [to_save.random_case(rng, pool) for _ in range(some(6_000))]
     rich, full = (reference.given_of(case) for case in (reference.read(files.all_fields(3)), files.full_case(rng)))
     assert needed(full) == 9_223

@@ -118,6 +118,12 @@ EXTREME_DAYS = [[-1_000] * 60, [10_000] * 60, [0] * 60] + [
     zigzag(period, upwards) for period in (1, 2, 5, 20, 30, 60) for upwards in (True, False)]
 
 
+def day_pool(rng, count):
+    """Days of which each passes refusal 6 by itself, so that any of them pass it together."""
+    days = [examples.random_days(rng, 1) for _ in range(count)] + [[day] for day in EXTREME_DAYS]
+    return [day for [day] in days if reference.growths_within_limits([day])]
+
+
 def extreme_case(rng, days=None):
     """Every field at one of its ends."""
     end = lambda most, least=0: rng.choice([least, most])

@@ -13,6 +13,7 @@ from unittest import mock
 
 sys.path.insert(0, os.path.dirname(os.path.abspath(__file__)))
 import examples
+import files
 import limits
 import pinned
 import reference
@@ -397,7 +398,7 @@ class Saving(unittest.TestCase):
 
     def test_round_trip(self):
         rng = random.Random(15)
-        pool = to_save.day_pool(rng, 20)
+        pool = files.day_pool(rng, 20)
         for _ in range(150):
             given = to_save.random_case(rng, pool)
             self.assertEqual(case_refusal(given), 0)

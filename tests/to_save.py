@@ -218,12 +218,6 @@ def omission_rows():
 
 # ---------------------------------------------------------------- random cases
 
-def day_pool(rng, count):
-    """Days of which each passes refusal 6 by itself, so that any of them pass it together."""
-    days = [examples.random_days(rng, 1) for _ in range(count)] + [[day] for day in files.EXTREME_DAYS]
-    return [day for [day] in days if reference.growths_within_limits([day])]
-
-
 def random_case(rng, pool):
     """A case within all limits, with any number of days and flows; each optional field is often at its absent value."""
     one = lambda low, high: rng.choice([low, high, rng.randint(low, high)])

@@ -141,7 +141,7 @@ class Call(NamedTuple):
 
 def right_calls(rng, count):
     """Windows of 1 to 70 days at every start, each with a case that has days of its own. Any days of the pool pass 6 together."""
-    pool = to_save.day_pool(rng, 200)
+    pool = files.day_pool(rng, 200)
     turns = rng.sample(range(MOST_DAYS), MOST_DAYS)
     places = [(start, 1 + (start + turn) % MOST_DAYS) for turn in turns for start in range(MOST_DAYS)]
     for start, days in places[:count]:
@@ -205,7 +205,7 @@ FAULTS = [  # (refusal, the ways to be refused with it), in the order of checks
 def bases(rng):
     """Valuations that are accepted: a small case, and one in which every field stands; few days, and 70."""
     rich = reference.given_of(reference.read(files.all_fields(3)))
-    few, many = examples.flat(100, 300, -200), rng.choices(to_save.day_pool(rng, 20), k=MOST_DAYS)
+    few, many = examples.flat(100, 300, -200), rng.choices(files.day_pool(rng, 20), k=MOST_DAYS)
     return [Call(placed(few, MOST_DAYS - 2, any_rates(rng)), to_save.SMALL, (240, 240)), Call(placed_anywhere(rng, many), rich, (240, 242))]
 
 

@@ -1,8 +1,9 @@
 """Runs the engine beside the reference: python3 tests/compare.py [--quick]
 
 Listings of thousands of files, and of the refused ones all three answers; factors and zero rates at all 120 terms;
-demand 3 of the engine's own brackets against the exact figures over fractions; the program itself on inputs of odd
-kinds. Ends with 1 on any difference, or if a refusal from 1 to 12 or a verdict was not seen.
+demand 3 of the engine's own brackets against the exact figures over fractions; bonds on all three curves, likewise; the
+program itself on inputs of odd kinds. Ends with 1 on any difference, or if a refusal from 1 to 12, a verdict or a way to
+find B was not seen.
 """
 
 import os
@@ -13,6 +14,7 @@ import tempfile
 from collections import Counter
 from types import SimpleNamespace
 
+import bonds
 import examples
 import files
 import programs
@@ -102,12 +104,18 @@ def brackets(numbers):
     return [None] + list(zip(numbers[::2], numbers[1::2]))
 
 
+def money_in(listing):
+    """The figures of a listing; none of a refused file."""
+    if listing.startswith(b"R"):
+        return {}
+    return {name: (int(lower), int(upper)) for name, lower, upper in map(str.split, listing.decode().splitlines()[:-1])}
+
+
 def engine_figures(case, answer):
     """What the engine printed, in the shape of the reference's Rounded."""
-    *money, verdict = answer.listing.decode().splitlines()
-    figures = {name: (int(lower), int(upper)) for name, lower, upper in map(str.split, money)}
+    figures, verdict = money_in(answer.listing), programs.outcome(answer.listing)
     factors, rates = ([int(word) for word in line.split()[1:]] for line in answer.buffers.splitlines())
-    return SimpleNamespace(**{name: figures[name] for name in MONEY}, verdict=verdict[2:],
+    return SimpleNamespace(**{name: figures[name] for name in MONEY}, verdict=verdict.removeprefix("V "),
                            factors=brackets(factors[:240]),
                            zero_rates=brackets([rate - STEPS for rate in rates[:240]]),
                            WL=allowed_width(case.pension), WB=allowed_width(case.bonds))
@@ -124,6 +132,37 @@ def compare_exactly(comparison, rng, count):
             wrong.append((data, "broken: " + "; ".join(broken)))
     comparison.report("demand 3, exactly", len(batch), wrong)
     print(f"  {counts(Counter(programs.outcome(answer.listing) for answer in answers))}")
+
+
+# ---------------------------------------------------------------- bonds
+
+def compare_bonds(comparison, rng, cases, each):
+    """Listings of all cases, which come by their number of bond flows; exact B of so many of each. Gives the ways to find B
+    that were not seen."""
+    for k, of_k in cases.items():
+        compare_listings(comparison, f"{k} bond flows", [files.file_of(rng, case) for case in of_k])
+    return compare_exact_bonds(comparison, rng, [case for of_k in cases.values()
+                                                 for case in list(filter(bonds.tells, of_k))[:each]])
+
+
+def compare_exact_bonds(comparison, rng, cases):
+    """Exact B and WB on all three curves, by the engine's own figures."""
+    asked = [bonds.questions(case) for case in cases]
+    batch = [files.file_of(rng, case) for questions in asked for case in questions.values()]
+    answers, wrong, seen = iter(programs.answers(batch)), [], Counter()
+    for case, questions in zip(cases, asked):
+        figures = {name: money_in(next(answers).listing) for name in questions}
+        if not all(figures.values()):
+            wrong.append((files.file_of(rng, case), "refused, it or one with the same bonds"))
+            continue
+        broken = list(bonds.faults(case, figures))
+        if broken:
+            wrong.append((files.file_of(rng, case), "; ".join(broken)))
+        seen.update((curve, way) for curve, way, bracket in bonds.told(figures) if bracket)
+    comparison.report("exact B on three curves", len(cases), wrong)
+    named = {f"{curve} by {way}": seen[curve, way] for curve, way in bonds.WAYS}
+    print("  brackets of B: " + ", ".join(f"{name}: {found}" for name, found in named.items()))
+    return [f"B, {name}" for name, found in named.items() if not found]
 
 
 # ---------------------------------------------------------------- the program
@@ -173,8 +212,9 @@ def main(quick):
         compare_listings(comparison, kind, batch)
     compare_curves(comparison, curve_files(rng, 20 if quick else 200))
     compare_exactly(comparison, rng, 72 if quick else 600)
+    unseen_ways = compare_bonds(comparison, rng, bonds.bond_cases(rng, 100 if quick else 1_000), 13 if quick else 125)
     compare_program(comparison, rng, quick)
-    unseen = [outcome for outcome in programs.OUTCOMES if not comparison.outcomes[outcome]]
+    unseen = [outcome for outcome in programs.OUTCOMES if not comparison.outcomes[outcome]] + unseen_ways
     print(f"listings: {counts(comparison.outcomes)}; not seen: {unseen or 'none'}")
     print(f"{comparison.different} different")
     sys.exit(1 if comparison.different or unseen else 0)

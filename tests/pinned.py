@@ -98,7 +98,7 @@ use mathlib.Core.List.{List, [], _∷_, _++_}
 use Rattle.model.specs.Layout.{caseOf}
 use Rattle.model.specs.Refusals.{refusal}
 use Rattle.model.proofs.Computing.{pairs, all}
-use Rattle.model.proofs.Pinned.{bentFile, bentCase, upFile, downFile, downCase, long}
+use Rattle.model.proofs.Pinned.{bentFile, bentCase, upFile, downFile, downCase, deepestFile, deepestCase, long}
 """
 
 FILES_HEAD = """\
@@ -107,16 +107,19 @@ FILES_HEAD = """\
 use Prim.Native.String.{String}
 use mathlib.Core.Path.{_≡_, refl}
 use mathlib.Core.List.{List, [], _∷_}
+use lib.Dec.{lit<}
 use lib.ListN.{replicate, take}
 use lib.IntN.{pos, negℤ}
 use Rattle.arith.specs.Rounding.{low, high}
-use Rattle.model.specs.Curve.{up, down}
+use Rattle.model.specs.Fraction.{_//_, _≐_}
+use Rattle.model.specs.Curve.{base, up, down, curve}
+use Rattle.model.specs.Exact as Exact
 use Rattle.model.specs.Rounded as Rounded
 use Rattle.model.specs.Buffers.{valuationOf}
 use Rattle.model.specs.Rolling.{windowRatesAfter}
 use Rattle.model.specs.Listing.{listing}
 use Rattle.model.proofs.Computing.{text, all}
-use Rattle.model.proofs.Pinned.{bentCurve, upFile, downFile, long}
+use Rattle.model.proofs.Pinned.{bentCurve, upFile, downFile, deepestFile, deepestCase, long}
 use Rattle.model.proofs.SavedCases.{small}
 use Rattle.model.proofs.RollingCases.{flatDays}
 """
@@ -210,6 +213,7 @@ TITLES = {
     "bent": "A bent curve of three days: the rates rise, fall, rise and fall with the term, and the short ones are negative.",
     "up": "A fund with another number in every field, whose bonds are longer than its pensions: the up curve decides S1.",
     "down": "A fund with another number in every field, whose pensions outweigh its bonds: the down curve decides S1. S5 exceeds the credit.",
+    "deepest": "A fund with the lowest rates, the largest down shift and one bond flow, at term 60: no bond factor is larger than that of the down curve.",
     "long": "A fund with 120 pension and 60 bond flows and both shifts. Most of its large flows lie past term 60, so that WL and WB are large.",
 }
 
@@ -279,6 +283,50 @@ def fund_statements(name, case):
 def verdict_statement(name, term, case):
     return computed(f"{name}-verdicts", f'word (Rounded.verdict {term}) ≡ ascii "{Rounded(case).verdict}"',
                     f"Exact.verdict {term} ≡ {VERDICTS[Exact(case).verdict]}")
+
+
+def factor_statement(name, on, t, case, shift=0):
+    """The rounded factor of a bond flow at term t, on the curve that is called so."""
+    N, P = reference.points(case, shift)
+    return computed(f"{name}-unadjusted-{t}", *both_ends(
+        f"Rounded.unadjusted {on} {{e}} {t}", ends(lambda end: reference.unadjusted_factor(N, P, t, end))))
+
+
+def exact_factor_statement(name, on, t, case, shift=0):
+    return computed_fraction(f"{name}-exact-unadjusted-{t}", f"Exact.unadjusted {on} {t}", ExactCurve(case, shift).bond_factor(t))
+
+
+def bond_statements():
+    """Bond factors on both sides of term 20 and at term 60, of a bent curve and of those of C3, C5, C6 and C7; then B and S1 of a fund
+    with one bond flow, at term 21. Its curves are C6's, a flat 1,000 and C3's."""
+    bent, past, half, five = examples.bent(), examples.past_20(), examples.c1(days=examples.flat(100, 101)), examples.c1(days=examples.flat(5_000))
+    rounded, exact = Rounded(past), Exact(past)
+    moves = reference.shifts(past)
+    out = [factor_statement("bent", "bentCurve", t, bent) for t in (1, 20, 21, 60)]
+    out += [exact_factor_statement("bent", "bentCurve", t, bent) for t in (1, 2, 21)]
+    out += [case_definition("halfStep", half, "C5: days at 100 and 101."), case_definition("fivePercent", five, "C7: flat 5,000.")]
+    out += [exact_factor_statement("halfStep", "(curve halfStep base)", t, half) for t in (1, 21)]
+    out += [exact_factor_statement("fivePercent", "(curve fivePercent base)", t, five) for t in (20, 21)]
+    out.append(case_definition("past20", past, "C1 with shifts and one bond flow, at term 21. The base curve is C6's, the down curve is C3's."))
+    for move, shift in moves.items():
+        on = f"(curve past20 {move})"
+        out += [factor_statement(f"past20-{move}", on, 21, past, shift), exact_factor_statement(f"past20-{move}", on, 1, past, shift),
+                exact_factor_statement(f"past20-{move}", on, 21, past, shift)]
+    for move in moves:
+        out.append(computed(f"past20-{move}-B", *both_ends(f"Rounded.B past20 {move} {{e}}", rounded.Bs[move])))
+        out.append(computed_fraction(f"past20-{move}-exact-B", f"Exact.B past20 {move}", getattr(exact, move).bond_worth(past.bonds)))
+    out.append(computed("past20-S1", *both_ends("Rounded.S1 past20 {e}", rounded.S1)))
+    out.append(computed_fraction("past20-exact-S1", "Exact.S1 past20", exact.S1))
+    return out
+
+
+def deepest_statements():
+    """The largest bond factor. The figures take longer: Files.antt of the crate `pinned`."""
+    case = examples.deepest()
+    out = read_statements("deepest", case, encode(case, True, True, True))
+    out += [factor_statement(f"deepest-{move}", f"(curve deepestCase {move})", 60, case, shift) for move, shift in reference.shifts(case).items()]
+    rounded = Rounded(case)
+    return out + [computed("deepest-widths", f"WL deepestCase ≡ {rounded.WL}", f"WB deepestCase ≡ {rounded.WB}")]
 
 
 def width_statements():
@@ -390,6 +438,7 @@ def pinned():
     for name, case in (("up", examples.up()), ("down", examples.down())):
         sections += fund_statements(name, case)
     sections.append(case_statement("up"))
+    sections += bond_statements() + deepest_statements()
     sections += width_statements() + demand_statements() + shifted_statements() + margin_statements()
     sections += shortage_statements() + undecided_statements()
     return "\n".join(sections)
@@ -796,9 +845,9 @@ def rolling_refused():
 
 def accepted():
     out = [ACCEPTED_HEAD]
-    for name in ("bent", "up", "down"):
+    for name in ("bent", "up", "down", "deepest"):
         out.append(computed(f"{name}-accepted", f"refusal {name}File ≡ 0"))
-    out += [case_statement("bent"), case_statement("down")]
+    out += [case_statement("bent"), case_statement("down"), case_statement("deepest")]
     out.append(definition("longFile", "List ℕ", file_term(encode(examples.long(), True, True, True)), "the long fund as a file"))
     out.append(computed("long-case", "caseOf longFile ≡ long"))
     return "\n".join(out)
@@ -817,11 +866,24 @@ def listing_statement(name, data):
 
 
 def shifted_figures():
-    """L of the long fund on the up and the down curve: 60 of its flows lie where the UFR decides."""
+    """L of the long fund on the up and the down curve: 60 of its flows lie where the UFR decides. B on all three curves."""
     case, out = examples.long(), []
     for move, shift in (("up", case.shocks["up_shift"]), ("down", -case.shocks["down_shift"])):
         worth = reference.worth(case.pension, reference.rounded_factors(case, shift))
         out.append(computed(f"long-{move}-L", *both_ends(f"Rounded.L long {move} {{e}}", worth)))
+    for move, worth in Rounded(case).Bs.items():
+        out.append(computed(f"long-{move}-B", *both_ends(f"Rounded.B long {move} {{e}}", worth)))
+    return out
+
+
+def deepest_figures():
+    """B on all three curves in both workings, and the exact bond factor of the down curve."""
+    case = examples.deepest()
+    rounded, exact = Rounded(case), Exact(case)
+    out = [exact_factor_statement("deepest-down", "(curve deepestCase down)", 60, case, reference.shifts(case)["down"])]
+    for move, worth in rounded.Bs.items():
+        out.append(computed(f"deepest-{move}-B", *both_ends(f"Rounded.B deepestCase {move} {{e}}", worth)))
+        out.append(computed_fraction(f"deepest-{move}-exact-B", f"Exact.B deepestCase {move}", getattr(exact, move).bond_worth(case.bonds)))
     return out
 
 
@@ -834,12 +896,12 @@ def window_rates():
 def files():
     bent = Rounded(examples.bent())
     out = [FILES_HEAD]
-    for name, case in (("up", examples.up()), ("down", examples.down())):
+    for name, case in (("up", examples.up()), ("down", examples.down()), ("deepest", examples.deepest())):
         out += listing_statement(name, encode(case, True, True, True))
     for t in (40, 60, 61, 120):
         out.append(computed(f"bent-factor-{t}", *both_ends(f"Rounded.factor bentCurve {{e}} {t}", bent.factors[t])))
     out += [rate_statement(bent, 1), rate_statement(bent, 2), rate_statement(bent, 3), rate_statement(bent, 21, ("high",))]
-    return "\n".join(out + shifted_figures() + [window_rates()])
+    return "\n".join(out + shifted_figures() + deepest_figures() + [window_rates()])
 
 
 PATHS = {"crates/model/proofs/Pinned.antt": pinned, "crates/model/proofs/Refused.antt": refused_quickly,

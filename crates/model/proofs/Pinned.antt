@@ -503,6 +503,327 @@ up-case : caseOf upFile ≡ upCase
 unfolding all
 up-case = refl
 
+bent-unadjusted-1 : (Rounded.unadjusted bentCurve low 1 ≡ 1002982200409)
+    × (Rounded.unadjusted bentCurve high 1 ≡ 1002982200410)
+unfolding all
+bent-unadjusted-1 = (refl, refl)
+
+bent-unadjusted-20 : (Rounded.unadjusted bentCurve low 20 ≡ 919715113381)
+    × (Rounded.unadjusted bentCurve high 20 ≡ 919715113401)
+unfolding all
+bent-unadjusted-20 = (refl, refl)
+
+bent-unadjusted-21 : (Rounded.unadjusted bentCurve low 21 ≡ 921446614349)
+    × (Rounded.unadjusted bentCurve high 21 ≡ 921446614368)
+unfolding all
+bent-unadjusted-21 = (refl, refl)
+
+bent-unadjusted-60 : (Rounded.unadjusted bentCurve low 60 ≡ 724024961135)
+    × (Rounded.unadjusted bentCurve high 60 ≡ 724024961190)
+unfolding all
+bent-unadjusted-60 = (refl, refl)
+
+bent-exact-unadjusted-1 : Exact.unadjusted bentCurve 1 ≐ 75000 // 74777
+unfolding all
+bent-exact-unadjusted-1 = (lit< tt, lit< tt, refl)
+
+bent-exact-unadjusted-2 : Exact.unadjusted bentCurve 2 ≐ 10000000000 // 9952656169
+unfolding all
+bent-exact-unadjusted-2 = (lit< tt, lit< tt, refl)
+
+bent-exact-unadjusted-21 : Exact.unadjusted bentCurve 21 ≐ 10460353203000000000000000000000000000000000000000000000000000000000000000000000000000000000000000000000000000000000 // 11352099014768718363710965998930105574585157985243883365066569855270793637286061405771660888477000971922041986233571
+unfolding all
+bent-exact-unadjusted-21 = (lit< tt, lit< tt, refl)
+
+-- C5: days at 100 and 101.
+abbrev pub halfStep : FileCase
+halfStep = record {
+  ufr = 4200;
+  days = replicate 60 (pos 100)
+      ∷ replicate 60 (pos 101)
+      ∷ [];
+  pension = 1000000
+      ∷ [];
+  bonds = [];
+  amounts = record {
+    mature = 0;
+    emerging = 0;
+    private = 0;
+    property = 0;
+    commodities = 0;
+    credit = 0;
+    cash = 1100000;
+    currency = 0;
+  };
+  shocks = record {
+    «up_shift» = 0;
+    «down_shift» = 0;
+    «mature_fall» = 0;
+    «emerging_fall» = 0;
+    «private_fall» = 0;
+    «property_fall» = 0;
+    «currency_fall» = 0;
+    «commodities_fall» = 0;
+    «spread_rise» = 0;
+    correlation = 0;
+    spread = 0;
+    duration = 0;
+  };
+  people = record {
+    heads = 100;
+    «pension_age» = 780;
+    «mean_age» = 460;
+  };
+}
+
+-- C7: flat 5,000.
+abbrev pub fivePercent : FileCase
+fivePercent = record {
+  ufr = 4200;
+  days = replicate 60 (pos 5000)
+      ∷ [];
+  pension = 1000000
+      ∷ [];
+  bonds = [];
+  amounts = record {
+    mature = 0;
+    emerging = 0;
+    private = 0;
+    property = 0;
+    commodities = 0;
+    credit = 0;
+    cash = 1100000;
+    currency = 0;
+  };
+  shocks = record {
+    «up_shift» = 0;
+    «down_shift» = 0;
+    «mature_fall» = 0;
+    «emerging_fall» = 0;
+    «private_fall» = 0;
+    «property_fall» = 0;
+    «currency_fall» = 0;
+    «commodities_fall» = 0;
+    «spread_rise» = 0;
+    correlation = 0;
+    spread = 0;
+    duration = 0;
+  };
+  people = record {
+    heads = 100;
+    «pension_age» = 780;
+    «mean_age» = 460;
+  };
+}
+
+halfStep-exact-unadjusted-1 : Exact.unadjusted (curve halfStep base) 1 ≐ 200000 // 200201
+unfolding all
+halfStep-exact-unadjusted-1 = (lit< tt, lit< tt, refl)
+
+halfStep-exact-unadjusted-21 : Exact.unadjusted (curve halfStep base) 21 ≐ 2097152000000000000000000000000000000000000000000000000000000000000000000000000000000000000000000000000000000000 // 2141860054017372831390920358616378689067287562550347243109229546686674390378139772611726641473164081603452604201
+unfolding all
+halfStep-exact-unadjusted-21 = (lit< tt, lit< tt, refl)
+
+fivePercent-exact-unadjusted-20 : Exact.unadjusted (curve fivePercent base) 20 ≐ 104857600000000000000000000 // 278218429446951548637196401
+unfolding all
+fivePercent-exact-unadjusted-20 = (lit< tt, lit< tt, refl)
+
+fivePercent-exact-unadjusted-21 : Exact.unadjusted (curve fivePercent base) 21 ≐ 2097152000000000000000000000 // 5842587018385982521381124421
+unfolding all
+fivePercent-exact-unadjusted-21 = (lit< tt, lit< tt, refl)
+
+-- C1 with shifts and one bond flow, at term 21. The base curve is C6's, the down curve is C3's.
+abbrev pub past20 : FileCase
+past20 = record {
+  ufr = 4200;
+  days = replicate 60 (pos 0)
+      ∷ [];
+  pension = 1000000
+      ∷ [];
+  bonds = 0 ∷ 0 ∷ 0 ∷ 0 ∷ 0 ∷ 0 ∷ 0 ∷ 0 ∷ 0 ∷ 0 ∷ 0 ∷ 0
+      ∷ 0 ∷ 0 ∷ 0 ∷ 0 ∷ 0 ∷ 0 ∷ 0 ∷ 0 ∷ 1000000
+      ∷ [];
+  amounts = record {
+    mature = 0;
+    emerging = 0;
+    private = 0;
+    property = 0;
+    commodities = 0;
+    credit = 0;
+    cash = 1100000;
+    currency = 0;
+  };
+  shocks = record {
+    «up_shift» = 1000;
+    «down_shift» = 500;
+    «mature_fall» = 0;
+    «emerging_fall» = 0;
+    «private_fall» = 0;
+    «property_fall» = 0;
+    «currency_fall» = 0;
+    «commodities_fall» = 0;
+    «spread_rise» = 0;
+    correlation = 0;
+    spread = 0;
+    duration = 0;
+  };
+  people = record {
+    heads = 100;
+    «pension_age» = 780;
+    «mean_age» = 460;
+  };
+}
+
+past20-base-unadjusted-21 : (Rounded.unadjusted (curve past20 base) low 21 ≡ 1000000000000)
+    × (Rounded.unadjusted (curve past20 base) high 21 ≡ 1000000000000)
+unfolding all
+past20-base-unadjusted-21 = (refl, refl)
+
+past20-base-exact-unadjusted-1 : Exact.unadjusted (curve past20 base) 1 ≐ 1 // 1
+unfolding all
+past20-base-exact-unadjusted-1 = (lit< tt, lit< tt, refl)
+
+past20-base-exact-unadjusted-21 : Exact.unadjusted (curve past20 base) 21 ≐ 1 // 1
+unfolding all
+past20-base-exact-unadjusted-21 = (lit< tt, lit< tt, refl)
+
+past20-up-unadjusted-21 : (Rounded.unadjusted (curve past20 up) low 21 ≡ 811430168640)
+    × (Rounded.unadjusted (curve past20 up) high 21 ≡ 811430168660)
+unfolding all
+past20-up-unadjusted-21 = (refl, refl)
+
+past20-up-exact-unadjusted-1 : Exact.unadjusted (curve past20 up) 1 ≐ 100 // 101
+unfolding all
+past20-up-exact-unadjusted-1 = (lit< tt, lit< tt, refl)
+
+past20-up-exact-unadjusted-21 : Exact.unadjusted (curve past20 up) 21 ≐ 1000000000000000000000000000000000000000000 // 1232391940347446492727576582468089832102101
+unfolding all
+past20-up-exact-unadjusted-21 = (lit< tt, lit< tt, refl)
+
+past20-down-unadjusted-21 : (Rounded.unadjusted (curve past20 down) low 21 ≡ 1111003185939)
+    × (Rounded.unadjusted (curve past20 down) high 21 ≡ 1111003185960)
+unfolding all
+past20-down-unadjusted-21 = (refl, refl)
+
+past20-down-exact-unadjusted-1 : Exact.unadjusted (curve past20 down) 1 ≐ 200 // 199
+unfolding all
+past20-down-exact-unadjusted-1 = (lit< tt, lit< tt, refl)
+
+past20-down-exact-unadjusted-21 : Exact.unadjusted (curve past20 down) 21 ≐ 2097152000000000000000000000000000000000000000000 // 1887620149539230539058375534310517606114631604199
+unfolding all
+past20-down-exact-unadjusted-21 = (lit< tt, lit< tt, refl)
+
+past20-base-B : (Rounded.B past20 base low ≡ 100000000)
+    × (Rounded.B past20 base high ≡ 100000000)
+unfolding all
+past20-base-B = (refl, refl)
+
+past20-base-exact-B : Exact.B past20 base ≐ 100000000 // 1
+unfolding all
+past20-base-exact-B = (lit< tt, lit< tt, refl)
+
+past20-up-B : (Rounded.B past20 up low ≡ 81143016)
+    × (Rounded.B past20 up high ≡ 81143017)
+unfolding all
+past20-up-B = (refl, refl)
+
+past20-up-exact-B : Exact.B past20 up ≐ 100000000000000000000000000000000000000000000000000 // 1232391940347446492727576582468089832102101
+unfolding all
+past20-up-exact-B = (lit< tt, lit< tt, refl)
+
+past20-down-B : (Rounded.B past20 down low ≡ 111100318)
+    × (Rounded.B past20 down high ≡ 111100319)
+unfolding all
+past20-down-B = (refl, refl)
+
+past20-down-exact-B : Exact.B past20 down ≐ 209715200000000000000000000000000000000000000000000000000 // 1887620149539230539058375534310517606114631604199
+unfolding all
+past20-down-exact-B = (lit< tt, lit< tt, refl)
+
+past20-S1 : (Rounded.S1 past20 low ≡ 17866883)
+    × (Rounded.S1 past20 high ≡ 17866885)
+unfolding all
+past20-S1 = (refl, refl)
+
+past20-exact-S1 : Exact.S1 past20 ≐ 22019003994796682448274909155256419020010000000000 // 1232391940347446492727576582468089832102101
+unfolding all
+past20-exact-S1 = (lit< tt, lit< tt, refl)
+
+-- A fund with the lowest rates, the largest down shift and one bond flow, at term 60: no bond factor is larger than that of the down curve.
+abbrev pub deepestFile : List ℕ
+deepestFile =
+    (0x00 ∷ 0x7f ∷ 0x10 ∷ 0x68 ∷ 0x01 ∷ []) ++ pairs 60 0xfc 0x18 ++ (0x14 ∷ 0x05 ∷ 0xf5 ∷ 0xe1 ∷ 0x00 ∷ 0x05 ∷ 0xf5 ∷ 0xe1 ∷ 0x00 ∷ 0x05 ∷ 0xf5 ∷ 0xe1 ∷ 0x00 ∷ 0x05 ∷ 0xf5 ∷ 0xe1 ∷ 0x00 ∷ 0x05 ∷ 0xf5 ∷ 0xe1 ∷ 0x00 ∷ 0x05 ∷ 0xf5 ∷ 0xe1 ∷ 0x00 ∷ 0x05 ∷ 0xf5 ∷ 0xe1 ∷ 0x00 ∷ 0x05 ∷ 0xf5 ∷ 0xe1 ∷ 0x00 ∷ 0x05 ∷ 0xf5 ∷ 0xe1 ∷ 0x00 ∷ 0x05 ∷ 0xf5 ∷ 0xe1 ∷ 0x00 ∷ 0x05 ∷ 0xf5 ∷ 0xe1 ∷ 0x00 ∷ 0x05 ∷ 0xf5 ∷ 0xe1 ∷ 0x00 ∷ 0x05 ∷ 0xf5 ∷ 0xe1 ∷ 0x00 ∷ 0x05 ∷ 0xf5 ∷ 0xe1 ∷ 0x00 ∷ 0x05 ∷ 0xf5 ∷ 0xe1 ∷ 0x00 ∷ 0x05 ∷ 0xf5 ∷ 0xe1 ∷ 0x00 ∷ 0x05 ∷ 0xf5 ∷ 0xe1 ∷ 0x00 ∷ 0x05 ∷ 0xf5 ∷ 0xe1 ∷ 0x00 ∷ 0x05 ∷ 0xf5 ∷ 0xe1 ∷ 0x00 ∷ 0x05 ∷ 0xf5 ∷ 0xe1 ∷ 0x00 ∷ 0x3c ∷ []) ++ pairs 118 0x00 0x00 ++ (0x05 ∷ 0xf5 ∷ 0xe1 ∷ []) ++ pairs 26 0x00 0x00 ++ (0x00 ∷ 0x89 ∷ 0x17 ∷ 0x37 ∷ []) ++ pairs 4 0x00 0x00 ++ (0x00 ∷ 0x01 ∷ 0x0e ∷ 0x03 ∷ 0xe8 ∷ []) ++ pairs 11 0x00 0x00 ++ (0x00 ∷ 0x64 ∷ 0x03 ∷ 0x0c ∷ 0x01 ∷ 0xcc ∷ [])
+
+-- the case that it holds
+abbrev pub deepestCase : FileCase
+deepestCase = record {
+  ufr = 4200;
+  days = replicate 60 (negℤ (pos 1000))
+      ∷ [];
+  pension = 100000000 ∷ 100000000 ∷ 100000000 ∷ 100000000 ∷ 100000000 ∷ 100000000 ∷ 100000000 ∷ 100000000 ∷ 100000000 ∷ 100000000 ∷ 100000000 ∷ 100000000
+      ∷ 100000000 ∷ 100000000 ∷ 100000000 ∷ 100000000 ∷ 100000000 ∷ 100000000 ∷ 100000000 ∷ 100000000
+      ∷ [];
+  bonds = 0 ∷ 0 ∷ 0 ∷ 0 ∷ 0 ∷ 0 ∷ 0 ∷ 0 ∷ 0 ∷ 0 ∷ 0 ∷ 0
+      ∷ 0 ∷ 0 ∷ 0 ∷ 0 ∷ 0 ∷ 0 ∷ 0 ∷ 0 ∷ 0 ∷ 0 ∷ 0 ∷ 0
+      ∷ 0 ∷ 0 ∷ 0 ∷ 0 ∷ 0 ∷ 0 ∷ 0 ∷ 0 ∷ 0 ∷ 0 ∷ 0 ∷ 0
+      ∷ 0 ∷ 0 ∷ 0 ∷ 0 ∷ 0 ∷ 0 ∷ 0 ∷ 0 ∷ 0 ∷ 0 ∷ 0 ∷ 0
+      ∷ 0 ∷ 0 ∷ 0 ∷ 0 ∷ 0 ∷ 0 ∷ 0 ∷ 0 ∷ 0 ∷ 0 ∷ 0 ∷ 100000000
+      ∷ [];
+  amounts = record {
+    mature = 0;
+    emerging = 0;
+    private = 0;
+    property = 0;
+    commodities = 0;
+    credit = 0;
+    cash = 2300000000;
+    currency = 0;
+  };
+  shocks = record {
+    «up_shift» = 270;
+    «down_shift» = 1000;
+    «mature_fall» = 0;
+    «emerging_fall» = 0;
+    «private_fall» = 0;
+    «property_fall» = 0;
+    «currency_fall» = 0;
+    «commodities_fall» = 0;
+    «spread_rise» = 0;
+    correlation = 0;
+    spread = 0;
+    duration = 0;
+  };
+  people = record {
+    heads = 100;
+    «pension_age» = 780;
+    «mean_age» = 460;
+  };
+}
+
+deepest-layout : fileOf (record { ufr = true; bonds = true; amounts = true }) deepestCase ≡ deepestFile
+unfolding all
+deepest-layout = refl
+
+deepest-base-unadjusted-60 : (Rounded.unadjusted (curve deepestCase base) low 60 ≡ 1827630193082)
+    × (Rounded.unadjusted (curve deepestCase base) high 60 ≡ 1827630193166)
+unfolding all
+deepest-base-unadjusted-60 = (refl, refl)
+
+deepest-up-unadjusted-60 : (Rounded.unadjusted (curve deepestCase up) low 60 ≡ 1552096384368)
+    × (Rounded.unadjusted (curve deepestCase up) high 60 ≡ 1552096384445)
+unfolding all
+deepest-up-unadjusted-60 = (refl, refl)
+
+deepest-down-unadjusted-60 : (Rounded.unadjusted (curve deepestCase down) low 60 ≡ 3360744205004)
+    × (Rounded.unadjusted (curve deepestCase down) high 60 ≡ 3360744205119)
+unfolding all
+deepest-down-unadjusted-60 = (refl, refl)
+
+deepest-widths : (WL deepestCase ≡ 155)
+    × (WB deepestCase ≡ 264)
+unfolding all
+deepest-widths = (refl, refl)
+
 -- A fund with 120 pension and 60 bond flows and both shifts. Most of its large flows lie past term 60, so that WL and WB are large.
 abbrev pub long : FileCase
 long = record {

@@ -4,16 +4,19 @@
 use Prim.Native.String.{String}
 use mathlib.Core.Path.{_≡_, refl}
 use mathlib.Core.List.{List, [], _∷_}
+use lib.Dec.{lit<}
 use lib.ListN.{replicate, take}
 use lib.IntN.{pos, negℤ}
 use Rattle.arith.specs.Rounding.{low, high}
-use Rattle.model.specs.Curve.{up, down}
+use Rattle.model.specs.Fraction.{_//_, _≐_}
+use Rattle.model.specs.Curve.{base, up, down, curve}
+use Rattle.model.specs.Exact as Exact
 use Rattle.model.specs.Rounded as Rounded
 use Rattle.model.specs.Buffers.{valuationOf}
 use Rattle.model.specs.Rolling.{windowRatesAfter}
 use Rattle.model.specs.Listing.{listing}
 use Rattle.model.proofs.Computing.{text, all}
-use Rattle.model.proofs.Pinned.{bentCurve, upFile, downFile, long}
+use Rattle.model.proofs.Pinned.{bentCurve, upFile, downFile, deepestFile, deepestCase, long}
 use Rattle.model.proofs.SavedCases.{small}
 use Rattle.model.proofs.RollingCases.{flatDays}
 
@@ -54,6 +57,25 @@ downListing =
 down-listing : listing (valuationOf 240 240 downFile) ≡ text downListing
 unfolding all
 down-listing = refl
+
+abbrev pub deepestListing : List String
+deepestListing =
+    "L 222632984298 222632984320"
+    ∷ "B 18276301930 18276301932"
+    ∷ "A 248276301930 248276301932"
+    ∷ "S1 10978400432 10978400480"
+    ∷ "S2 0 0"
+    ∷ "S3 0 0"
+    ∷ "S4 0 0"
+    ∷ "S5 0 0"
+    ∷ "S6 22263298429 22263298432"
+    ∷ "S 24822967852 24822967876"
+    ∷ "V VRIJ VERMOGEN"
+    ∷ []
+
+deepest-listing : listing (valuationOf 240 240 deepestFile) ≡ text deepestListing
+unfolding all
+deepest-listing = refl
 
 bent-factor-40 : (Rounded.factor bentCurve low 40 ≡ 536796712985)
     × (Rounded.factor bentCurve high 40 ≡ 536796713129)
@@ -103,6 +125,52 @@ long-down-L : (Rounded.L long down low ≡ 88818888762)
     × (Rounded.L long down high ≡ 88818888920)
 unfolding all
 long-down-L = (refl, refl)
+
+long-base-B : (Rounded.B long base low ≡ 333945393369)
+    × (Rounded.B long base high ≡ 333945393437)
+unfolding all
+long-base-B = (refl, refl)
+
+long-up-B : (Rounded.B long up low ≡ 314695754322)
+    × (Rounded.B long up high ≡ 314695754391)
+unfolding all
+long-up-B = (refl, refl)
+
+long-down-B : (Rounded.B long down low ≡ 369506823026)
+    × (Rounded.B long down high ≡ 369506823095)
+unfolding all
+long-down-B = (refl, refl)
+
+deepest-down-exact-unadjusted-60 : Exact.unadjusted (curve deepestCase down) 60 ≐ 867361737988403547205962240695953369140625000000000000000000000000000000000000000000000000000000000000 // 258086210989349276047917817413172383631691140276099547911280598425927853437317437263620645695945672001
+unfolding all
+deepest-down-exact-unadjusted-60 = (lit< tt, lit< tt, refl)
+
+deepest-base-B : (Rounded.B deepestCase base low ≡ 18276301930)
+    × (Rounded.B deepestCase base high ≡ 18276301932)
+unfolding all
+deepest-base-B = (refl, refl)
+
+deepest-base-exact-B : Exact.B deepestCase base ≐ 10000000000000000000000000000000000000000000000000000000000000000000000000000000000000000000000000000000000000000000000000000000000 // 547156642390761476194741370840006174593084288894372625927973260005098646976716330666955874608367161577767293609297694001
+unfolding all
+deepest-base-exact-B = (lit< tt, lit< tt, refl)
+
+deepest-up-B : (Rounded.B deepestCase up low ≡ 15520963843)
+    × (Rounded.B deepestCase up high ≡ 15520963845)
+unfolding all
+deepest-up-B = (refl, refl)
+
+deepest-up-exact-B : Exact.B deepestCase up ≐ 10000000000000000000000000000000000000000000000000000000000000000000000000000000000000000000000000000000000000000000000000000000000000000000000000000000000000000000000000000000000000000000000000000000000000000000000000000000000000000000000000000000000 // 644289884343832295583299237324123116001186598389827184121928645702538505665716780419014386801939458010089266470326842494863281255476000731441577606674158130354539198756759545949350602670521582101771924631710941542559446205880314127680541601
+unfolding all
+deepest-up-exact-B = (lit< tt, lit< tt, refl)
+
+deepest-down-B : (Rounded.B deepestCase down low ≡ 33607442050)
+    × (Rounded.B deepestCase down high ≡ 33607442052)
+unfolding all
+deepest-down-B = (refl, refl)
+
+deepest-down-exact-B : Exact.B deepestCase down ≐ 8673617379884035472059622406959533691406250000000000000000000000000000000000000000000000000000000000000000000000 // 258086210989349276047917817413172383631691140276099547911280598425927853437317437263620645695945672001
+unfolding all
+deepest-down-exact-B = (lit< tt, lit< tt, refl)
 
 window-rates : take 2 (windowRatesAfter flatDays small (replicate 240 7) (replicate 240 (pos 7))) ≡ (pos 100 ∷ pos 101 ∷ [])
 unfolding all

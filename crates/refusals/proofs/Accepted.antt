@@ -7,7 +7,7 @@ use mathlib.Core.List.{List, [], _∷_, _++_}
 use Rattle.model.specs.Layout.{caseOf}
 use Rattle.model.specs.Refusals.{refusal}
 use Rattle.model.proofs.Computing.{pairs, all}
-use Rattle.model.proofs.Pinned.{bentFile, bentCase, upFile, downFile, downCase, long}
+use Rattle.model.proofs.Pinned.{bentFile, bentCase, upFile, downFile, downCase, deepestFile, deepestCase, long}
 
 bent-accepted : refusal bentFile ≡ 0
 unfolding all
@@ -21,6 +21,10 @@ down-accepted : refusal downFile ≡ 0
 unfolding all
 down-accepted = refl
 
+deepest-accepted : refusal deepestFile ≡ 0
+unfolding all
+deepest-accepted = refl
+
 bent-case : caseOf bentFile ≡ bentCase
 unfolding all
 bent-case = refl
@@ -28,6 +32,10 @@ bent-case = refl
 down-case : caseOf downFile ≡ downCase
 unfolding all
 down-case = refl
+
+deepest-case : caseOf deepestFile ≡ deepestCase
+unfolding all
+deepest-case = refl
 
 -- the long fund as a file
 abbrev pub longFile : List ℕ

@@ -39,6 +39,8 @@ def vector_files():
     cases = [examples.bent(), examples.up(), examples.down(), *files.ends(), *limits()]
     cases += [files.full_case(rng) for _ in range(4)] + [files.extreme_case(rng) for _ in range(12)]
     cases += [examples.random_case(rng) for _ in range(24)] + files.border_cases(rng, 28)
+    # bonds past term 20: one flow; the largest factor, of one day and of 70
+    cases += [examples.past_20(), *(replace(examples.deepest(), days=flat(-1_000) * n) for n in (1, 70))]
     rich = files.all_fields()
     damaged = rng.sample(files.damaged_once(rich), 24) + [rich[:-1], rich + b"\0", rich[:1]]
     return worked() + [files.file_of(rng, case) for case in cases] + damaged + list(files.long_files(rng))[:3]

@@ -65,7 +65,8 @@ def hand_worked():
 def funds():
     for name, title in (("up", "every field; bonds longer than pensions, so the up curve hurts"),
                         ("down", "every field; pensions outweigh bonds, so the down curve hurts; S5 exceeds the credit"),
-                        ("bent", "a curve that rises, falls, rises and falls, with negative short rates")):
+                        ("bent", "a curve that rises, falls, rises and falls, with negative short rates"),
+                        ("deepest", "the lowest rates, and one bond flow, at term 60, which stays on the unadjusted curve")):
         case = getattr(examples, name)()
         yield Example(name, reference.encode(case, True, bool(case.bonds), True), title)
     largest = replace(examples.up(), days=flat(*range(70)), pension=[10 ** 8] * 120, bonds=[10 ** 8] * 60)
@@ -73,7 +74,7 @@ def funds():
     data = casetext.write(casetext.from_toml((FOLDER / "fund.toml").read_text("utf-8"), FOLDER))
     yield Example("fund", data, "a realistic small fund, written by hand as text; start here")
     fund = reference.read(data)
-    undecided = replace(fund, amounts=fund.amounts | {"cash": 19_453_045})
+    undecided = replace(fund, amounts=fund.amounts | {"cash": 19_260_330})
     yield Example("fund_undecided", reference.encode(undecided, True, True, True),
                   "the fund with cash that brings it within two euros of a border")
     days = [list(day) for day in fund.days]

@@ -256,11 +256,11 @@ class Method(unittest.TestCase):
             self.assertIn(f" | {bound:,} cents | {width(bracket)} cents |", self.TEXT)
         self.assertIn(f"second border, in A | {(4 * WL + 3 * WB + 8) / 100:,.2f} euros |", self.TEXT)
         self.assertIn(f"first border, in A | {(20 * WB + 21 * WL) / 2000:,.2f} euros |", self.TEXT)
-        for cash, verdict in ((19_453_044, "RESERVETEKORT"), (19_453_045, "ONBESLIST"), (19_453_046, "ONBESLIST"),
-                              (19_453_047, "VRIJ VERMOGEN")):
+        for cash, verdict in ((19_260_329, "RESERVETEKORT"), (19_260_330, "ONBESLIST"), (19_260_331, "ONBESLIST"),
+                              (19_260_332, "VRIJ VERMOGEN")):
             rounded = reference.Rounded(replace(fund, amounts=fund.amounts | {"cash": cash}))
             self.assertEqual(rounded.verdict, verdict)
-            if cash == 19_453_045:
+            if cash == 19_260_330:
                 for name in "LAS":
                     self.assertIn(f"\n{name} {getattr(rounded, name)[0]} {getattr(rounded, name)[1]}\n", self.TEXT)
 

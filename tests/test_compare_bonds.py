@@ -16,6 +16,7 @@ import bonds
 import compare
 import examples
 import files
+import pinned
 import programs
 import reference
 from examples import c1, flat
@@ -156,6 +157,30 @@ class Engines(unittest.TestCase):
             for data, answer in zip(batch, engine(RIGHT)(batch))])
         self.assertEqual(found, {*LISTINGS.values(), EXACTLY} - {LISTINGS[0]})
         self.assertEqual(len(unseen), len(bonds.WAYS))
+
+
+class Statements(unittest.TestCase):
+    """The statements that tests/pinned.py writes about B are others for wrong bond factors."""
+
+    QUICK, LONGER = (pinned.bond_statements,), (pinned.shifted_figures, pinned.deepest_figures)
+
+    @staticmethod
+    def written(factors, statements):
+        with mock.patch.object(reference, "bond_factors", factors):
+            return [statement() for statement in statements]
+
+    def changed_by(self, statements):
+        right = self.written(RIGHT, statements)
+        return {factors for factors, *_ in WRONG if self.written(factors, statements) != right}
+
+    def test_quick(self):
+        """Which curve has which factors, by one flow at term 21. The other faults are too small, or elsewhere."""
+        self.assertEqual(self.changed_by(self.QUICK), {adjusted, adjusted_on_moved_curves, adjusted_on_base_curve,
+                                                       adjusted_on_down_curve, of_the_term_before, wide})
+
+    def test_longer(self):
+        """All but products above 2^64, for which it takes 70 days."""
+        self.assertEqual(self.changed_by(self.LONGER), {factors for factors, *_ in WRONG} - {cut_to_64_bits})
 
 
 class Told(unittest.TestCase):

@@ -191,6 +191,7 @@ def width(bracket):
 WIDTHS = {  # each in parts of the width that demand 3 allows
     "factor": lambda r: max(width(r.factors[t]) / (4 * t * t) for t in range(21, 121)),
     "L": lambda r: width(r.L) / r.WL,
+    "B": lambda r: max(map(width, r.Bs.values())) / max(r.WB, 1),  # on the widest of the three curves
     "S": lambda r: width(r.S) / (3 * r.WL + 2 * r.WB + 8),
 }
 

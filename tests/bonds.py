@@ -16,7 +16,7 @@ from reference import AMOUNTS, LOWER, SHOCK_LIMITS, SHOCKS, UPPER, Case, Exact, 
 COUNTS = (0, 1, 20, 21, 60)  # none, the fewest, both sides of term 20, the most
 FLOW = 100_000_000
 MOVED = ("up", "down")
-ENOUGH = 1_000_000  # a flow whose fall by a step of rates is more than what rounding takes
+ENOUGH = 1_000_000  # a step of rates moves the worth of such a flow by more than rounding takes
 
 
 # ---------------------------------------------------------------- cases
@@ -53,8 +53,7 @@ def bond_cases(rng, count):
 # ---------------------------------------------------------------- B on the moved curves
 
 def tells(case):
-    """Whether S1 tells B on both moved curves: it falls to the up curve by more than rounding takes, and can be made to fall to
-    the down curve."""
+    """Whether S1 tells B on both moved curves, since B moves by more than rounding takes."""
     return max(case.bonds, default=0) >= ENOUGH and case.shocks["up_shift"] > 0 and case.shocks["down_shift"] > 0
 
 
@@ -93,9 +92,9 @@ def width(bracket):
 def told_by_S1(alone, without):
     """B on the moved curve, from figures of the same pensions with and without the bonds; None where S1 does not tell it.
 
-    With B', L' on the moved curve S1 is B - L - (B' - L'), each end with the other end of what is taken off, and without bonds
-    it is L' - L: the difference of the two has B' alone. The curve whose shift is 0 has a fall as well, from 0 less to 0 more
-    than all that is rounded; where S1 exceeds it the moved curve decides.
+    With B' and L' on the moved curve S1 is (B - L) - (B' - L'), and without bonds it is L' - L. So B' is B and the second less
+    the first: "differences pair a lower with an upper end", and its lower end comes of all upper ends. To the curve whose shift
+    is 0 there is a fall as well, up to as large as B and L are wide; where S1 is larger the moved curve decides.
     """
     decides = lambda figures: figures["S1"][LOWER] > 0 and figures["S1"][UPPER] > width(figures["B"]) + width(figures["L"])
     if not decides(alone) or not (decides(without) or without["L"] == (0, 0)):

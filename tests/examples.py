@@ -89,15 +89,16 @@ def long():
 
 
 def deepest():
-    """The lowest rates, the largest down shift and one bond flow, at term 60: no bond factor is larger than that of the down curve, which
-    decides S1. VRIJ VERMOGEN; with that flow on the adjusted curve it would be DEKKINGSTEKORT."""
+    """The lowest rates, the largest down shift and one bond flow, at term 60: no bond factor is larger than that of the down
+    curve, which decides S1. VRIJ VERMOGEN; with that flow on the adjusted curve it would be DEKKINGSTEKORT."""
     return c1(days=flat(-1_000), pension=[100_000_000] * 20, bonds=[0] * 59 + [100_000_000],
               amounts=dict.fromkeys(AMOUNTS, 0) | {"cash": 2_300_000_000},
               shocks=dict.fromkeys(SHOCKS, 0) | {"up_shift": 270, "down_shift": 1_000})
 
 
 def past_20():
-    """C1 with one bond flow, at term 21, and shifts of 1 and 0.5 percent: B is 1,000,000 euros on the base curve, whose rates are 0."""
+    """C1 with one bond flow, at term 21, and shifts of 1 and 0.5 percent: B is 1,000,000 euros on the base curve, whose rates
+    are 0."""
     return c1(bonds=[0] * 20 + [1_000_000], shocks=c1().shocks | {"up_shift": 1_000, "down_shift": 500})
 
 

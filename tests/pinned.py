@@ -299,7 +299,8 @@ def exact_factor_statement(name, on, t, case, shift=0):
 def bond_statements():
     """Bond factors on both sides of term 20 and at term 60, of a bent curve and of those of C3, C5, C6 and C7; then B and S1 of a fund
     with one bond flow, at term 21. Its curves are C6's, a flat 1,000 and C3's."""
-    bent, past, half, five = examples.bent(), examples.past_20(), examples.c1(days=examples.flat(100, 101)), examples.c1(days=examples.flat(5_000))
+    half, five = (examples.c1(days=examples.flat(*rates)) for rates in ((100, 101), (5_000,)))
+    bent, past = examples.bent(), examples.past_20()
     rounded, exact = Rounded(past), Exact(past)
     moves = reference.shifts(past)
     out = [factor_statement("bent", "bentCurve", t, bent) for t in (1, 20, 21, 60)]
@@ -307,7 +308,7 @@ def bond_statements():
     out += [case_definition("halfStep", half, "C5: days at 100 and 101."), case_definition("fivePercent", five, "C7: flat 5,000.")]
     out += [exact_factor_statement("halfStep", "(curve halfStep base)", t, half) for t in (1, 21)]
     out += [exact_factor_statement("fivePercent", "(curve fivePercent base)", t, five) for t in (20, 21)]
-    out.append(case_definition("past20", past, "C1 with shifts and one bond flow, at term 21. The base curve is C6's, the down curve is C3's."))
+    out.append(case_definition("past20", past, "C1 with shifts and one bond flow, at term 21. The base curve is C6's, the down curve C3's."))
     for move, shift in moves.items():
         on = f"(curve past20 {move})"
         out += [factor_statement(f"past20-{move}", on, 21, past, shift), exact_factor_statement(f"past20-{move}", on, 1, past, shift),
@@ -324,7 +325,8 @@ def deepest_statements():
     """The largest bond factor. The figures take longer: Files.antt of the crate `pinned`."""
     case = examples.deepest()
     out = read_statements("deepest", case, encode(case, True, True, True))
-    out += [factor_statement(f"deepest-{move}", f"(curve deepestCase {move})", 60, case, shift) for move, shift in reference.shifts(case).items()]
+    out += [factor_statement(f"deepest-{move}", f"(curve deepestCase {move})", 60, case, shift)
+            for move, shift in reference.shifts(case).items()]
     rounded = Rounded(case)
     return out + [computed("deepest-widths", f"WL deepestCase ≡ {rounded.WL}", f"WB deepestCase ≡ {rounded.WB}")]
 
@@ -883,7 +885,8 @@ def deepest_figures():
     out = [exact_factor_statement("deepest-down", "(curve deepestCase down)", 60, case, reference.shifts(case)["down"])]
     for move, worth in rounded.Bs.items():
         out.append(computed(f"deepest-{move}-B", *both_ends(f"Rounded.B deepestCase {move} {{e}}", worth)))
-        out.append(computed_fraction(f"deepest-{move}-exact-B", f"Exact.B deepestCase {move}", getattr(exact, move).bond_worth(case.bonds)))
+        exact_B = getattr(exact, move).bond_worth(case.bonds)
+        out.append(computed_fraction(f"deepest-{move}-exact-B", f"Exact.B deepestCase {move}", exact_B))
     return out
 
 

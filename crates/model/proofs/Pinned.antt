@@ -632,7 +632,7 @@ fivePercent-exact-unadjusted-21 : Exact.unadjusted (curve fivePercent base) 21 â
 unfolding all
 fivePercent-exact-unadjusted-21 = (lit< tt, lit< tt, refl)
 
--- C1 with shifts and one bond flow, at term 21. The base curve is C6's, the down curve is C3's.
+-- C1 with shifts and one bond flow, at term 21. The base curve is C6's, the down curve C3's.
 abbrev pub past20 : FileCase
 past20 = record {
   ufr = 4200;

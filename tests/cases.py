@@ -71,6 +71,7 @@ def funds():
         yield Example(name, reference.encode(case, True, bool(case.bonds), True), title)
     largest = replace(examples.up(), days=flat(*range(70)), pension=[10 ** 8] * 120, bonds=[10 ** 8] * 60)
     yield Example("largest", reference.encode(largest, True, True, True), "the longest file: 70 days, 120 and 60 flows")
+    yield Example("shortage", plain(**cash(1_049_999)), "C1 with one euro less than 105 percent of L")
     data = casetext.write(casetext.from_toml((FOLDER / "fund.toml").read_text("utf-8"), FOLDER))
     yield Example("fund", data, "a realistic small fund, written by hand as text; start here")
     fund = reference.read(data)
@@ -129,8 +130,9 @@ def table(examples):
 
 
 def wanted():
-    """Every file that this script writes, by its path in the tree."""
+    """Every file that this script writes, by its path in the tree. Every refusal and every verdict is among the examples."""
     examples = all_examples()
+    assert {programs.outcome(reference.listing(one.data)) for one in examples} == set(programs.OUTCOMES)
     contents = {"README.md": table(examples)}
     for one in examples:
         contents[f"{one.name}.txt"] = reference.listing(one.data).decode()

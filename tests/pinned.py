@@ -297,17 +297,13 @@ def exact_factor_statement(name, on, t, case, shift=0):
 
 
 def bond_statements():
-    """Bond factors on both sides of term 20 and at term 60, of a bent curve and of those of C3, C5, C6 and C7; then B and S1 of a fund
-    with one bond flow, at term 21. Its curves are C6's, a flat 1,000 and C3's."""
-    half, five = (examples.c1(days=examples.flat(*rates)) for rates in ((100, 101), (5_000,)))
+    """Bond factors on both sides of term 20 and at term 60, of a bent curve; then those of a fund with one bond flow, at term 21, and its
+    B and S1. Its curves are C6's, a flat 1,000 and C3's."""
     bent, past = examples.bent(), examples.past_20()
     rounded, exact = Rounded(past), Exact(past)
     moves = reference.shifts(past)
     out = [factor_statement("bent", "bentCurve", t, bent) for t in (1, 20, 21, 60)]
     out += [exact_factor_statement("bent", "bentCurve", t, bent) for t in (1, 2, 21)]
-    out += [case_definition("halfStep", half, "C5: days at 100 and 101."), case_definition("fivePercent", five, "C7: flat 5,000.")]
-    out += [exact_factor_statement("halfStep", "(curve halfStep base)", t, half) for t in (1, 21)]
-    out += [exact_factor_statement("fivePercent", "(curve fivePercent base)", t, five) for t in (20, 21)]
     out.append(case_definition("past20", past, "C1 with shifts and one bond flow, at term 21. The base curve is C6's, the down curve C3's."))
     for move, shift in moves.items():
         on = f"(curve past20 {move})"
@@ -879,14 +875,11 @@ def shifted_figures():
 
 
 def deepest_figures():
-    """B on all three curves in both workings, and the exact bond factor of the down curve."""
+    """B on all three curves, and the exact bond factor of the down curve. An exact sum of 60 fractions takes too long to compute."""
     case = examples.deepest()
-    rounded, exact = Rounded(case), Exact(case)
     out = [exact_factor_statement("deepest-down", "(curve deepestCase down)", 60, case, reference.shifts(case)["down"])]
-    for move, worth in rounded.Bs.items():
+    for move, worth in Rounded(case).Bs.items():
         out.append(computed(f"deepest-{move}-B", *both_ends(f"Rounded.B deepestCase {move} {{e}}", worth)))
-        exact_B = getattr(exact, move).bond_worth(case.bonds)
-        out.append(computed_fraction(f"deepest-{move}-exact-B", f"Exact.B deepestCase {move}", exact_B))
     return out
 
 

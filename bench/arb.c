@@ -1,4 +1,4 @@
-/* The factors of three curves and the zero rates of the base curve as balls of 64 bits, by Arb: what one
+/* The factors of three curves, those of the bonds and the zero rates of the base curve as balls of 64 bits, by Arb: what one
  * would use for guaranteed digits without a proof of one's own program. Money and verdict are left out,
  * so this does less than a valuation. */
 #include "bench.h"
@@ -12,6 +12,14 @@ static void set_mean(arb_t mean, const struct fund *fund, int64_t shift, int t)
 {
     arb_set_ui(mean, p_of(fund, shift, t));
     arb_div_ui(mean, mean, STEPS * fund->n, BITS);
+}
+
+/* (N / P(t))^t: a factor up to term 20, where the growths multiply to (1 + R(t))^t, and that of a bond at every term. */
+static void set_unadjusted(arb_t factor, const struct fund *fund, int64_t shift, int t)
+{
+    set_mean(factor, fund, shift, t);
+    arb_pow_ui(factor, factor, (ulong)t, BITS);
+    arb_inv(factor, factor, BITS);
 }
 
 /* (1 - w) x G(t) + w x (1 + UFR), with G(t) = (1 + R(t))^t / (1 + R(t-1))^(t-1). */
@@ -30,7 +38,7 @@ static void set_growth(arb_t growth, const struct fund *fund, int64_t shift, int
     arb_clear(part);
 }
 
-/* Places 1 to 120. Up to term 20 the growths multiply to (1 + R(t))^t. */
+/* Places 1 to 120. */
 static void ball_factors(const struct fund *fund, int64_t shift, arb_ptr factors)
 {
     arb_t growth, ufr_growth;
@@ -40,9 +48,7 @@ static void ball_factors(const struct fund *fund, int64_t shift, arb_ptr factors
     arb_div_ui(ufr_growth, ufr_growth, STEPS, BITS);
     for (int t = 1; t <= LAST_TERM; t++) {
         if (t <= LAST_UNWEIGHED_TERM) {
-            set_mean(growth, fund, shift, t);
-            arb_pow_ui(growth, growth, (ulong)t, BITS);
-            arb_inv(factors + t, growth, BITS);
+            set_unadjusted(factors + t, fund, shift, t);
         } else if (t <= LAST_MARKET_TERM) {
             set_growth(growth, fund, shift, t, ufr_growth);
             arb_div(factors + t, factors + t - 1, growth, BITS);
@@ -52,6 +58,13 @@ static void ball_factors(const struct fund *fund, int64_t shift, arb_ptr factors
     }
     arb_clear(growth);
     arb_clear(ufr_growth);
+}
+
+/* The factors of the bonds past term 20. Up to 20 they are those above. */
+static void ball_bond_factors(const struct fund *fund, int64_t shift, arb_ptr factors)
+{
+    for (int t = LAST_UNWEIGHED_TERM + 1; t <= (int)fund->k; t++)
+        set_unadjusted(factors + t, fund, shift, t);
 }
 
 /* factor^(-1/t) - 1. */
@@ -81,10 +94,10 @@ static bool meets_bracket(const arb_t ball, ulong unit, int64_t lower, int64_t u
     return meets;
 }
 
-static bool factors_meet(arb_srcptr factors, const uint64_t *brackets)
+static bool factors_meet(arb_srcptr factors, int first, int last, const uint64_t *brackets)
 {
     bool meets = true;
-    for (int t = 1; t <= LAST_TERM; t++)
+    for (int t = first; t <= last; t++)
         meets = meets && meets_bracket(factors + t, 1000000000000, (int64_t)brackets[GINGHAMOWL_LOWER(t)],
                                        (int64_t)brackets[GINGHAMOWL_UPPER(t)]);
     return meets;
@@ -100,29 +113,33 @@ static bool rates_meet(arb_srcptr balls, const int64_t *rates)
 }
 
 /* Without brackets it only computes. */
-static bool three_curves(const uint8_t *file, uint64_t (*brackets)[GINGHAMOWL_ENTRIES], const int64_t *rates)
+static bool three_curves(const uint8_t *file, const struct brackets *brackets, const int64_t *rates)
 {
     struct fund fund;
-    arb_ptr factors = _arb_vec_init(LAST_TERM + 1), balls = _arb_vec_init(LAST_TERM + 1);
+    arb_ptr factors = _arb_vec_init(LAST_TERM + 1), bond_factors = _arb_vec_init(LAST_MARKET_TERM + 1);
+    arb_ptr balls = _arb_vec_init(LAST_TERM + 1);
     bool meets = true;
     read_fund(file, &fund);
     for (int curve = BASE; curve < CURVES; curve++) {
         ball_factors(&fund, shift_of(&fund, curve), factors);
+        ball_bond_factors(&fund, shift_of(&fund, curve), bond_factors);
         if (curve == BASE)
             ball_rates(factors, balls);
         if (brackets)
-            meets = meets && factors_meet(factors, brackets[curve]);
+            meets = meets && factors_meet(factors, 1, LAST_TERM, brackets[curve].factors) &&
+                    factors_meet(bond_factors, LAST_UNWEIGHED_TERM + 1, (int)fund.k, brackets[curve].bonds);
     }
     if (brackets)
         meets = meets && rates_meet(balls, rates);
     _arb_vec_clear(factors, LAST_TERM + 1);
+    _arb_vec_clear(bond_factors, LAST_MARKET_TERM + 1);
     _arb_vec_clear(balls, LAST_TERM + 1);
     return meets;
 }
 
 void arb_run(const uint8_t *file) { three_curves(file, NULL, NULL); }
 
-bool arb_meets(const uint8_t *file, uint64_t brackets[CURVES][GINGHAMOWL_ENTRIES], const int64_t *rates)
+bool arb_meets(const uint8_t *file, const struct brackets brackets[CURVES], const int64_t *rates)
 {
     return three_curves(file, brackets, rates);
 }

@@ -164,11 +164,12 @@ static void plain_reading(const struct input *input) { read_fund(input->bytes, &
 
 static void plain_curves(const struct input *input)
 {
-    uint64_t factors[GINGHAMOWL_ENTRIES];
+    uint64_t bond_factors[BOND_ENTRIES];
     plain_reading(input);
-    for (int curve = DOWN; curve > BASE; curve--)
-        plain_factors(&latest_fund, shift_of(&latest_fund, curve), factors);
-    plain_factors(&latest_fund, 0, latest.factors);
+    for (int curve = DOWN; curve >= BASE; curve--) {
+        plain_factors(&latest_fund, shift_of(&latest_fund, curve), latest.factors);
+        plain_bond_factors(&latest_fund, shift_of(&latest_fund, curve), latest.factors, bond_factors);
+    }
 }
 
 static void plain_curves_and_rates(const struct input *input)
@@ -258,20 +259,22 @@ static bool equal(const struct work *program, const struct result *ours, const s
     return same;
 }
 
-/* The engine gives the factors of the base curve; those of the other two are plain C's, which L, B and S1 hold
- * to the engine's. */
+/* The engine gives the adjusted factors of the base curve; those of the other two and those of bonds are plain C's, which L, B
+ * and S1 hold to the engine's. */
 static bool check(const struct input *input)
 {
-    uint64_t brackets[CURVES][GINGHAMOWL_ENTRIES];
+    struct brackets brackets[CURVES];
     struct fund fund;
     engine(input);
     struct result ours = latest;
     if (!demand(ours.valuation.refusal == GINGHAMOWL_ACCEPTED, "engine", "refuses the file", input))
         return false;
     read_fund(input->bytes, &fund);
-    memcpy(brackets[BASE], ours.factors, sizeof ours.factors);
-    plain_factors(&fund, shift_of(&fund, UP), brackets[UP]);
-    plain_factors(&fund, shift_of(&fund, DOWN), brackets[DOWN]);
+    memcpy(brackets[BASE].factors, ours.factors, sizeof ours.factors);
+    plain_factors(&fund, shift_of(&fund, UP), brackets[UP].factors);
+    plain_factors(&fund, shift_of(&fund, DOWN), brackets[DOWN].factors);
+    for (int curve = BASE; curve < CURVES; curve++)
+        plain_bond_factors(&fund, shift_of(&fund, curve), brackets[curve].factors, brackets[curve].bonds);
     bool same = equal(&programs[PLAIN], &ours, input);
     same &= equal(&programs[FILTER], &ours, input);
     same &= demand(gmp_meets(input->bytes, brackets), "GMP", "an exact factor is outside its bracket", input);

@@ -1,4 +1,5 @@
-/* What the programs of the benchmark share. "Document 01" is "The UFR curve and the solvency verdict of one fund". */
+/* What the programs of the benchmark share. "Document 01" is "The UFR curve and the solvency verdict of one fund"; "Document 02"
+ * has the requests that came later. */
 #ifndef BENCH_H
 #define BENCH_H
 
@@ -9,6 +10,7 @@
 #include "ginghamowl.h"
 
 enum { LAST_TERM = GINGHAMOWL_TERMS, LAST_MARKET_TERM = 60, LAST_UNWEIGHED_TERM = 20, STEPS = 100000 };
+enum { BOND_ENTRIES = 2 * LAST_MARKET_TERM }; /* lower, upper, term by term, as in a factor buffer */
 
 /* Numbers in the order of the case file. */
 enum { MATURE, EMERGING, PRIVATE, PROPERTY, COMMODITIES, CREDIT, CASH, CURRENCY, AMOUNTS };
@@ -44,6 +46,8 @@ extern const uint64_t weights[LAST_MARKET_TERM + 1]; /* in thousandths, of terms
 /* plain.c: the rounded working. */
 void read_fund(const uint8_t *file, struct fund *fund);
 void plain_factors(const struct fund *fund, int64_t shift, uint64_t factors[GINGHAMOWL_ENTRIES]);
+void plain_bond_factors(const struct fund *fund, int64_t shift, const uint64_t *factors,
+                        uint64_t bond_factors[BOND_ENTRIES]); /* of terms 1 to k; takes the factors of the same curve */
 uint64_t discounted_down(int64_t z, int t); /* the lower result of a test of step z: 10^12, discounted t times */
 uint64_t discounted_up(int64_t z, int t);   /* and the upper one */
 void plain_rates(const uint64_t *factors, int64_t *rates);
@@ -56,11 +60,16 @@ extern uint64_t filter_left_open;
 void filter_rates(const uint64_t *factors, int64_t *rates);
 ginghamowl_valuation filter_value(const uint8_t *file, uint64_t *factors, int64_t *rates);
 
+/* The brackets of a curve's factors, adjusted and of bonds. */
+struct brackets {
+    uint64_t factors[GINGHAMOWL_ENTRIES], bonds[BOND_ENTRIES];
+};
+
 /* gmp.c and arb.c: `run` does the work once; `meets` does it once more and says whether every result
  * meets its bracket, the factors of three curves and the rates of the base curve. */
 void gmp_run(const uint8_t *file);
-bool gmp_meets(const uint8_t *file, uint64_t brackets[CURVES][GINGHAMOWL_ENTRIES]);
+bool gmp_meets(const uint8_t *file, const struct brackets brackets[CURVES]);
 void arb_run(const uint8_t *file);
-bool arb_meets(const uint8_t *file, uint64_t brackets[CURVES][GINGHAMOWL_ENTRIES], const int64_t *rates);
+bool arb_meets(const uint8_t *file, const struct brackets brackets[CURVES], const int64_t *rates);
 
 #endif

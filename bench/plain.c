@@ -91,6 +91,20 @@ static ginghamowl_bracket weighed_growth(uint64_t n, uint64_t p, uint64_t before
                                 ceiling((1000 - weight) * upper + weight * ufr_growth, 1000)};
 }
 
+/* The factor of a bond past term 20: t times x N / P(t), as up to 20. It may reach 0.98^-60, about 3.4, and 64 bits do not hold
+ * 7,000,000 times that. Where P(t) is at least N the factors do not rise, and 64 bits hold the product at every term. */
+static ginghamowl_bracket late_bond_factor(uint64_t n, uint64_t p, int t)
+{
+    if (p >= n)
+        return early_factor(n, p, t);
+    ginghamowl_bracket factor = {ONE, ONE};
+    for (int i = 0; i < t; i++) {
+        factor.lower = wide_floor((wide)factor.lower * n, p);
+        factor.upper = wide_ceiling((wide)factor.upper * n, p);
+    }
+    return factor;
+}
+
 void plain_factors(const struct fund *fund, int64_t shift, uint64_t factors[GINGHAMOWL_ENTRIES])
 {
     uint64_t n = STEPS * fund->n, ufr_growth = ONE + fund->ufr * 10000000;
@@ -107,6 +121,18 @@ void plain_factors(const struct fund *fund, int64_t shift, uint64_t factors[GING
         }
         factors[GINGHAMOWL_LOWER(t)] = factor.lower;
         factors[GINGHAMOWL_UPPER(t)] = factor.upper;
+    }
+}
+
+/* Document 02, Four: bonds are off the adjusted curve. Up to term 20 the adjusted factors are theirs too. */
+void plain_bond_factors(const struct fund *fund, int64_t shift, const uint64_t *factors, uint64_t bond_factors[BOND_ENTRIES])
+{
+    for (int t = 1; t <= (int)fund->k; t++) {
+        ginghamowl_bracket factor = {factors[GINGHAMOWL_LOWER(t)], factors[GINGHAMOWL_UPPER(t)]};
+        if (t > LAST_UNWEIGHED_TERM)
+            factor = late_bond_factor(STEPS * fund->n, p_of(fund, shift, t), t);
+        bond_factors[GINGHAMOWL_LOWER(t)] = factor.lower;
+        bond_factors[GINGHAMOWL_UPPER(t)] = factor.upper;
     }
 }
 
@@ -178,6 +204,13 @@ static ginghamowl_bracket worth(const uint64_t *flows, uint64_t count, const uin
     return sum;
 }
 
+static ginghamowl_bracket bonds_worth(const struct fund *fund, int64_t shift, const uint64_t *factors)
+{
+    uint64_t bond_factors[BOND_ENTRIES];
+    plain_bond_factors(fund, shift, factors, bond_factors);
+    return worth(fund->bonds, fund->k, bond_factors);
+}
+
 static uint64_t largest(int64_t a, int64_t b)
 {
     int64_t larger = a > b ? a : b;
@@ -192,7 +225,7 @@ static ginghamowl_bracket interest_loss(const struct fund *fund, ginghamowl_brac
         uint64_t factors[GINGHAMOWL_ENTRIES];
         plain_factors(fund, shift_of(fund, curve), factors);
         ginghamowl_bracket shifted_l = worth(fund->pension, fund->m, factors);
-        ginghamowl_bracket shifted_b = worth(fund->bonds, fund->k, factors);
+        ginghamowl_bracket shifted_b = bonds_worth(fund, shift_of(fund, curve), factors);
         lower[curve] = (int64_t)(b.lower - l.upper - (shifted_b.upper - shifted_l.lower));
         upper[curve] = (int64_t)(b.upper - l.lower - (shifted_b.lower - shifted_l.upper));
     }
@@ -273,7 +306,7 @@ ginghamowl_valuation plain_money(const struct fund *fund, const uint64_t *factor
     ginghamowl_valuation v = {.refusal = GINGHAMOWL_ACCEPTED};
     ginghamowl_figures *f = &v.figures;
     f->l = worth(fund->pension, fund->m, factors);
-    f->b = worth(fund->bonds, fund->k, factors);
+    f->b = bonds_worth(fund, 0, factors);
     f->a = f->b;
     for (int i = 0; i < AMOUNTS; i++) {
         f->a.lower += i == CURRENCY ? 0 : 100 * fund->amount[i];

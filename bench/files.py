@@ -2,8 +2,8 @@
 
 small, typical and large are timed; n_*, m_* and k_* show how the work grows with the days, the pension flows and the
 bond flows, the other two counts standing still; curve_* have the counts of n_35, and show how it depends on the curve: of one
-all zero rates are the UFR, of the other they fall from 9 percent towards it; check_* are funds from the tests' generator,
-only checked."""
+all zero rates are the UFR, of the other they fall from 9 percent towards it; check_* are only checked: funds from the tests'
+generator, and check_low, whose bonds have the largest factors that the limits allow, on the down curve."""
 
 import random
 import sys
@@ -51,6 +51,8 @@ def cases():
     rng = random.Random(2)
     for i in range(20):
         yield f"check_{i}", files.extreme_case(rng) if i % 2 else examples.random_case(rng)
+    low = fund(70, 120, 60)
+    yield "check_low", replace(low, days=examples.flat(-1_000) * 70, shocks=low.shocks | {"down_shift": 1_000})
 
 
 def main(directory):

@@ -51,6 +51,7 @@ use Rattle.model.specs.Fraction.{_//_, _≐_, whole}
 use Rattle.model.specs.Curve.{Curve, base, up, down, curve, P}
 use Rattle.model.specs.Exact as Exact
 use Rattle.model.specs.Rounded as Rounded
+use Rattle.model.specs.Buffers.{entryOf, factorEntries}
 use Rattle.model.specs.Margins.{WL, WB, NearFirst, NearSecond, firstMargin, secondMargin}
 use Rattle.model.specs.Demand3.{
   leastStep,
@@ -257,6 +258,7 @@ def bent_statements():
             f"Rounded.weighed bentCurve {{e}} {t}", ends(lambda end: reference.weighed_growth(N, P, case.ufr, t, end)))))
     for t in (1, 20, 21):
         out.append(computed(f"bent-factor-{t}", *both_ends(f"Rounded.factor bentCurve {{e}} {t}", rounded.factors[t])))
+    out.append(computed("bent-entries-21", *both_ends("entryOf (factorEntries bentCase) {e} 21", rounded.factors[21])))
     for t in (1, 2):
         out.append(computed_fraction(f"bent-exact-factor-{t}", f"Exact.factor bentCurve {t}", exact.factor(t)))
     for t in (61, 120):

@@ -18,6 +18,7 @@ use Rattle.model.specs.Fraction.{_//_, _≐_, whole}
 use Rattle.model.specs.Curve.{Curve, base, up, down, curve, P}
 use Rattle.model.specs.Exact as Exact
 use Rattle.model.specs.Rounded as Rounded
+use Rattle.model.specs.Buffers.{entryOf, factorEntries}
 use Rattle.model.specs.Margins.{WL, WB, NearFirst, NearSecond, firstMargin, secondMargin}
 use Rattle.model.specs.Demand3.{
   leastStep,
@@ -152,6 +153,11 @@ bent-factor-21 : (Rounded.factor bentCurve low 21 ≡ 917880681054)
     × (Rounded.factor bentCurve high 21 ≡ 917880681093)
 unfolding all
 bent-factor-21 = (refl, refl)
+
+bent-entries-21 : (entryOf (factorEntries bentCase) low 21 ≡ 917880681054)
+    × (entryOf (factorEntries bentCase) high 21 ≡ 917880681093)
+unfolding all
+bent-entries-21 = (refl, refl)
 
 bent-exact-factor-1 : Exact.factor bentCurve 1 ≐ 75000 // 74777
 unfolding all

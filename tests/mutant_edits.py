@@ -40,8 +40,9 @@ NAMES = [
 # The same for the variables of one file, which elsewhere have another type.
 VARIABLES = {
     "Fields": [("x", "y"), ("f", "g"), ("c", "r"), ("least", "most")], "Layout": [(".ufr", ".bonds", ".amounts")],
-    "Fraction": [("x", "y")], "Exact": [("a", "l")], "Margins": [("a", "l")], "Rounding": [("a", "b")], "Root": [("n", "d")],
-    "Rounded": [("s1", "s2", "s3", "s4", "s5", "s6"), ("a", "l"), ("h", "d")],
+    "Fraction": [("x", "y")], "Exact": [("a", "l"), ("factor", "unadjusted"), ("G", "growth")], "Margins": [("a", "l")],
+    "Rounding": [("a", "b")], "Root": [("n", "d")],
+    "Rounded": [("s1", "s2", "s3", "s4", "s5", "s6"), ("a", "l"), ("h", "d"), ("factor", "unadjusted")],
 }
 
 # The modules of the toolchain's names that a mutant may need and its file may lack. Other names are looked for in the definitions.

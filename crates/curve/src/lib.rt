@@ -1,4 +1,4 @@
-// The rounded curve of a case: growths and discount factors, at both ends of each bracket.
+// The rounded curve of a case: growths and discount factors, adjusted and unadjusted, at both ends of each bracket.
 pub mod factor;
 pub mod growth;
 pub mod shift;

@@ -42,8 +42,8 @@ fn take_long_years(a: u64, b: u64, j: usize) -> Bracket
     x
 }
 
-// From 1. A year adds a share (a - b) / b at most: where all years together add no more than a half, no end comes to 2^41, and every
-// product fits. Asked once, this saves the tests of each year, a sixth of the instructions.
+// From 1. A year adds a share (a - b) / b: where all years together add no more than a half, no end comes to 2^41, and every product
+// fits. Asked once, this saves a test in each year.
 pub fn over_years(a: u64, b: u64, j: usize) -> Bracket
     requires { ⌜ ScaledWithin a b j ⌝ }
     ensures { λ r. ⌜ r ≡ bracket (λ e. scaled e a b j) ⌝ }

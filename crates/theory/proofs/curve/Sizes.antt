@@ -17,7 +17,7 @@ use Rattle.model.specs.Numbers.{every}
 use Rattle.model.specs.inner.CurveWithin.{CurveWithin}
 use Rattle.theory.proofs.general.Lists.{every-le}
 use Rattle.theory.proofs.general.Powers.{pow-pos, backward}
-use Rattle.theory.proofs.curve.Steps.{scaled-in, scaled-mono, scaled-width}
+use Rattle.theory.proofs.curve.Steps.{scaled-in, scaled-width}
 use Rattle.theory.proofs.curve.Growth.{growth-suc, P-pos, N-pos}
 use Rattle.theory.proofs.curve.Factor.{rounded-factor-first, rounded-factor-next, weighed-from-61, least}
 use Rattle.theory.proofs.curve.Unadjusted.{years-bound}

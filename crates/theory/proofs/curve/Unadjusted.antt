@@ -8,7 +8,7 @@ use native.Mathlib.Omega.{arith}
 use native.Mathlib.Nat.{pow-zero, le-trans, mul-pos}
 use Rattle.arith.specs.Rounding.{End, low, high, divide}
 use Rattle.model.specs.Constants.{unit}
-use Rattle.model.specs.Fraction.{_÷ᶠ_, _^ᶠ_, _≈_}
+use Rattle.model.specs.Fraction.{_^ᶠ_, _≈_}
 use Rattle.model.specs.Curve.{Curve, P}
 use Rattle.model.specs.Exact as Exact
 use Rattle.model.specs.Exact.{G, onePlusR, productOf}

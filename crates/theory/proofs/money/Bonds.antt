@@ -1,20 +1,18 @@
 -- Bonds off the adjusted curve (document 02, request Four): B does not depend on the UFR, on no curve and in neither working; and a case
 -- whose bond flows end at term 20 or before, or that has none, keeps every number that the adjusted factors gave.
 -- Assumes nothing.
-use Prim.Native.Nat.{ℕ, _-_, _+_, _≤_}
+use Prim.Native.Nat.{ℕ, _-_, _≤_}
 use mathlib.Core.Path.{_≡_, ap, fun-ext}
 use native.Mathlib.Omega.{arith}
 use lib.ListN.{length}
 use Rattle.arith.specs.Rounding.{End}
 use Rattle.model.specs.Fraction.{Fraction, _//_, _÷ᶠ_, _^ᶠ_, whole}
 use Rattle.model.specs.Case.{FileCase, withUfr}
-use Rattle.model.specs.Curve.{Curve, Move, base, curve, P}
+use Rattle.model.specs.Curve.{Move, curve, P}
 use Rattle.model.specs.Exact as Exact
 use Rattle.model.specs.Exact.{G, productOf}
 use Rattle.model.specs.Rounded as Rounded
 use Rattle.model.specs.Rounded.{scaled, figuresOf, verdictOf}
-use Rattle.model.specs.declared.figures.Figures.{Figures}
-use Rattle.model.specs.declared.figures.Verdict.{Verdict}
 use Rattle.theory.proofs.curve.Changed.{ufr-P}
 use Rattle.theory.proofs.curve.Factor.{factor-to-20, rounded-factor-to-20}
 use Rattle.theory.proofs.money.Worth.{same-worth, same-exact-worth}
@@ -47,8 +45,7 @@ adjustedB k m e = Rounded.worth e (Rounded.factor (curve k m) e) 1 (k .bonds)
 module _ (k : FileCase) (short : length (k .bonds) ≤ 20) where
   pub exact-B-to-20 : (m : Move) → Exact.B k m ≡ adjustedExactB k m
   exact-B-to-20 m =
-      ap (λ (x : Fraction). x)
-      (same-exact-worth 20 (Exact.unadjusted (curve k m)) (Exact.factor (curve k m)) (λ t h. rw (factor-to-20 (curve k m) t h)) 1 (k .bonds) (omega arith))
+      same-exact-worth 20 (Exact.unadjusted (curve k m)) (Exact.factor (curve k m)) (λ t h. rw (factor-to-20 (curve k m) t h)) 1 (k .bonds) (omega arith)
 
   B-at : (m : Move) (e : End) → Rounded.B k m e ≡ adjustedB k m e
   B-at m e =

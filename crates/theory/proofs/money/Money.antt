@@ -1,7 +1,7 @@
 -- Every money figure lies in its bracket, since each is made by steps that keep one (Steps): a difference takes the other end of what it
 -- subtracts, and a maximum is taken of each end. S6 and S are roots of fractions, so their squares are compared.
 -- Assumes nothing.
-use Prim.Native.Nat.{ℕ, suc, _+_, _*_, _^_, _≤_, _<_, max}
+use Prim.Native.Nat.{ℕ, _+_, _*_, _^_, _≤_, _<_, max}
 use mathlib.Core.Path.{_≡_}
 use native.Mathlib.Omega.{arith}
 use native.Mathlib.Nat.{mul-le-mul-left, mul-le-mul-right, le-of-mul-le-mul-right, mul-pos, max-eq-left, max-eq-right, max-comm, le-max-right}

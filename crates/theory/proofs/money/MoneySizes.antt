@@ -1,7 +1,7 @@
 -- How large the money figures become: every end lies below 2^53, so that a double holds it. Each limit of a file bounds one number of a
 -- product, no adjusted factor passes 2.2 and no unadjusted one 3.4, and a root of squares with a correlation of at most 1 is at most the sum of its parts.
 -- Assumes nothing.
-use Prim.Native.Nat.{ℕ, suc, _+_, _*_, _^_, _≤_, _<_, max}
+use Prim.Native.Nat.{ℕ, _+_, _*_, _^_, _≤_, max}
 use native.Mathlib.Omega.{arith}
 use native.Mathlib.Nat.{mul-le-mul, mul-le-mul-left, mul-le-mul-right, le-trans, le-refl}
 use Rattle.arith.specs.Rounding.{End, low, high}

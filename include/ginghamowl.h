@@ -157,7 +157,8 @@ typedef struct {
     uint64_t upper;
 } ginghamowl_bracket;
 
-/* The ten money figures: liabilities L, bonds B, assets A, the losses S1 to S6, the root buffer S. */
+/* The ten money figures: liabilities L, bonds B, assets A, the losses S1 to S6, the root buffer S.
+ * L is at the adjusted curve, whose factors are lent and shown; B is at the curve as it is, without UFR. */
 typedef struct {
     ginghamowl_bracket l, b, a, s1, s2, s3, s4, s5, s6, s;
 } ginghamowl_figures;

@@ -48,6 +48,7 @@ class Bracket:
 class Figures:
     """The money figures in cents: liabilities L, bonds B, assets A, the losses S1 to S6, the root buffer S.
 
+    L is at the adjusted curve, whose factors a valuation gives; B is at the curve as it is, without UFR.
     Iterating gives pairs of a name, as document 01 writes it (L B A S1 S2 S3 S4 S5 S6 S, in this order), and a bracket.
     """
 

@@ -53,6 +53,7 @@ pub struct Bracket<N> {
 }
 
 /// The money figures in cents: liabilities L, bonds B, assets A, the losses S1 to S6, the root buffer S.
+/// L is at the adjusted curve, whose factors a valuation gives; B is at the curve as it is, without UFR.
 #[derive(Clone, Copy, Debug, PartialEq, Eq)]
 pub struct Figures {
     pub l: Bracket<u64>,

@@ -1,8 +1,7 @@
 -- From 10^12, j times × a ÷ b: one time more, and that the products fit. Assumes nothing.
 use Prim.Native.Nat.{ℕ, zero, suc, _+_, _*_, _-_, _^_, _≤_, _<_}
-use mathlib.Core.Path.{_≡_, refl, sym, _∙_}
+use mathlib.Core.Path.{_≡_, refl, _∙_}
 use native.Mathlib.Omega.{arith}
-use native.Mathlib.Numerals.{add-one}
 use native.Mathlib.Nat.{mul-le-mul, mul-le-mul-left, mul-le-mul-right, le-of-mul-le-mul-right, lt-of-le-of-lt}
 use lib.Dec.{lit<}
 use Rattle.arith.specs.inner.Range.{Small, InRange}
@@ -21,10 +20,6 @@ scaled-none : (e : End) (a b : ℕ) → scaled e a b 0 ≡ unit
 unfolding scaled
 scaled-none e a b = refl
 
-scaled-suc : (e : End) (a b j : ℕ) → scaled e a b (suc j) ≡ divide e (scaled e a b j * a) b
-unfolding scaled
-scaled-suc e a b j = refl
-
 -- both ends of a bracket × a ÷ b, by what is known of its figure
 times-within : (x : Bracket) (f : End → ℕ) (a b : ℕ) → x ≡ bracket f → 0 < b → b ≤ 2 ^ 40 → a ≤ 2 * b → f low ≤ f high → f high < 2 ^ 42 → TimesWithin x a b
 times-within x f a b e some most ratio order upper = record {
@@ -34,10 +29,6 @@ times-within x f a b e some most ratio order upper = record {
   most = most;
   ratio = ratio;
 }
-
-pub years-within : (x : Bracket) (a b j i : ℕ) → ScaledWithin a b j → i ≤ j → x ≡ bracket (λ e. scaled e a b i) → TimesWithin x a b
-years-within x a b j i w h k =
-    times-within x (λ e. scaled e a b i) a b k (w .some) (w .most) (w .ratio) (scaled-ends a b i (w .some)) (w .years i h)
 
 pub last-year-within : (x : Bracket) (n p q j : ℕ) → GrowthWithin n p q j → x ≡ bracket (λ e. scaled e p q j) → TimesWithin x p n
 last-year-within x n p q j w k =
@@ -63,18 +54,6 @@ long-way x a b some most ratio hx = record {
 -- a bracket taken once × a ÷ b, by what it was
 pub taken : (x r : Bracket) (f : End → ℕ) (a b : ℕ) → x ≡ bracket f → r ≡ bracket (λ e. divide e (endOf x e * a) b) → r ≡ bracket (λ e. divide e (f e * a) b)
 taken x r f a b k l = l ∙ by-ends (λ e. divide e (endOf x e * a) b) (λ e. divide e (f e * a) b) (λ e. rw (end-is x f k e))
-
--- the bracket over no years, over one year more, and over all
-pub no-years : (p q : ℕ) → record { lower = unit; upper = unit } ≡ bracket (λ e. scaled e p q 0)
-no-years p q = rw (scaled-none low p q, scaled-none high p q)
-
-pub next-year : (x r : Bracket) (p q j : ℕ) → x ≡ bracket (λ e. scaled e p q j) → r ≡ bracket (λ e. divide e (endOf x e * p) q) → r ≡ bracket (λ e. scaled e p q (j + 1))
-next-year x r p q j k l =
-    taken x r (λ e. scaled e p q j) p q k l
-    ∙ by-ends (λ e. divide e (scaled e p q j * p) q) (λ e. scaled e p q (j + 1)) (λ e. sym (rw (add-one j) (scaled-suc e p q j)))
-
-pub all-years : (x : Bracket) (p q i j : ℕ) → x ≡ bracket (λ e. scaled e p q i) → i ≤ j → j ≤ i → x ≡ bracket (λ e. scaled e p q j)
-all-years x p q i j k h l = let e : i ≡ j = omega arith in rw e at k
 
 -- ---- years taken from where both ends stand
 pub none-left : (e : End) (a b x j : ℕ) → j ≡ 0 → x ≡ scaledFrom e a b x j
@@ -131,23 +110,45 @@ short-at a b (suc j) i some few short h = all-short a b (suc j) some (omega arit
 pub twice-fits : (j x : ℕ) → j ≤ 60 → x ≤ 2 ^ 40 → (2 * j + 1) * x < 2 ^ 64
 twice-fits j x h k = lt-of-le-of-lt (mul-le-mul {n₁ = 2 * j + 1} {m₁ = x} {n₂ = 121} {m₂ = 2 ^ 40} (omega arith) k) (lit< tt)
 
-pub start-within : (a b j : ℕ) → ScaledWithin a b j → a < 2 ^ 23 → 2 * j * a ≤ (2 * j + 1) * b → YearsWithin a b unit unit j
-start-within a b j w small short = record {
-  small = small;
+-- what a bracket taken once has at each end
+pub lower-end : (r : Bracket) (x y a b : ℕ) → r ≡ bracket (λ e. divide e (endOf (record { lower = x; upper = y }) e * a) b) → r .lower ≡ divide low (x * a) b
+lower-end r x y a b k = end-is r (λ e. divide e (endOf (record { lower = x; upper = y }) e * a) b) k low
+
+pub upper-end : (r : Bracket) (x y a b : ℕ) → r ≡ bracket (λ e. divide e (endOf (record { lower = x; upper = y }) e * a) b) → r .upper ≡ divide high (y * a) b
+upper-end r x y a b k = end-is r (λ e. divide e (endOf (record { lower = x; upper = y }) e * a) b) k high
+
+-- from 10^12, in both ways
+pub start-within : (a b j : ℕ) → ScaledWithin a b j → YearsWithin (2 ^ 42) a b unit unit j
+start-within a b j w = record {
   some = w .some;
   most = w .most;
+  ratio = w .ratio;
+  order = omega arith;
+  years = λ i h. rw (all-taken high a b i) (w .years i h);
+}
+
+pub short-within : (a b j : ℕ) → ScaledWithin a b j → 2 * j * a ≤ (2 * j + 1) * b → YearsWithin (2 ^ 41) a b unit unit j
+short-within a b j w short = record {
+  some = w .some;
+  most = w .most;
+  ratio = w .ratio;
   order = omega arith;
   years = λ i h. rw (all-taken high a b i) (short-at a b j i (w .some) (w .few) short h);
 }
 
-module _ (a b x y j : ℕ) (w : YearsWithin a b x y j) where
-  pub upper-short : Small y a b
+module _ {top : ℕ} (a b x y j : ℕ) (w : YearsWithin top a b x y j) where
+  upper-below : y < top
   unfolding scaledFrom
-  upper-short = short-way y a b (w .some) (w .most) (w .small) (w .years 0 (omega arith))
+  upper-below = w .years 0 (omega arith)
 
-  pub lower-short : Small x a b
-  unfolding scaledFrom
-  lower-short = short-way x a b (w .some) (w .most) (w .small) (let h : y < 2 ^ 41 = w .years 0 (omega arith) in omega (arith, h, w .order))
+  pub ends-within : top ≤ 2 ^ 42 → TimesWithin (record { lower = x; upper = y }) a b
+  ends-within h = record { order = w .order; upper = omega (arith, upper-below); some = w .some; most = w .most; ratio = w .ratio }
+
+  pub upper-short : top ≤ 2 ^ 41 → a < 2 ^ 23 → Small y a b
+  upper-short h small = short-way y a b (w .some) (w .most) small (omega (arith, upper-below))
+
+  pub lower-short : top ≤ 2 ^ 41 → a < 2 ^ 23 → Small x a b
+  lower-short h small = short-way x a b (w .some) (w .most) small (omega (arith, upper-below, w .order))
 
   ends-order : divide low (x * a) b ≤ divide high (y * a) b
   ends-order =
@@ -156,17 +157,18 @@ module _ (a b x y j : ℕ) (w : YearsWithin a b x y j) where
 
   -- one year is taken, and the others are left
   module _ (some : 0 < j) (l u : ℕ) (p : l ≡ divide low (x * a) b) (q : u ≡ divide high (y * a) b) where
-    pub year-less : YearsWithin a b l u (j - 1)
+    pub year-less : YearsWithin top a b l u (j - 1)
     unfolding scaledFrom
     year-less = record {
-      small = w .small;
       some = w .some;
       most = w .most;
+      ratio = w .ratio;
       order = rw (p, q) ends-order;
       years = λ i m. rw q (w .years (suc i) (omega arith));
     }
 
-    pub then-others : (e : End) (z : ℕ) → z ≡ scaledFrom e a b (endOf (record { lower = l; upper = u }) e) (j - 1)
-        → z ≡ scaledFrom e a b (endOf (record { lower = x; upper = y }) e) j
-    then-others low z h = h ∙ rw p (first-year low a b x j some)
-    then-others high z h = h ∙ rw q (first-year high a b y j some)
+    pub then-lower : (z : ℕ) → z ≡ scaledFrom low a b l (j - 1) → z ≡ scaledFrom low a b x j
+    then-lower z h = h ∙ rw p (first-year low a b x j some)
+
+    pub then-upper : (z : ℕ) → z ≡ scaledFrom high a b u (j - 1) → z ≡ scaledFrom high a b y j
+    then-upper z h = h ∙ rw q (first-year high a b y j some)

@@ -37,13 +37,13 @@ pub record ScaledWithin (a b j : ℕ) : Type 0 where
   pub ratio : a ≤ 2 * b
   pub years : (i : ℕ) → i ≤ j → scaled high a b i < 2 ^ 42
 
--- of a bracket from x to y, j times × a ÷ b where every product fits 64 bits: no result on the way reaches 2^41
-pub record YearsWithin (a b x y j : ℕ) : Type 0 where
-  pub small : a < 2 ^ 23
+-- of a bracket from x to y, j times × a ÷ b: no result on the way reaches `top`
+pub record YearsWithin (top a b x y j : ℕ) : Type 0 where
   pub some : 0 < b
   pub most : b ≤ 2 ^ 40
+  pub ratio : a ≤ 2 * b
   pub order : x ≤ y
-  pub years : (i : ℕ) → i ≤ j → scaledFrom high a b y i < 2 ^ 41
+  pub years : (i : ℕ) → i ≤ j → scaledFrom high a b y i < top
 
 -- of the growth of term j + 1, where p is P(j + 1) and q is P(j)
 pub record GrowthWithin (n p q j : ℕ) : Type 0 where

@@ -5,7 +5,7 @@ use borrow.Author.Needs.{needs}
 use Rattle.arith.specs.Rounding.{low, high}
 use Rattle.model.specs.Rounded.{scaled}
 use Rattle.theory.proofs.general.ByEnds.{bracket-by}
-use Rattle.curve.proofs.YearLaws.{twice-fits, start-within, all-taken}
+use Rattle.curve.proofs.YearLaws.{twice-fits, start-within, short-within, all-taken}
 use Rattle.curve.proofs.years.over_years.Statement.{statement}
 use Rattle.curve.proofs.years.over_years.Tie as tie
 
@@ -25,21 +25,25 @@ mul-if2-2 c =
     let a = c .before .args in
     omega (arith, twice-fits (a .j) (a .b) (c .before .pre .few) (c .before .pre .most))
 
-take-years-requires : tie.Need-take-years-requires
-take-years-requires c κs = start-within _ _ _ (c .before .before .before .before .pre) (c .before .before .before .if1 .taken) (c .before .before .if2 .taken)
+take-short-years-requires : tie.Need-take-short-years-requires
+take-short-years-requires c κs = (short-within _ _ _ (c .before .before .before .before .pre) (c .before .before .if2 .taken), c .before .before .before .if1 .taken)
 
 returns : tie.Need-returns
 returns c =
     let a = c .before .before .before .before .before .args in
+    let taken = c .take-short-years .ensures in
+    bracket-by _ _ (λ e. scaled e (a .a) (a .b) (a .j)) (taken .0 ∙ all-taken low _ _ _) (taken .1 ∙ all-taken high _ _ _)
+
+take-years-requires : tie.Need-take-years-requires
+take-years-requires c κs = start-within _ _ _ (c .before .before .before .pre)
+
+returns-2 : tie.Need-returns-2
+returns-2 c =
+    let a = c .before .before .before .before .args in
     let taken = c .take-years .ensures in
     bracket-by _ _ (λ e. scaled e (a .a) (a .b) (a .j)) (taken .0 ∙ all-taken low _ _ _) (taken .1 ∙ all-taken high _ _ _)
 
-take-long-years-requires : tie.Need-take-long-years-requires
-take-long-years-requires c κs = search needs
-
-returns-2 : tie.Need-returns-2
-returns-2 c = search needs
-
 pub over-years-spec : {M : Type 1} → statement M
 over-years-spec =
-    tie.close (tie.spec mul-twice mul-if2 add-if2 mul-if2-2 take-years-requires returns take-long-years-requires returns-2)
+    tie.close
+    (tie.spec mul-twice mul-if2 add-if2 mul-if2-2 take-short-years-requires returns take-years-requires returns-2)

@@ -1,4 +1,4 @@
--- From 10^12, j times × a ÷ b: one time more, and that the products fit. Assumes nothing.
+-- From 10^12, j times × a ÷ b: that the products fit, and years taken one by one from where both ends stand. Assumes nothing.
 use Prim.Native.Nat.{ℕ, zero, suc, _+_, _*_, _-_, _^_, _≤_, _<_}
 use mathlib.Core.Path.{_≡_, refl, _∙_}
 use native.Mathlib.Omega.{arith}

@@ -1,4 +1,4 @@
--- Bonds off the adjusted curve (document 02, request Four): B does not depend on the UFR, on no curve and in neither working; and a case
+-- Bonds off the adjusted curve (document 02, request Four): on each curve and in both workings B does not depend on the UFR; and a case
 -- whose bond flows end at term 20 or before, or that has none, keeps every number that the adjusted factors gave.
 -- Assumes nothing.
 use Prim.Native.Nat.{ℕ, _-_, _≤_}

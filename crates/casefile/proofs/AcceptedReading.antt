@@ -3,6 +3,7 @@
 use mathlib.Core.Path.{_≡_, refl, ap, ap₂, sym, _∙_}
 use mathlib.Core.List.{List}
 use Prim.Native.Nat.{ℕ, zero, suc}
+use native.Mathlib.Omega.{arith}
 use lib.ListN.{getD}
 use mir.Syntax.{w8}
 use mir.Val.{Fits}
@@ -13,7 +14,7 @@ use Rattle.model.specs.Layout.{caseOf}
 use Rattle.model.specs.Refusals.{refusal}
 use Rattle.theory.proofs.acceptance.Acceptance.{within-limits, accepted-keeps, keeps-accepted}
 use Rattle.casefile.specs.Answers.{numberOf, answerOf, caseAfter, readingOf, ReadExactly}
-use Rattle.casefile.specs.declared.Answer.the-variants.{Accepted}
+use Rattle.casefile.specs.declared.Answer.the-variants.{Accepted, Refused}
 use Rattle.casefile.specs.declared.Reading.{Reading}
 
 number-answer : (n : ℕ) → numberOf (answerOf n) ≡ n
@@ -23,6 +24,20 @@ number-answer (suc n) = refl
 pub reading-number : (file : List ℕ) (r : Reading) → r ≡ readingOf file → numberOf (r .answer) ≡ refusal file
 unfolding readingOf
 reading-number file r e = ap (λ (x : Reading). numberOf (x .answer)) e ∙ number-answer (refusal file)
+
+-- the number of a refused file is not 0
+zero-answer : (file : List ℕ) → refusal file ≡ 0 → readingOf file .answer ≡ Accepted
+unfolding readingOf
+zero-answer file z = ap answerOf z
+
+pub refused-number : (file : List ℕ) (r : Reading) → r ≡ readingOf file → (n : ℕ) → r .answer ≡ Refused n → (refusal file ≡ n) × ((n ≡ 0) → ⊥)
+refused-number file r e n a = (is, λ z. never (sym a ∙ ap (λ (x : Reading). x .answer) e ∙ zero-answer file (is ∙ z)))
+  where
+    is : refusal file ≡ n
+    is = sym (reading-number file r e) ∙ ap numberOf a
+
+    never : Refused n ≡ Accepted → ⊥
+    never q = let x : _≡_ {A = ℕ} 0 1 = cc in omega arith
 
 pub record AcceptedReading (file : List ℕ) (r : Reading) : Type 0 where
   pub noRefusal : refusal file ≡ 0

@@ -4,7 +4,6 @@ use Prim.Native.Nat.{ℕ, zero, suc, _≤_, _<_}
 use mathlib.Core.Path.{_≡_, refl, ap, sym, _∙_, subst}
 use mathlib.Core.Bool.{Bool, true, false, _&&_}
 use mathlib.Core.List.{List, _∷_, _++_}
-use native.Mathlib.Omega.{arith}
 use borrow.Author.Tests.{le-leb, lt-leb}
 use lib.Dec.{leb}
 use lib.IntN.{ℤ}
@@ -14,19 +13,19 @@ use Rattle.model.specs.Layout.{caseOf}
 use Rattle.model.specs.Fields.{Check}
 use Rattle.model.specs.Refusals.{firstOf, checks, refusal}
 use Rattle.model.specs.Rounded as Rounded
-use Rattle.model.specs.Buffers.{valuationRefusal, factorEntries, rateEntries, factorsAfter, ratesAfter, answered, valuationOf}
+use Rattle.model.specs.Buffers.{valuationRefusal, factorsAfter, ratesAfter, answered, valuationOf}
 use Rattle.model.specs.declared.figures.Valuation.{Valuation}
 use Rattle.model.specs.declared.figures.Valuation.the-variants.{Refused, Valued}
 use Rattle.theory.proofs.general.Lists.{and-false}
-use Rattle.casefile.specs.Answers.{numberOf, answerOf, readingOf}
+use Rattle.casefile.specs.Answers.{readingOf}
 use Rattle.casefile.specs.declared.Answer.the-variants.{Accepted, Refused as RefusedFile}
 use Rattle.casefile.specs.declared.Reading.{Reading}
-use Rattle.casefile.proofs.AcceptedReading.{accepted-reading, reading-number}
+use Rattle.casefile.proofs.AcceptedReading.{accepted-reading, refused-number}
 use Rattle.engine.specs.Guarantee.{Call}
 use Rattle.solvency.specs.declared.figures.Money.{Money}
 use Rattle.working.specs.inner.Ranges.{CaseFits}
 use Rattle.working.specs.inner.Working.{factorsOn, ratesOn, moneyOf}
-use Rattle.working.proofs.HeldCase.{held-fits, held-factors, held-rates, held-money}
+use Rattle.working.proofs.HeldCase.{held-fits, held-money, held-valued}
 
 -- one check before others
 pub fails : (b : Bool) (rest : List Check) → b ≡ false → firstOf ((b, 13) ∷ rest) ≡ 13
@@ -43,33 +42,13 @@ unfolding valuationRefusal refusal
 own-refusal file f₀ z₀ hf hz =
     passes (leb 240 (length f₀) && leb 240 (length z₀)) (checks file) (rw (le-leb 240 (length f₀) hf, le-leb 240 (length z₀) hz))
 
-zero-answer : (file : List ℕ) → refusal file ≡ 0 → readingOf file .answer ≡ Accepted
-unfolding readingOf
-zero-answer file z = ap answerOf z
-
 -- what an accepted reading holds: a case in range, whose working is that of the file's case
 module _ (file : List ℕ) (r : Reading) (e : r ≡ readingOf file) (a : r .answer ≡ Accepted) where
   pub reading-fits : CaseFits (r .«case»)
   reading-fits = let x = accepted-reading file r e a in subst CaseFits (sym (x .holds)) (held-fits (caseOf file) (x .within))
 
-  reading-factors : factorsOn (r .«case») base ≡ factorEntries (caseOf file)
-  reading-factors = let x = accepted-reading file r e a in rw (x .holds) (held-factors (caseOf file) (x .within))
-
-  reading-rates : ratesOn (r .«case») ≡ rateEntries (caseOf file)
-  reading-rates = let x = accepted-reading file r e a in rw (x .holds) (held-rates (caseOf file) (x .within))
-
   reading-money : moneyOf (r .«case») ≡ record { figures = Rounded.figures (caseOf file); verdict = Rounded.verdict (caseOf file) }
   reading-money = let x = accepted-reading file r e a in ap moneyOf (x .holds) ∙ held-money (caseOf file) (x .within)
-
--- the number of a refused file is not 0
-refused-number : (file : List ℕ) (r : Reading) → r ≡ readingOf file → (n : ℕ) → r .answer ≡ RefusedFile n → (refusal file ≡ n) × ((n ≡ 0) → ⊥)
-refused-number file r e n a = (is, λ z. never (sym a ∙ ap (λ (x : Reading). x .answer) e ∙ zero-answer file (is ∙ z)))
-  where
-    is : refusal file ≡ n
-    is = sym (reading-number file r e) ∙ ap numberOf a
-
-    never : RefusedFile n ≡ Accepted → ⊥
-    never q = let x : _≡_ {A = ℕ} 0 1 = cc in omega arith
 
 -- `figures_of`
 module _ (file : List ℕ) (r : Reading) (e : r ≡ readingOf file) where
@@ -124,7 +103,6 @@ module _ (file : List ℕ) (f₀ : List ℕ) (z₀ : List ℤ) (call : Call file
     unfolding valuationOf factorsAfter ratesAfter
     accepted-file a v f z p q t =
         let o : valuationRefusal (length f₀) (length z₀) file ≡ 0 = own-refusal file f₀ z₀ hf hz ∙ accepted-reading file r e a .noRefusal in
-        let x = p ∙ ap (λ (y : Money). Valued (y .figures) (y .verdict)) (reading-money file r e a) in
-        let y = q ∙ ap (λ (y : List ℕ). y ++ drop 240 f₀) (reading-factors file r e a) in
-        let u = t ∙ ap (λ (y : List ℤ). y ++ drop 240 z₀) (reading-rates file r e a) in
+        let read = accepted-reading file r e a in
+        let (x, (y, u)) = held-valued (caseOf file) (read .within) f₀ z₀ (read .holds) p q t in
         (rw o x, (rw o y, (rw o u, call)))

@@ -31,10 +31,9 @@ use Rattle.scan.proofs.rates.Forwards.{forwards-are}
 use Rattle.scan.proofs.rates.Integers.{natural-raised}
 use Rattle.given.specs.inner.Raised.{summed}
 use Rattle.given.proofs.rates.Days.{summed-length, summed-most, summed-diff}
-use Rattle.solvency.specs.declared.figures.Money.{Money}
 use Rattle.working.specs.inner.Ranges.{CaseFits}
 use Rattle.working.specs.inner.Working.{factorsOn, ratesOn, moneyOf}
-use Rattle.working.proofs.HeldCase.{held-fits, held-factors, held-rates, held-money}
+use Rattle.working.proofs.HeldCase.{held-fits, held-valued}
 use Rattle.rollingvalue.specs.inner.Joined.{joined}
 use Rattle.theory.proofs.rolling.Valued.{is-right, within-limits}
 
@@ -100,8 +99,4 @@ module _ (w : RollingWindow) (f : CaseFields) (own : List ℤ) (pension bonds : 
         → rates ≡ ratesOn case ++ drop 240 z₀
         → Meets v factors rates
     unfolding windowValuation windowFactorsAfter windowRatesAfter
-    valued-window p q r =
-        let x = p ∙ ap (λ (m : Money). Valued (m .figures) (m .verdict)) (ap moneyOf case-holds ∙ held-money valued limits) in
-        let y = q ∙ ap (λ (l : List ℕ). l ++ drop 240 f₀) (ap (λ (c : Case). factorsOn c base) case-holds ∙ held-factors valued limits) in
-        let u = r ∙ ap (λ (l : List ℤ). l ++ drop 240 z₀) (ap ratesOn case-holds ∙ held-rates valued limits) in
-        (rw none x, (rw none y, rw none u))
+    valued-window p q r = let (x, (y, z)) = held-valued valued limits f₀ z₀ case-holds p q r in (rw none x, (rw none y, rw none z))

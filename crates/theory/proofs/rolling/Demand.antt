@@ -1,12 +1,11 @@
 -- A window that is valued keeps demand 3, of the very figures and verdict that are answered and of the entries that both buffers then hold:
 -- no check has failed, so the case with its days is within the limits, and demand 3 is proved of every such case. Assumes nothing.
-use Prim.Native.Nat.{ℕ, zero, suc}
-use mathlib.Core.Path.{_≡_, refl, sym}
+use Prim.Native.Nat.{ℕ}
+use mathlib.Core.Path.{_≡_, sym}
 use mathlib.Core.List.{List}
-use native.Mathlib.Omega.{arith}
 use lib.ListN.{length, drop}
 use lib.IntN.{ℤ}
-use Rattle.model.specs.Buffers.{answered, entryOf, rateEntryOf}
+use Rattle.model.specs.Buffers.{entryOf, rateEntryOf}
 use Rattle.model.specs.Case.{FileCase, withDays}
 use Rattle.model.specs.Demand3.{Demand3}
 use Rattle.model.specs.Rolling.{daysHeld, windowRefusal, windowValuation, windowFactorsAfter, windowRatesAfter}
@@ -15,13 +14,8 @@ use Rattle.model.specs.declared.figures.Verdict.{Verdict}
 use Rattle.model.specs.declared.figures.Valuation.the-variants.{Valued}
 use Rattle.model.specs.declared.rolling.RollingWindow.{RollingWindow}
 use Rattle.theory.proofs.demand3.Demand3Proved.{demand3}
-use Rattle.theory.proofs.demand3.Written.{written-rounded}
+use Rattle.theory.proofs.demand3.Written.{no-refusal, written-rounded}
 use Rattle.theory.proofs.rolling.Valued.{within-limits}
-
--- an answer with figures is of no refusal
-no-refusal : (r : ℕ) (k : FileCase) (figures : Figures) (verdict : Verdict) → answered r k ≡ Valued figures verdict → r ≡ 0
-no-refusal zero k figures verdict e = refl
-no-refusal (suc r) k figures verdict e = let x : _≡_ {A = ℕ} 0 1 = cc in let never : ⊥ = omega arith in absurd never
 
 module _ (w : RollingWindow) (k : FileCase) (factors : List ℕ) (rates : List ℤ) (figures : Figures) (verdict : Verdict)
     (e : windowValuation w k (length factors) (length rates) ≡ Valued figures verdict) where

@@ -2,6 +2,7 @@
 // definitions, and the theorems about them, stand in specs/ and proofs/.
 pub mod case;
 pub mod figures;
+pub mod months;
 pub mod rolling;
 pub mod saved;
 pub mod steps;

@@ -9,6 +9,8 @@ use Rattle.model.specs.declared.figures.Verdict.{Verdict}
 use Rattle.model.specs.declared.figures.Verdict.the-variants.{Dekkingstekort, Reservetekort, VrijVermogen, Onbeslist}
 use Rattle.model.specs.declared.figures.Valuation.{Valuation}
 use Rattle.model.specs.declared.figures.Valuation.the-variants.{Refused, Valued}
+use Rattle.model.specs.declared.months.Ufr.{Ufr}
+use Rattle.model.specs.declared.months.Ufr.the-variants as Ufr
 use Rattle.model.specs.declared.saved.Saved.{Saved}
 use Rattle.model.specs.declared.saved.Saved.the-variants as Saved
 use Rattle.model.specs.declared.window.Point.{Point}
@@ -18,6 +20,7 @@ use Rattle.flat.specs.declared.HostFigures.{HostFigures}
 use Rattle.flat.specs.declared.HostValuation.{HostValuation}
 use Rattle.flat.specs.declared.HostPoint.{HostPoint}
 use Rattle.flat.specs.declared.HostSaved.{HostSaved}
+use Rattle.flat.specs.declared.HostUfr.{HostUfr}
 
 -- figures to a host, and back
 abbrev pub hostBracket : Bracket → HostBracket
@@ -106,3 +109,8 @@ hostPoint (Money lower upper) = record { kind = 2; lower = lower; upper = upper 
 abbrev pub hostSaved : Saved → HostSaved
 hostSaved (Saved.Written count) = record { refusal = 0; written = count }
 hostSaved (Saved.Refused r) = record { refusal = r; written = 0 }
+
+-- "The UFR found"; a refusal has found none
+abbrev pub hostUfr : Ufr → HostUfr
+hostUfr (Ufr.Found ufr) = record { refusal = 0; ufr = ufr }
+hostUfr (Ufr.Refused r) = record { refusal = r; ufr = 0 }

@@ -4,10 +4,11 @@ use model::figures::Bracket;
 use model::figures::Figures;
 use model::figures::Valuation;
 use model::figures::Verdict;
+use model::months::Ufr;
 use model::saved::Saved;
 use model::window::Point;
 ghost use mathlib.Core.Path.{_≡_};
-ghost use Rattle.flat.specs.Flat.{hostBracket, bracketFrom, hostFigures, figuresFrom, noFigures, verdictNumber, verdictFrom, hostValuation, valuationFrom, hostPoint, hostSaved};
+ghost use Rattle.flat.specs.Flat.{hostBracket, bracketFrom, hostFigures, figuresFrom, noFigures, verdictNumber, verdictFrom, hostValuation, valuationFrom, hostPoint, hostSaved, hostUfr};
 
 // Cents.
 #[repr(C)]
@@ -51,6 +52,13 @@ pub struct HostPoint {
 pub struct HostSaved {
     pub refusal: u8,
     pub written: usize,
+}
+
+// `refusal` is 0 for a UFR that is found. `ufr` counts rate steps, and is 0 for a refused history.
+#[repr(C)]
+pub struct HostUfr {
+    pub refusal: u8,
+    pub ufr: u64,
 }
 
 fn flat_bracket(b: Bracket) -> HostBracket
@@ -238,5 +246,14 @@ pub fn flat_saved(s: Saved) -> HostSaved
             refusal,
             written: 0,
         },
+    }
+}
+
+pub fn flat_ufr(u: Ufr) -> HostUfr
+    ensures { λ r. ⌜ r ≡ hostUfr u ⌝ }
+{
+    match u {
+        Ufr::Found(ufr) => HostUfr { refusal: 0, ufr },
+        Ufr::Refused(refusal) => HostUfr { refusal, ufr: 0 },
     }
 }

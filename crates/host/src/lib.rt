@@ -6,10 +6,12 @@ use engine::value;
 use flat::HostFigures;
 use flat::HostPoint;
 use flat::HostSaved;
+use flat::HostUfr;
 use flat::HostValuation;
 use flat::figures_from;
 use flat::flat_point;
 use flat::flat_saved;
+use flat::flat_ufr;
 use flat::flat_valuation;
 use flat::valuation_from;
 use listing::write_listing;
@@ -17,6 +19,8 @@ use model::case::CaseFields;
 use model::rolling::ChangedWindow;
 use model::rolling::Day;
 use model::rolling::RollingWindow;
+use months::ufr_of;
+use months::value_with_months;
 use rolling::add_day;
 use rolling::drop_day;
 use rolling::empty;
@@ -27,12 +31,13 @@ use writer::save;
 ghost use mathlib.Core.Path.{_≡_};
 ghost use lib.ListN.{length, take, drop};
 ghost use Rattle.model.specs.Buffers.{valuationOf, factorsAfter, ratesAfter};
+ghost use Rattle.model.specs.Months.{ufrAnswer, monthsValuation, monthsFactorsAfter, monthsRatesAfter};
 ghost use Rattle.model.specs.Refusals.{refusal, ratesPart};
 ghost use Rattle.model.specs.Rolling.{emptyWindow, addDay, dropDay, windowValuation, windowFactorsAfter, windowRatesAfter};
 ghost use Rattle.model.specs.Window.{windowPoint};
 ghost use Rattle.model.specs.Listing.{listingAfter, listingLength};
 ghost use Rattle.model.specs.Saving.{given, saveAnswer, savedAfter};
-ghost use Rattle.flat.specs.Flat.{hostValuation, hostPoint, figuresFrom, valuationFrom, hostSaved};
+ghost use Rattle.flat.specs.Flat.{hostValuation, hostPoint, figuresFrom, valuationFrom, hostSaved, hostUfr};
 ghost use Rattle.host.specs.Part.{hostPart};
 
 // `length` bytes of the file, from `offset` on.
@@ -189,5 +194,38 @@ pub extern "C" fn ginghamowl_rolling_value(
         ⌝ }
 {
     let valuation = value_window(window, fields, case_rates, pension, bonds, factors, rates);
+    flat_valuation(valuation)
+}
+
+// The UFR that a history of months gives, as `months::ufr_of` finds it.
+#[no_mangle]
+pub extern "C" fn ginghamowl_ufr_of(history: &[u8], start: u64) -> HostUfr
+    ensures { λ r. ⌜ r ≡ hostUfr (ufrAnswer (now (history .entry)) start) ⌝ }
+{
+    let found = ufr_of(history, start);
+    flat_ufr(found)
+}
+
+// Values a case file with the UFR that a history of months gives, as `months::value_with_months` does.
+#[no_mangle]
+pub extern "C" fn ginghamowl_value_with_months(
+    file: &[u8],
+    history: &[u8],
+    start: u64,
+    factors: &mut [u64],
+    rates: &mut [i64],
+) -> HostValuation
+    ensures { λ r. ⌜
+        r ≡ hostValuation
+        (monthsValuation (now (file .entry)) (now (history .entry)) start (length (now (factors .entry))) (length (now (rates .entry))))
+        ⌝ }
+    ensures factors { λ _. ⌜
+        now (factors .exit) ≡ monthsFactorsAfter (now (file .entry)) (now (history .entry)) start (now (factors .entry)) (now (rates .entry))
+        ⌝ }
+    ensures rates { λ _. ⌜
+        now (rates .exit) ≡ monthsRatesAfter (now (file .entry)) (now (history .entry)) start (now (factors .entry)) (now (rates .entry))
+        ⌝ }
+{
+    let valuation = value_with_months(file, history, start, factors, rates);
     flat_valuation(valuation)
 }

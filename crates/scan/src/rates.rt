@@ -17,7 +17,7 @@ pub struct Sums {
 
 // 100,000 steps and the rate of 2 bytes at a position. The bytes are the rate modulo 65,536, so 32,768 more, modulo 65,536, is 32,768 and
 // the rate.
-fn rate_at(bytes: &[u8], at: usize) -> u64
+pub fn rate_at(bytes: &[u8], at: usize) -> u64
     requires { ⌜ at ≤ 80000 ⌝ }
     ensures { λ r. ⌜ (r ≡ raisedRate (number (now (bytes .entry)) at 2)) × (r ≤ 132767) ⌝ }
 {

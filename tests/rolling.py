@@ -108,7 +108,7 @@ def drop(window: Window) -> Changed:
 # ---------------------------------------------------------------- its valuation
 
 class Valued(NamedTuple):
-    refusal: int  # 0 where the window is valued
+    refusal: int  # 0 where the window, or the file, is valued
     rounded: Rounded | None  # the figures and the verdict then
     factors: list  # what the lent buffers hold afterwards
     rates: list

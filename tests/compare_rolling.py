@@ -95,11 +95,16 @@ def expected_change(window, day):
     return rolling.drop(window) if day is None else rolling.add(window, day)
 
 
-def expected_value(window, given, memories):
-    refusal, rounded, *after = rolling.value(window, given, *(memory[GUARD:-GUARD] for memory in memories))
+def expected_answer(value, memories):
+    """What value, the reference's, answers where it is called with both buffers."""
+    refusal, rounded, *after = value(*(memory[GUARD:-GUARD] for memory in memories))
     verdict = VERDICTS.index(rounded.verdict) + 1 if rounded else 0
     figures = [end for name in MONEY for end in getattr(rounded, name)] if rounded else [0] * 20
     return Answer(refusal, verdict, figures, *(memory[:GUARD] + lent + memory[-GUARD:] for memory, lent in zip(memories, after)))
+
+
+def expected_value(window, given, memories):
+    return expected_answer(lambda *buffers: rolling.value(window, given, *buffers), memories)
 
 
 # ---------------------------------------------------------------- differences in words
@@ -134,17 +139,44 @@ def window_shown(window):
 
 # ---------------------------------------------------------------- the comparison
 
+class Counting:
+    """Counts what was seen and what differs."""
+
+    def __init__(self, engine, rng, refusals):
+        self.engine, self.rng, self.refusals = engine, rng, refusals
+        self.seen, self.different = Counter(), 0
+
+    def memories(self, lengths):
+        """What is in the buffers beforehand, and around them: any numbers, signed for the rates."""
+        return [[self.rng.getrandbits(64) + least for _ in range(length + 2 * GUARD)] for least, length in zip((0, -(1 << 63)), lengths)]
+
+    def compare(self, kind, trials, faults_of, show):
+        """trials of one kind, what is wrong with one of them, and how to show it."""
+        count = wrong = 0
+        for count, trial in enumerate(trials, 1):
+            faults = list(faults_of(trial))
+            wrong += bool(faults)
+            if faults and wrong <= SHOWN:
+                print(f"DIFFERENT, {kind}, {show(trial)}: {'; '.join(faults)}")
+        self.different += wrong
+        print(f"{kind}: {count}, {wrong} different", flush=True)
+
+    def passed(self):
+        """Whether nothing differs, and every refusal was seen."""
+        return not self.different and all(self.seen[number] for number in self.refusals)
+
+
 class Script(NamedTuple):
     window: Window
     changes: list  # days to add, and None for a drop
 
 
-class Comparison:
-    """Counts what was seen and what differs."""
+class Comparison(Counting):
+    """Of windows."""
 
     def __init__(self, engine, rng):
-        self.engine, self.rng = engine, rng
-        self.seen, self.damaged, self.different = Counter(), Counter(), 0
+        super().__init__(engine, rng, REFUSALS)
+        self.damaged = Counter()
 
     # Changes
 
@@ -170,10 +202,6 @@ class Comparison:
         return []
 
     # Valuations
-
-    def memories(self, lengths):
-        """What is in the buffers beforehand, and around them: any numbers, signed for the rates."""
-        return [[self.rng.getrandbits(64) + least for _ in range(length + 2 * GUARD)] for least, length in zip((0, -(1 << 63)), lengths)]
 
     def call_faults(self, call):
         """What is wrong with one valuation."""
@@ -208,21 +236,6 @@ class Comparison:
         yield from self.call_faults(call)
 
     # Reports
-
-    def compare(self, kind, trials, faults_of, show):
-        """trials of one kind, what is wrong with one of them, and how to show it."""
-        count = wrong = 0
-        for count, trial in enumerate(trials, 1):
-            faults = list(faults_of(trial))
-            wrong += bool(faults)
-            if faults and wrong <= SHOWN:
-                print(f"DIFFERENT, {kind}, {show(trial)}: {'; '.join(faults)}")
-        self.different += wrong
-        print(f"{kind}: {count}, {wrong} different", flush=True)
-
-    def passed(self):
-        """Whether nothing differs, and every refusal was seen."""
-        return not self.different and all(self.seen[number] for number in REFUSALS)
 
     def compare_empty(self):
         found, right = bytes(self.engine.rolling_empty()), packed(EMPTY)

@@ -93,7 +93,8 @@ def other_lengths(rng):
 
 
 # In range and out of it, another turn of the ring, and numbers whose lower bytes are in range.
-STARTS = [*range(MONTHS + 2), 2 * MONTHS - 1, 2 * MONTHS, *((1 << bits) + more for bits in (7, 8, 16, 31, 32, 63) for more in (-1, 0, 5)), LARGEST]
+STARTS = [*range(MONTHS + 2), 2 * MONTHS - 1, 2 * MONTHS, LARGEST,
+          *((1 << bits) + more for bits in (7, 8, 16, 31, 32, 63) for more in (-1, 0, 5))]
 
 
 def any_start(rng):
@@ -209,8 +210,8 @@ BELOW, ABOVE = LEAST_MONTH - 1, MOST_MONTH + 1
 NO_UFR = history_of([-51] * MONTHS)  # refused by 19
 
 # Both sides of halves below 0, around 0 and above, of the least and of the largest UFR, and the ends.
-SUMS = [LEAST_SUM, -18_001, -18_000, -17_999, -12_000, -6_001, -6_000, -5_999, -1, 0, 5_999, 6_000, 12_000, 17_999, 18_000, 593_999, 594_000,
-        605_999, 606_000, MOST_SUM]
+SUMS = [LEAST_SUM, -18_001, -18_000, -17_999, -12_000, -6_001, -6_000, -5_999, -1, 0, 5_999, 6_000, 12_000, 17_999, 18_000,
+        593_999, 594_000, 605_999, 606_000, MOST_SUM]
 
 # Months of several bytes, none like its neighbours: the ring shows from where it is read.
 RING = history_of([-500, 255, 256, *[7] * 115, LEAST_MONTH, MOST_MONTH])

@@ -57,7 +57,7 @@ def border_sums():
 
 def border_histories(rng):
     """Each in three forms: even months, months of any size, and most of them at a limit."""
-    return [with_sum(rng, total, moves) for total in border_sums() for moves in (0, 40, 1_000)]
+    return [with_sum(rng, total, moves) for total in border_sums() for moves in (0, 40, 400)]
 
 
 def found_sum(rng):

@@ -55,6 +55,10 @@ class HostChanged(Structure):
     _fields_ = [("refusal", c_uint8), ("window", HostWindow)]
 
 
+class HostUfr(Structure):
+    _fields_ = [("refusal", c_uint8), ("ufr", c_uint64)]
+
+
 # ---------------------------------------------------------------- functions
 
 def lent(kind):
@@ -64,6 +68,7 @@ def lent(kind):
 FILE = c_char_p, c_size_t
 CASE = HostFields, *lent(c_int32), *lent(c_uint64), *lent(c_uint64)
 BUFFERS = *lent(c_uint64), *lent(c_int64)
+HISTORY = *lent(c_uint8), c_uint64  # with its start index
 FUNCTIONS = {  # by name: the result, then the arguments
     "value": (HostValuation, *FILE, *BUFFERS),
     "refusal": (c_uint8, *FILE),
@@ -73,6 +78,8 @@ FUNCTIONS = {  # by name: the result, then the arguments
     "rolling_add": (HostChanged, HostWindow, HostDay),
     "rolling_drop": (HostChanged, HostWindow),
     "rolling_value": (HostValuation, HostWindow, *CASE, *BUFFERS),
+    "ufr_of": (HostUfr, *HISTORY),
+    "value_with_months": (HostValuation, *lent(c_uint8), *HISTORY, *BUFFERS),
 }
 
 

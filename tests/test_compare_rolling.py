@@ -33,6 +33,16 @@ def setUpModule():
     unittest.addModuleCleanup(once.stop)
 
 
+def written(valued, factors, rates):
+    """Leaves in both buffers what they hold afterwards; one that holds an entry more is written past its end."""
+    for buffer, after in ((factors, valued.factors), (rates, valued.rates)):
+        memmove(buffer, (buffer._type_ * len(after))(*after), 8 * min(len(after), len(buffer) + GUARD))
+    if valued.rounded is None:
+        return HostValuation(valued.refusal)
+    figures = [end for name in MONEY for end in getattr(valued.rounded, name)]
+    return HostValuation(valued.refusal, VERDICTS.index(valued.rounded.verdict) + 1, (HostValuation().figures._type_ * 20)(*figures))
+
+
 class Fake:
     """The engine's functions over the reference, some in another way."""
 
@@ -53,7 +63,7 @@ class Fake:
 
     def rolling_value(self, window, *arguments):
         *case, factors, _, rates, _ = arguments
-        return self.written(self.value_days(unpacked(bytes(window)), given_from(*case), list(factors), list(rates)), factors, rates)
+        return written(self.value_days(unpacked(bytes(window)), given_from(*case), list(factors), list(rates)), factors, rates)
 
     def value(self, data, length, factors, factors_length, rates, rates_length):
         case = reference.read(data)
@@ -61,16 +71,7 @@ class Fake:
             return HostValuation(case.number)
         rounded = rolling.Rounded(case)
         new = [one + list(held)[240:] for one, held in zip(reference.buffers(rounded), (factors, rates))]
-        return self.written(Valued(0, rounded, *new), factors, rates)
-
-    def written(self, valued, factors, rates):
-        """Leaves in both buffers what they hold afterwards; one that holds an entry more is written past its end."""
-        for buffer, after in ((factors, valued.factors), (rates, valued.rates)):
-            memmove(buffer, (buffer._type_ * len(after))(*after), 8 * min(len(after), len(buffer) + GUARD))
-        if valued.rounded is None:
-            return HostValuation(valued.refusal)
-        figures = [end for name in MONEY for end in getattr(valued.rounded, name)]
-        return HostValuation(valued.refusal, VERDICTS.index(valued.rounded.verdict) + 1, (HostValuation().figures._type_ * 20)(*figures))
+        return written(Valued(0, rounded, *new), factors, rates)
 
 
 # ---------------------------------------------------------------- wrong windows

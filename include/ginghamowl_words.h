@@ -50,6 +50,15 @@ static inline const char *ginghamowl_refusal_sentence(unsigned number)
         return "the rolling window is full; it must hold at most 69 days for one to be added";
     case GINGHAMOWL_REFUSED_ROLLING_EMPTY:
         return "the rolling window is empty; it must hold a day for the oldest to be dropped";
+    case GINGHAMOWL_REFUSED_HISTORY:
+        return "the history of months or its start index is out of limits; the history must have "
+               "240 bytes, 120 months of two, and the start index must be at most 119";
+    case GINGHAMOWL_REFUSED_MONTH:
+        return "a month of the history is out of limits; each must be -1,000 to 10,000 steps of "
+               "0.00001, -1 % to 10 %";
+    case GINGHAMOWL_REFUSED_MONTHS_UFR:
+        return "the UFR that the history gives is out of limits; the mean of its 120 months, "
+               "rounded to the nearest 100 steps, must be 0 to 5,000 steps of 0.00001, 0 % to 5 %";
     case GINGHAMOWL_REFUSED_DAMAGED:
         return "the rolling window is damaged; its count must be at most 70, its start at most 69, "
                "each rate of a day held -1,000 to 10,000 steps, and each sum that of the days held";

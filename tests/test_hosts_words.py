@@ -38,7 +38,7 @@ def constants(source, pattern):
 
 class Table(unittest.TestCase):
     def test_numbers_and_names(self):
-        self.assertEqual([entry["number"] for entry in REFUSALS], [*range(1, 17), 27])
+        self.assertEqual([entry["number"] for entry in REFUSALS], [*range(1, 20), 27])
         self.assertEqual([entry["number"] for entry in VERDICTS], list(range(1, 5)))
         names = [entry["name"] for entry in REFUSALS + VERDICTS]
         self.assertEqual(len(set(names)), len(names))
@@ -92,7 +92,7 @@ class Table(unittest.TestCase):
         for entry in VERDICTS:
             verdict = ginghamowl.Verdict(entry["number"])
             self.assertEqual((verdict.word, verdict.sentence), (entry["word"], entry["sentence"]))
-        self.assertEqual(str(ginghamowl.Refused(17)), f"refused, 17: {NO_REFUSAL}")
+        self.assertEqual(str(ginghamowl.Refused(20)), f"refused, 20: {NO_REFUSAL}")
 
 
 class Version(unittest.TestCase):

@@ -31,6 +31,12 @@ SENTENCES: dict[int, str] = {
         "shortest file",
     15: "the rolling window is full; it must hold at most 69 days for one to be added",
     16: "the rolling window is empty; it must hold a day for the oldest to be dropped",
+    17: "the history of months or its start index is out of limits; the history must have 240 bytes, 120 "
+        "months of two, and the start index must be at most 119",
+    18: "a month of the history is out of limits; each must be -1,000 to 10,000 steps of 0.00001, -1 % to 10 "
+        "%",
+    19: "the UFR that the history gives is out of limits; the mean of its 120 months, rounded to the nearest "
+        "100 steps, must be 0 to 5,000 steps of 0.00001, 0 % to 5 %",
     27: "the rolling window is damaged; its count must be at most 70, its start at most 69, each rate of a "
         "day held -1,000 to 10,000 steps, and each sum that of the days held",
 }

@@ -78,8 +78,8 @@ pub enum Verdict {
     Onbeslist = 4,
 }
 
-/// Why a file, a case, or a call with a rolling window is refused, by document 01's numbers; those from 14 on are
-/// document 02's.
+/// Why a file, a case, or a call with a rolling window or a history of months is refused, by document 01's numbers; those
+/// from 14 on are document 02's.
 #[derive(Clone, Copy, Debug, PartialEq, Eq)]
 #[repr(u8)]
 pub enum Refusal {
@@ -99,6 +99,9 @@ pub enum Refusal {
     SavedBuffer = 14,
     RollingFull = 15,
     RollingEmpty = 16,
+    History = 17,
+    Month = 18,
+    MonthsUfr = 19,
     Damaged = 27,
 }
 
@@ -260,8 +263,8 @@ impl fmt::Display for Verdict {
 }
 
 impl Refusal {
-    /// Every refusal, in the order of the numbers: 1 to 16, and 27.
-    pub const ALL: [Refusal; 17] = [
+    /// Every refusal, in the order of the numbers: 1 to 19, and 27.
+    pub const ALL: [Refusal; 20] = [
         Refusal::EndsEarly,
         Refusal::BytesFollow,
         Refusal::Map,
@@ -278,6 +281,9 @@ impl Refusal {
         Refusal::SavedBuffer,
         Refusal::RollingFull,
         Refusal::RollingEmpty,
+        Refusal::History,
+        Refusal::Month,
+        Refusal::MonthsUfr,
         Refusal::Damaged,
     ];
 

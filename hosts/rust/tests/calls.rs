@@ -308,7 +308,7 @@ fn words_and_version() {
     let repository = PathBuf::from(env!("CARGO_MANIFEST_DIR")).join("../..");
     assert_eq!(VERSION, fs::read_to_string(repository.join("VERSION")).unwrap().trim());
     assert_eq!(
-        (refusal_sentence(0), refusal_sentence(17)),
+        (refusal_sentence(0), refusal_sentence(20)),
         ("no refusal has this number", "no refusal has this number")
     );
     assert_eq!((verdict_word(3), verdict_word(5)), ("VRIJ VERMOGEN", "no verdict has this number"));

@@ -66,9 +66,7 @@ class Reader:
     def judge(self, name: str, value: int, number: Number, refusal: int) -> None:
         """Refuses the number that was just taken where it is out of its limits."""
         if not number.least <= value <= number.most:
-            limits = f"{number.least:,} to {number.most:,} {number.kind.own}".rstrip()
-            raise Fault(refusal, self.at - number.length,
-                        f"{name} is {in_file_and_words(value, number)}; it must be {limits}")
+            raise Fault(refusal, self.at - number.length, out_of_limits(name, value, number))
 
     def numbers(self, field: str, numbers: list[Number], refusal: int) -> dict[str, int]:
         """A field of fixed length: whole before any of its numbers is judged."""
@@ -132,6 +130,11 @@ def in_file_and_words(value: int, number: Number) -> str:
     """A number in the file's own unit, and as people say it where that is another unit."""
     own = f"{value:,} {number.kind.own}".rstrip()
     return own if number.kind in (COUNT, MONEY) else f"{own}, {shown(value, number.kind)}"
+
+
+def out_of_limits(name: str, value: int, number: Number) -> str:
+    limits = f"{number.least:,} to {number.most:,} {number.kind.own}".rstrip()
+    return f"{name} is {in_file_and_words(value, number)}; it must be {limits}"
 
 
 def spaced(numbers: list[int]) -> str:

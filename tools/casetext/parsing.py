@@ -31,7 +31,7 @@ UNIT_ADVICE = 'unit = "%", "bp" or "steps"'
 
 
 class Wrong(Exception):
-    """What is wrong with a case in TOML: a sentence for each fault, by its key."""
+    """What is wrong with a case in TOML or with a history of months: a sentence for each fault, by its key or its line."""
 
     def __init__(self, faults: list[str]) -> None:
         more = [f"and {len(faults) - MOST_SHOWN:,} more faults"] if len(faults) > MOST_SHOWN else []
@@ -124,6 +124,12 @@ def quantity(value: object, number: Number, default: Unit | None = None) -> int:
     if bare_text(value) and not may_be_bare:
         raise Bad(f"is {in_sentence(value)} without a unit; {number.advice}")
     raise Bad(f"is {in_sentence(value)}; {number.advice}")
+
+
+def without_unit(rates: list[Cell]) -> str:
+    """One sentence for all rates that have no unit."""
+    others = f", and so are {len(rates) - 1:,} other rates" if len(rates) > 1 else ""
+    return f"{rates[0].place} is {printable(rates[0].text)} without a unit{others}"
 
 
 class Text:
@@ -298,9 +304,8 @@ class Text:
         before = len(self.faults)
         bare = [cell for day in days for cell in day if not unit and is_bare(cell.text)]
         if bare:
-            self.faults.append(f"{bare[0].place} is {printable(bare[0].text)} without a unit"
-                               + (f", and so are {len(bare) - 1:,} other rates" if len(bare) > 1 else "")
-                               + f'; write {UNIT_ADVICE} in [days], or each rate with its own, such as "{RATE_NUMBER.example}"')
+            self.faults.append(f'{without_unit(bare)}; write {UNIT_ADVICE} in [days], or each rate with its own, '
+                               f'such as "{RATE_NUMBER.example}"')
         rates = [[0 if not unit and is_bare(cell.text) else self.value(cell.place, cell.text, RATE_NUMBER, unit)
                   for cell in day] for day in days]
         if len(self.faults) == before:

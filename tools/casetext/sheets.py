@@ -60,19 +60,31 @@ def text_of(data: bytes) -> str:
         return data.decode("cp1252")
 
 
+def unreadable(name: str, error: Exception) -> Bad:
+    return Bad(f"is {name}, which cannot be read: {printable(getattr(error, 'strerror', None) or str(error))}")
+
+
 def read_sheet(name: object, folder: Path) -> Sheet:
-    """The rows of a CSV file without blank ones, and without blank cells at their ends."""
+    """The rows of a CSV file in the folder."""
     if not isinstance(name, str) or not name:
         raise Bad(f"is {'empty' if name == '' else 'no text'}; write the name of a CSV file")
     said = printable(name)
     try:
         with open(folder / name, "rb") as file:
             data = file.read(LARGEST_SHEET + 1)
-        text = text_of(data)
-    except (OSError, ValueError) as error:  # a text in no known encoding is a ValueError, and so is a name with a zero byte
-        raise Bad(f"is {said}, which cannot be read: {printable(getattr(error, 'strerror', None) or str(error))}") from None
+    except (OSError, ValueError) as error:  # a name with a zero byte is a ValueError
+        raise unreadable(said, error) from None
+    return sheet_of(data, said)
+
+
+def sheet_of(data: bytes, name: str) -> Sheet:
+    """The rows of a CSV file without blank ones, and without blank cells at their ends."""
     if len(data) > LARGEST_SHEET:
-        raise Bad(f"is {said}, which is larger than {LARGEST_SHEET:,} bytes")
+        raise Bad(f"is {name}, which is larger than {LARGEST_SHEET:,} bytes")
+    try:
+        text = text_of(data)
+    except ValueError as error:  # in no known encoding
+        raise unreadable(name, error) from None
     told = re.match(r"sep=(.)\r?\n", text)  # a spreadsheet's own way to name its separator
     separator = told[1] if told and told[1] in SEPARATORS else next((mark for mark in SEPARATORS if mark in text), ",")
     rows = []
@@ -84,10 +96,10 @@ def read_sheet(name: object, folder: Path) -> Sheet:
             if cells:
                 rows.append(Row(reader.line_num + bool(told), [cell.strip() for cell in cells]))
     except csv.Error as error:
-        raise Bad(f"is {said}, which cannot be read at line {reader.line_num}: {printable(str(error))}") from None
+        raise Bad(f"is {name}, which cannot be read at line {reader.line_num}: {printable(str(error))}") from None
     if not rows:
-        raise Bad(f"is {said}, which holds nothing")
-    return Sheet(said, rows, separator == "," and "," in text)
+        raise Bad(f"is {name}, which holds nothing")
+    return Sheet(name, rows, separator == "," and "," in text)
 
 
 # ---------------------------------------------------------------- labels
@@ -272,8 +284,13 @@ def commas_could_be_decimal(block: list[list[Cell]]) -> bool:
                                          for whole, rest in zip(row[::2], row[1::2])) for row in block)
 
 
+def usual_width(sheet: Sheet) -> int:
+    """How many cells most lines have."""
+    return Counter(len(row.cells) for row in sheet.rows).most_common(1)[0][0]
+
+
 def size_of(sheet: Sheet) -> str:
-    usual = Counter(len(row.cells) for row in sheet.rows).most_common(1)[0][0]
+    usual = usual_width(sheet)
     for row in sheet.rows:
         if len(row.cells) != usual:
             return f"has {counted(len(row.cells), CELLS)} in line {row.line}, where most lines have {usual}"

@@ -20,7 +20,7 @@ sys.path[:0] = [str(HERE), str(ROOT / "tools")]
 import examples
 import reference
 import test_reference
-from casetext import Case, Fault, Reader, explain, from_toml, read, refusal, template, to_toml, warnings_of, write
+from casetext import Case, Fault, Reader, explain, from_toml, months, read, refusal, template, to_toml, warnings_of, write
 from casetext.fields import forwards_out_of_limits
 
 C1 = reference.encode(examples.c1(), False, False, True)
@@ -199,6 +199,33 @@ class CommandLine(unittest.TestCase):
         self.assertEqual(self.run_tool("explain", "-", given=C1), (0, explain(C1)[0].encode(), said))
         self.assertEqual(self.run_tool("encode", str(ROOT / "cases" / "c1.toml")), (0, C1, said))
 
+    def test_months_there_and_back(self):
+        rates = [5_400 - 25 * month for month in range(120)]
+        text = months.to_csv(rates).encode()
+        self.assertEqual(self.run_tool("encode-months", "-", given=text), (0, months.write(rates, 0), ""))
+        for start in (0, 37, 119):
+            data = months.write(rates, start)
+            self.assertEqual(self.run_tool("encode-months", "-", "--start", str(start), given=text), (0, data, ""))
+            self.assertEqual(self.run_tool("decode-months", "-", "--start", str(start), given=data), (0, text, ""))
+
+    def test_months_warned_of_or_refused(self):
+        level = months.write([4_200] * 120, 0)
+        said = "warning: all 120 months are 4.2 %; was one rate copied to all?\n"
+        self.assertEqual(self.run_tool("decode-months", "-", "--start", "5", given=level)[::2], (0, said))
+        self.assertEqual(self.run_tool("encode-months", "-", given=b"4.2 %\n" * 120), (0, level, said))
+        for words, given, said in ((["encode-months", "-"], b"4.2 %\n" * 119,
+                                    "-: this has 119 months; it must have 120, a line a month\n"),
+                                   (["encode-months", "-", "--start", "120"], b"4.2 %\n" * 120,
+                                    "-: refused, 17: the start index is 120; it must be 0 to 119\n"),
+                                   (["decode-months", "-", "--start", "-1"], level,
+                                    "-: refused, 17: the start index is -1; it must be 0 to 119\n")):
+            self.assertEqual(self.run_tool(*words, given=given), (1, b"", said))
+        with tempfile.TemporaryDirectory() as folder:
+            path = Path(folder, "a.months")
+            path.write_bytes(level)
+            found = self.run_tool("decode-months", str(path), "--start", "0", "-o", str(path))
+            self.assertEqual((found[0], path.read_bytes()), (2, level))
+
     def test_refused(self):
         status, out, _ = self.run_tool("explain", os.devnull)
         self.assertEqual(status, 1)
@@ -226,8 +253,11 @@ class CommandLine(unittest.TestCase):
         self.assertEqual(self.run_tool("encode", "-", given=to_toml(read(FUND)).encode(), env=environment), (0, FUND, ""))
 
     def test_wrong_calls(self):
-        self.assertIn("a command is needed: encode, decode, explain or shorten", self.run_tool()[2])
-        for words in ((), ("shorten",), ("shorten", "a", "b"), ("lengthen", "a"), ("explain", "a", "-o", "b")):
+        self.assertIn("a command is needed, one of encode, decode, explain, shorten, encode-months, decode-months\n",
+                      self.run_tool()[2])
+        for words in ((), ("shorten",), ("shorten", "a", "b"), ("lengthen", "a"), ("explain", "a", "-o", "b"),
+                      ("encode", "a", "--start", "1"), ("encode-months", "a", "--start", "x"), ("decode-months", "a"),
+                      ("decode-months", "a", "--start", "1.5")):
             status, out, said = self.run_tool(*words)
             self.assertEqual((status, out, said.startswith("usage: casefile")), (2, b"", True), words)
 

@@ -237,6 +237,14 @@ def ufr_rows():
     yield "a mean of 5,050", history_of([5_050] * MONTHS), 0
 
 
+QUICK = ["239 bytes", "241 bytes", f"start {MONTHS}", f"the last month: {ABOVE}", "18 before 19", "a 120th less"]
+
+
+def quick_ufr_rows():
+    """Those that must-fail edits of the definitions need, and few others."""
+    return [row for row in ufr_rows() if row[0] in QUICK]
+
+
 # A fund whose one pension flow, at term 21, is the first that the UFR has a part in: with the default UFR, with which it is free, and with
 # another of its own. With a UFR of 3,100 it falls short, and both name the same file.
 PAST_20 = examples.c1(pension=[0] * 20 + [1_000_000], amounts=examples.c1().amounts | {"cash": 1_096_500})
@@ -256,7 +264,7 @@ def quick_value_rows():
 
 
 def value_rows():
-    """Valuations with faults of checks that follow each other, from the end of the file on; the last fault alone, and none."""
+    """Valuations with faults of checks that follow each other, from the end of the file on; and none."""
     call = Call(SMALL, FOUND, MONTHS - 1, (240, 240))
     yield "13 before 17", call._replace(start=MONTHS, lengths=(239, 240))
     yield "2 before 17", call._replace(file=SMALL + b"\0", history=FOUND[:-1])
@@ -265,5 +273,5 @@ def value_rows():
     yield "6 before 19", call._replace(file=STEEP, history=NO_UFR)
     yield "17 before 18", call._replace(history=with_month(FOUND, 0, BELOW), start=MONTHS)
     yield "18 before 19", call._replace(history=with_month(NO_UFR, MONTHS - 1, ABOVE))
-    yield "19", call._replace(history=NO_UFR)
+    yield "19, from another start", call._replace(history=NO_UFR, start=60)
     yield "none", call

@@ -41,8 +41,8 @@ def sum_from_oldest(history, start):
 
 
 def rounded_mean(total):
-    """"The UFR is their mean rounded to the nearest 100 steps, halves upward": of the sum of 120 months, in steps. Half a hundred more, then
-    down: so halves go upward below 0 as well."""
+    """"The UFR is their mean rounded to the nearest 100 steps, halves upward": of the sum of 120 months, in steps. Half a hundred more,
+    then down: so halves go upward below 0 as well."""
     hundreds = Fraction(total, MONTHS) / 100
     return 100 * floor(hundreds + Fraction(1, 2))
 

@@ -16,6 +16,7 @@ sys.path.insert(0, os.path.dirname(os.path.abspath(__file__)))
 import compare_months
 import histories
 import months
+import pinned
 import reference
 from antt import refusal
 from compare_months import Comparison
@@ -478,6 +479,26 @@ class Histories(unittest.TestCase):
         calls = histories.every_ufr(random.Random(8), accepted)
         found = [months.ufr_of(call.history, call.start) for call in calls]
         self.assertEqual(found, [Ufr(0, ufr) for _ in accepted for ufr in range(0, 5_001, 100)])
+
+
+class Statements(unittest.TestCase):
+    """The statements that tests/pinned.py writes are others for each wrong mean, way to read months and limit."""
+
+    def test_others(self):
+        right = pinned.months_cases()
+        wrong = [("rounded_mean", mean) for mean in (*MEANS.values(), clamped)]
+        wrong += [("months_of", read) for read in (unsigned, little_endian, last_left_out, first_left_out)]
+        wrong += [("months_within_limits", within) for within in (*LIMITS.values(), last_not_checked, first_not_checked)]
+        for name, other in wrong:
+            with self.subTest(name, other=other), mock.patch.object(months, name, other):
+                self.assertNotEqual(pinned.months_cases(), right)
+
+    def test_other_files(self):
+        """Likewise for each wrong file that is valued."""
+        right = pinned.months_refused()
+        for other in (field_ignored, own_field_kept, not_inserted):
+            with self.subTest(other.__name__), mock.patch.object(months, "with_ufr_field", other):
+                self.assertNotEqual(pinned.months_refused(), right)
 
 
 if __name__ == "__main__":

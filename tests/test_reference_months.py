@@ -25,9 +25,9 @@ def put(history, place, two_bytes):
 class Months(unittest.TestCase):
     def test_bytes(self):
         """Two's complement, the high byte first."""
-        for two_bytes, month in ((b"\xfe\x0c", -500), (b"\xfc\x18", -1_000), (b"\xfc\x17", -1_001), (b"\x27\x10", 10_000), (b"\x27\x11", 10_001),
-                                 (b"\x00\x00", 0), (b"\x00\x01", 1), (b"\x01\x00", 256), (b"\xff\xff", -1), (b"\x7f\xff", 32_767),
-                                 (b"\x80\x00", -32_768)):
+        for two_bytes, month in ((b"\xfe\x0c", -500), (b"\xfc\x18", -1_000), (b"\xfc\x17", -1_001), (b"\x27\x10", 10_000),
+                                 (b"\x27\x11", 10_001), (b"\x00\x00", 0), (b"\x00\x01", 1), (b"\x01\x00", 256), (b"\xff\xff", -1),
+                                 (b"\x7f\xff", 32_767), (b"\x80\x00", -32_768)):
             self.assertEqual(months_of(two_bytes * 120), [month] * 120)
         self.assertEqual(months_of(b"\x00\x01\xff\xfe\x00\x03"), [1, -2, 3])
 
@@ -50,8 +50,8 @@ class Months(unittest.TestCase):
 class Rounding(unittest.TestCase):
     def test_halves_upward(self):
         """The sum of 120 months; 120 x 50 is 6,000."""
-        for total, ufr in ((0, 0), (5_999, 0), (6_000, 100), (6_001, 100), (12_000, 100), (17_999, 100), (18_000, 200), (-1, 0), (-5_999, 0),
-                           (-6_000, 0), (-6_001, -100), (-12_000, -100), (-17_999, -100), (-18_000, -100), (-18_001, -200)):
+        for total, ufr in ((0, 0), (5_999, 0), (6_000, 100), (6_001, 100), (12_000, 100), (17_999, 100), (18_000, 200), (-1, 0),
+                           (-5_999, 0), (-6_000, 0), (-6_001, -100), (-12_000, -100), (-17_999, -100), (-18_000, -100), (-18_001, -200)):
             self.assertEqual(rounded_mean(total), ufr, total)
 
     def test_ends(self):
@@ -145,7 +145,8 @@ class Valued(unittest.TestCase):
         self.assertNotEqual(found.L, own.L)
         for file in (WITHOUT, WITH):
             valued = self.value(file)
-            self.assertEqual((valued.refusal, valued.rounded.L, valued.rounded.S, valued.rounded.verdict), (0, found.L, found.S, found.verdict))
+            rounded = valued.rounded
+            self.assertEqual((valued.refusal, rounded.L, rounded.S, rounded.verdict), (0, found.L, found.S, found.verdict))
             self.assertEqual(valued.factors, [end for bracket in found.factors[1:] for end in bracket] + [240, 241, 242])
             self.assertEqual(valued.rates, [end for bracket in found.zero_rates[1:] for end in bracket] + [1_240])
 

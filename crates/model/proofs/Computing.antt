@@ -19,6 +19,8 @@ use Rattle.model.specs.Margins.{weightedSum}
 use Rattle.model.specs.Buffers.{valuationRefusal, byTerm, factorEntries, factorsAfter, ratesAfter, rateEntries, valuationOf}
 use Rattle.model.specs.Rolling.{daysHeld, sumsOf, windowRight, addRefusal, dropRefusal, added, dropped, addDay, dropDay, changedBy, queuedBy}
 use Rattle.model.specs.Rolling.{windowRefusal, windowValuation, windowFactorsAfter, windowRatesAfter}
+use Rattle.model.specs.Months.{monthsOf, oldestFirst, total, roundedUfr, ufrRefusal, ufrAnswer, monthsRefusal, monthsValuation}
+use Rattle.model.specs.Months.{monthsFactorsAfter, monthsRatesAfter, withUfrField}
 use Rattle.model.specs.Window.{windowPoint}
 use Rattle.model.specs.Listing.{ascii, digits, decimal, word, line, listing}
 
@@ -46,5 +48,6 @@ unfolding
     weightedSum valuationRefusal byTerm factorEntries rateEntries factorsAfter ratesAfter valuationOf windowPoint
     daysHeld sumsOf windowRight addRefusal dropRefusal added dropped addDay dropDay changedBy queuedBy
     windowRefusal windowValuation windowFactorsAfter windowRatesAfter
+    monthsOf oldestFirst total roundedUfr ufrRefusal ufrAnswer monthsRefusal monthsValuation monthsFactorsAfter monthsRatesAfter withUfrField
     ascii digits decimal word line listing
 all = 0

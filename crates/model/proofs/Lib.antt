@@ -8,4 +8,5 @@ pub mod Pinned
 pub mod SavedCases
 pub mod SearchCases
 pub mod RollingCases
+pub mod MonthsCases
 pub mod Widths

@@ -16,29 +16,31 @@ import sys
 import tempfile
 import time
 import unittest
+from dataclasses import replace
 from pathlib import Path
 
 HERE = Path(__file__).resolve().parent
 ROOT = HERE.parent
-sys.path[:0] = [str(HERE)]
+sys.path[:0] = [str(HERE), str(ROOT / "tools")]
 import examples
 import reference
+from casetext import months
 from reference import MONEY
 
 C1 = reference.encode(examples.c1(), False, False, True)
 C1_LISTING = reference.listing(C1)
 VERSION = (ROOT / "VERSION").read_text().strip()
 
-# Counts its calls and hands out the file `program`. A file `edit` has it change a source once; `edits`, `slow` and `fails` have
-# it change one, wait or fail for as long as they are there.
+# Counts its calls and hands out the files `program` and `months`. A file `edit` has it change a source once; `edits`, `slow` and
+# `fails` have it change one, wait or fail for as long as they are there.
 RT = """#!/bin/sh
-[ "$1 $2" = 'check valuation' ] || exit 2
+[ "$*" = 'check valuation monthsvaluation' ] || exit 2
 echo call >> "$STAND_IN/calls"
 mkdir -p target/log && echo proved > target/log/b.res
 [ ! -e "$STAND_IN/slow" ] || { echo failed > target/log/a.res; sleep 0.7; echo proved > target/log/a.res; }
 [ ! -e "$STAND_IN/edit" ] || { rm -f "$STAND_IN/edit"; echo '// edited' >> crates/a/src/lib.rt; }
 [ ! -e "$STAND_IN/edits" ] || echo '// edited' >> crates/a/src/lib.rt
-mkdir -p target/bin && cp "$STAND_IN/program" target/bin/valuation || exit 2
+mkdir -p target/bin && cp "$STAND_IN/program" target/bin/valuation && cp "$STAND_IN/months" target/bin/monthsvaluation || exit 2
 [ ! -e "$STAND_IN/fails" ] || { echo 'rt: a NOT PROVED'; exit 1; }
 """
 
@@ -58,12 +60,14 @@ class Checkout(unittest.TestCase):
         shutil.copytree(ROOT / "tools", self.root / "tools", ignore=shutil.ignore_patterns("__pycache__"))
         for name in ("crates.txt", "crates/a/src/lib.rt", "crates/a/specs/S.antt", "crates/a/proofs/P.antt",
                      "crates/a/proofs/f/Proof.antt", "crates/a/proofs/m/f/Proof.antt", "crates/a/proofs/m/T/f/Proof.antt",
-                     "crates/valuation/src/main.rt", "crates/valuation/stdin", "crates/valuation/stdout"):
+                     "crates/valuation/src/main.rt", "crates/valuation/stdin", "crates/valuation/stdout",
+                     "crates/monthsvaluation/src/main.rt"):
             self.write(name, name)
         self.rt.mkdir()
         (self.rt / "rt").write_text(RT)
         (self.rt / "rt").chmod(0o755)
         self.program(f"#!/bin/sh\nexec {ROOT}/target/bin/valuation\n")
+        self.program(f"#!/bin/sh\nexec {ROOT}/target/bin/monthsvaluation\n", "months")
         self.c1 = self.folder / "c1.case"
         self.c1.write_bytes(C1)
 
@@ -72,9 +76,9 @@ class Checkout(unittest.TestCase):
         path.parent.mkdir(parents=True, exist_ok=True)
         path.write_text(text)
 
-    def program(self, script):
-        (self.rt / "program").write_text(script)
-        (self.rt / "program").chmod(0o755)
+    def program(self, script, name="program"):
+        (self.rt / name).write_text(script)
+        (self.rt / name).chmod(0o755)
 
     def order(self, word, stands=True):
         """Tells the stand-in what to do."""
@@ -131,7 +135,7 @@ class Proved(Checkout):
     def test_edits_of_every_kind(self):
         self.assertAnswers(self.value(self.c1), 1)
         files = [path for path in self.root.rglob("*") if path.is_file() and "crates" in path.name + str(path.parent)]
-        self.assertEqual(len(files), 10)
+        self.assertEqual(len(files), 11)
         for count, path in enumerate(files, 2):
             path.write_text(path.read_text()[::-1])  # as long as before
             os.utime(path, (946_684_800, 946_684_800))  # and older than the program
@@ -143,10 +147,11 @@ class Proved(Checkout):
 
     def test_an_edited_program(self):
         self.assertAnswers(self.value(self.c1), 1)
-        (self.root / "target/value/valuation").write_text("#!/bin/sh\necho 'R 1'\n")
-        self.assertAnswers(self.value(self.c1), 2)
+        for count, name in enumerate(("valuation", "monthsvaluation"), 2):
+            (self.root / "target/value" / name).write_text("#!/bin/sh\necho 'R 1'\n")
+            self.assertAnswers(self.value(self.c1), count)
         (self.root / "target/bin/valuation").write_text("#!/bin/sh\necho 'R 1'\n")  # nothing runs this one
-        self.assertAnswers(self.value(self.c1), 2)
+        self.assertAnswers(self.value(self.c1), 3)
 
     def test_an_edit_during_the_check(self):
         self.order("edit")
@@ -444,6 +449,163 @@ class Texts(Checkout):
         self.assertEqual((row["verdict"], row["warnings"]), ("RESERVETEKORT", []))
 
 
+class Months(Checkout):
+    """The listing is that of the file with the UFR found in its field."""
+
+    def setUp(self):
+        super().setUp()
+        for name in ("fund.case", "fund.toml", "fund-days.csv"):
+            shutil.copy(ROOT / "cases" / name, self.folder)
+        self.rates = [5_400 - 25 * month for month in range(120)]  # the mean is 3,912.5
+        self.history, self.sheet = self.folder / "a.months", self.folder / "a.csv"
+        self.history.write_bytes(months.write(self.rates, 37))
+        self.sheet.write_text(months.to_csv(self.rates))
+        self.fund = reference.read((self.folder / "fund.case").read_bytes())
+        (self.folder / "no_ufr.case").write_bytes(reference.encode(self.fund, False, True, True))
+        self.value(self.c1)
+
+    def listing(self, case=examples.c1(), ufr=3_900):
+        return reference.listing(reference.encode(replace(case, ufr=ufr), True, bool(case.bonds), True))
+
+    def with_months(self, *words, history="a.months", start=37, **options):
+        started = [] if start is None else ["--start", str(start)]
+        return self.value("--months", history, *started, *words, cwd=self.folder, **options)
+
+    def assertRefused(self, run, number):
+        self.assertEqual((run.returncode, run.stdout, run.stderr), (1, b"R %d\n" % number, b""))
+
+    def test_listing(self):
+        for history, start in (("a.months", 37), ("a.csv", 37), ("a.csv", None)):
+            for name, case in (("c1.case", examples.c1()), ("fund.case", self.fund), ("fund.toml", self.fund),
+                               ("no_ufr.case", self.fund)):
+                run = self.with_months(name, history=history, start=start)
+                self.assertEqual((run.returncode, run.stdout, run.stderr), (0, self.listing(case), b""))
+        self.assertNotEqual(self.listing(self.fund), self.value(self.folder / "fund.case").stdout)
+        self.assertEqual(self.calls(), 1)
+
+    def test_standard_input(self):
+        self.assertEqual(self.with_months("-", input=C1).stdout, self.listing())
+        self.assertEqual(self.with_months("c1.case", history="-", input=self.history.read_bytes()).stdout, self.listing())
+        self.assertNoAnswer(self.with_months("-", history="-", input=C1), "standard input can be read only once")
+
+    def test_what_is_handed_in(self):
+        """The first bytes of both files, which decide, each behind its length, and then the start index."""
+        self.program('#!/bin/sh\ncat > "$STAND_IN/input"; echo "R 1"\n', "months")
+        self.write("crates.txt", "another program")
+        files = {"short.case": b"ab", "long.case": bytes(9_300)}, {"short.months": b"", "long.months": bytes(300)}
+        for name, data in (files[0] | files[1]).items():
+            (self.folder / name).write_bytes(data)
+        for case, case_bytes in files[0].items():
+            for history, history_bytes in files[1].items():
+                self.with_months(case, history=history, start=258)
+                first, second = case_bytes[:9_224], history_bytes[:241]
+                self.assertEqual((self.rt / "input").read_bytes(), len(first).to_bytes(4, "big") + first
+                                 + len(second).to_bytes(4, "big") + second + bytes(6) + b"\1\2")
+        self.with_months("short.case", history="a.csv", start=119)
+        self.assertEqual((self.rt / "input").read_bytes(), b"\0\0\0\2ab\0\0\0\xf0" + months.write(self.rates, 119) + bytes(7) + b"w")
+
+    def test_refusals(self):
+        for start in (120, -1, 2 ** 64 - 1, 2 ** 64, 2 ** 64 + 37, -2 ** 64 + 37, 10 ** 40):
+            for history in ("a.months", "a.csv"):
+                self.assertRefused(self.with_months("c1.case", history=history, start=start), 17)
+        data = self.history.read_bytes()
+        for other, number in ((data[1:], 17), (data + b"\0", 17), (b"", 17), (b"\xfc\x17" + data[2:], 18),
+                              (b"\xff\xcd" * 120, 19), (b"\x13\xba" * 120, 19)):
+            self.history.write_bytes(other)
+            self.assertRefused(self.with_months("c1.case"), number)
+        (self.folder / "bad.case").write_bytes(C1[:-1])
+        self.assertRefused(self.with_months("bad.case"), 1)
+
+    def test_rounding(self):
+        for mean, ufr in ((-50, 0), (49, 0), (50, 100), (5_049, 5_000)):
+            self.history.write_bytes(mean.to_bytes(2, "big", signed=True) * 120)
+            self.assertEqual(self.with_months("c1.case").stdout, self.listing(ufr=ufr))
+
+    def test_several(self):
+        (self.folder / "bad.case").write_bytes(C1 + b"\0")
+        run = self.with_months("c1.case", "bad.case", "fund.case")
+        blocks = [b"c1.case\n" + self.listing(), b"bad.case\nR 2\n", b"fund.case\n" + self.listing(self.fund)]
+        self.assertEqual((run.returncode, run.stdout, run.stderr), (1, b"\n".join(blocks), b""))
+
+    def test_json(self):
+        (self.folder / "bad.case").write_bytes(C1 + b"\0")
+        run = self.with_months("--json", "fund.case", "bad.case", history="a.csv", start=5)
+        told = json.loads(run.stdout)
+        self.assertEqual(run.returncode, 1)
+        self.assertEqual({key: told[key] for key in told if key not in ("version", "unit", "valuations")},
+                         {"months": "a.csv", "months_sha256": hashlib.sha256(self.sheet.read_bytes()).hexdigest(), "start": 5,
+                          "months_warnings": [], "months_problem": None})
+        good, bad = told["valuations"]
+        rounded = reference.Rounded(replace(self.fund, ufr=3_900))
+        self.assertEqual((good["ufr"], good["refusal"], good["verdict"]), (3_900, None, rounded.verdict))
+        self.assertEqual({key: tuple(ends) for key, ends in good["figures"].items()}, {key: getattr(rounded, key) for key in MONEY})
+        self.assertEqual((bad["ufr"], bad["refusal"], bad["figures"]), (None, 2, None))
+        for start, told_start in ((37, 37), (-1, -1)):
+            told = json.loads(self.with_months("--json", "c1.case", start=start).stdout)
+            self.assertEqual((told["months"], told["start"]), ("a.months", told_start))
+            self.assertEqual(told["months_sha256"], hashlib.sha256(self.history.read_bytes()).hexdigest())
+        self.assertEqual((told["valuations"][0]["refusal"], told["valuations"][0]["ufr"]), (17, None))
+        self.assertIn("history", told["valuations"][0]["refusal_sentence"])
+
+    def test_csv(self):
+        run = self.with_months("--csv", "c1.case", "fund.case", start=119)
+        rows = list(csv.DictReader(io.StringIO(run.stdout.decode())))
+        self.assertEqual((run.returncode, len(rows)), (0, 2))
+        for row in rows:
+            self.assertEqual((row["months"], row["start"], row["ufr"], row["version"]), ("a.months", "119", "3900", VERSION))
+            self.assertEqual(row["months_sha256"], hashlib.sha256(self.history.read_bytes()).hexdigest())
+        self.assertEqual([row["verdict"] for row in rows], [self.listing().splitlines()[-1][2:].decode(),
+                                                            self.listing(self.fund).splitlines()[-1][2:].decode()])
+
+    def test_without_months(self):
+        """Nothing is said of months where none are asked for."""
+        for form in ("--json", "--csv"):
+            out = self.value(form, self.c1).stdout
+            self.assertFalse(any(word in out for word in (b"months", b"start", b"ufr")), out)
+
+    def test_wrong_calls(self):
+        for words, said in (("--months a.months c1.case", "--start is missing"), ("--start 1 c1.case", "it goes with --months only"),
+                            ("--months a.months --start x c1.case", "argument --start: invalid int value"),
+                            ("--months a.months --start 1.0 c1.case", "argument --start: invalid int value"),
+                            ("--months a.csv", "required: FILE"), ("c1.case --months", "argument --months: expected one argument")):
+            self.assertNoAnswer(self.value(*words.split(), cwd=self.folder), said)
+
+    def test_no_history(self):
+        """It is said once, by the history's name, and no case has an answer."""
+        self.sheet.write_text(self.sheet.read_text().replace("3;5.35 %", "3;5.35").replace("9;5.2 %", "9;52 %"))
+        for history, said in (("none", ["none: cannot be read: "]), (".", [".: cannot be read: "]),
+                              ("a.csv", ["a.csv: line 4, cell 2, is 5.35 without a unit", "a.csv: line 10, cell 2, is 52 %"])):
+            run = self.with_months("c1.case", "fund.case", history=history)
+            self.assertEqual((run.returncode, run.stdout), (2, b"c1.case\nno answer\n\nfund.case\nno answer\n"))
+            lines = run.stderr.decode().splitlines()
+            self.assertEqual(lines[len(said):], [f"c1.case: the history {history} cannot be used",
+                                                 f"fund.case: the history {history} cannot be used"])
+            for line, start in zip(lines, said):
+                self.assertTrue(line.startswith(start), line)
+            told = json.loads(self.with_months("--json", "c1.case", history=history).stdout)
+            self.assertIn(said[0].partition(": ")[2], told["months_problem"])
+            self.assertEqual((told["valuations"][0]["ufr"], told["valuations"][0]["figures"]), (None, None))
+        self.assertNoAnswer(self.with_months("c1.case", history="none"), "cannot be read")
+
+    def test_warnings(self):
+        self.sheet.write_text("4.2 %\n" * 120)
+        run = self.with_months("c1.case", "c1.case", history="a.csv")
+        self.assertEqual((run.returncode, run.stderr.decode().count("a.csv: warning: all 120 months are 4.2 %")), (0, 1))
+        told = json.loads(self.with_months("--json", "c1.case", history="a.csv").stdout)
+        self.assertEqual(len(told["months_warnings"]), 1)
+
+    def test_a_program_that_breaks_off(self):
+        whole = self.listing().decode()
+        for printed in ("", whole, "UFR 3900\n", "UFR 3900\nR 1\n", "R 1\nR 1\n", f"UFR\n{whole}", f"UFR 3900\n{whole[:-1]}",
+                        f"UFR 3900\nUFR 3900\n{whole}", f"UFR -100\n{whole}"):
+            self.program(f"#!/bin/sh\ncat > /dev/null\nprintf '{printed}'\n", "months")
+            self.write("crates.txt", printed)
+            self.assertNoAnswer(self.with_months("c1.case"), "the program gave no whole listing")
+        self.program(f"#!/bin/sh\ncat > /dev/null\nprintf 'UFR 3900\n{whole}'\n", "months")
+        self.write("crates.txt", "whole")
+        self.assertEqual(self.with_months("c1.case").stdout.decode(), whole)
+
+
 class Repository(unittest.TestCase):
     """./value of the repository itself."""
 
@@ -457,6 +619,11 @@ class Repository(unittest.TestCase):
             run = subprocess.run([ROOT / "value", file], capture_output=True, text=True)
             expected = file.with_suffix(".txt").read_text()
             self.assertEqual((run.returncode, run.stdout), (int(expected.startswith("R")), expected), file.name)
+
+    def test_example_with_months(self):
+        for words in (["fund.months", "--start", "37"], ["fund-months.csv"], ["fund-months.csv", "--start", "99"]):
+            run = subprocess.run([ROOT / "value", "--months", *words, "fund.case"], cwd=ROOT / "cases", capture_output=True)
+            self.assertEqual((run.returncode, run.stdout, run.stderr), (0, (ROOT / "cases/fund-months.txt").read_bytes(), b""))
 
     def test_a_call_costs_little(self):
         """A call on a built tree stays near the bare program's time: no proving, no Python. docs/DECISIONS.md has the ratio."""

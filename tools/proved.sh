@@ -1,9 +1,10 @@
-# The program that values case files, and whether it is proved. Sourced, with $root the folder of the repository.
+# The programs that value case files, and whether they are proved. Sourced, with $root the folder of the repository.
 #
-# target/value has a copy of a program that passed `rt check`, the names of that copy and of all that the check read (files), and
-# their checksums (proved). Dates play no part: where a file has other contents, the program is not proved. Any call may read
+# target/value has copies of programs that passed `rt check`, the names of these copies and of all that the check read (files), and
+# their checksums (proved). Dates play no part: where a file has other contents, the programs are not proved. Any call may read
 # these; only one that holds the lock writes them, the checksums last, so that a check that fails or breaks off leaves none.
 kept=$root/target/value
+programs='valuation monthsvaluation' # the second takes the UFR from a history of months
 program=$kept/valuation
 
 # The names of all that the check may read, from the root on, behind links too. A name in a crate has no blank in it.
@@ -43,11 +44,11 @@ show_progress() { # PID
   done
 }
 
-# Proves and builds the program. Status 0: the copy is proved of the present contents; 1: these changed meanwhile; 2: it is not.
+# Proves and builds the programs. Status 0: the copies are proved of the present contents; 1: these changed meanwhile; 2: they are not.
 check_once() {
   rm -f "$kept/proved" "$root"/target/log/*.res
   before=$(sources | checksums)
-  (cd "$root" && exec rt check valuation) > "$kept/log" 2>&1 < /dev/null & # it keeps the lock for as long as it runs
+  (cd "$root" && exec rt check $programs) > "$kept/log" 2>&1 < /dev/null & # it keeps the lock for as long as it runs
   trap "kill $! 2> /dev/null; exit 2" INT TERM HUP
   show_progress $!
   if ! wait $!; then
@@ -55,13 +56,15 @@ check_once() {
     echo 'value: the program is not proved, so there is no answer (target/value/log has all that rt said)' >&2
     return 2
   fi
-  cp "$root/target/bin/valuation" "$program.new" && mv "$program.new" "$program" || return 2
+  for name in $programs; do
+    cp "$root/target/bin/$name" "$kept/$name.new" && mv "$kept/$name.new" "$kept/$name" || return 2
+  done
   [ "$(sources | checksums)" = "$before" ] || return 1
-  printf '%s\n' "$(echo target/value/valuation | checksums)" "$before" > "$kept/new" || return 2
+  printf '%s\n' "$(printf 'target/value/%s\n' $programs | checksums)" "$before" > "$kept/new" || return 2
   cut -d ' ' -f 3 "$kept/new" > "$kept/files" && mv "$kept/new" "$kept/proved" || return 2
 }
 
-# Proves and builds the program, unless another call did so while this one waited for the lock, which hosts/build takes too.
+# Proves and builds the programs, unless another call did so while this one waited for the lock, which hosts/build takes too.
 prove() {
   command -v rt > /dev/null || { echo 'value: the program is not proved yet, and rt, which proves it, is not installed' >&2; return 2; }
   if ! { mkdir -p "$kept" && [ -w "$kept" ]; } 2> /dev/null; then

@@ -9,8 +9,10 @@ Command line: python3 tests/cases.py           writes them
     NAME.txt       document 01's listing, which is what ./value prints
     NAME.curve     factors (F term lower upper), zero rates (Z ..), and the place of the rates (P offset length)
 
-fund.toml and fund-days.csv are written by hand, as an office writes them; fund.case is their case. cases/README.md lists all.
-The bytes of the others, every listing and every curve come of tests/reference.py alone; the texts come of tools/casefile.
+fund.toml and fund-days.csv are written by hand, as an office writes them; fund.case is their case. So is fund-months.csv, a history
+of months; fund.months is its ring, and fund-months.txt the listing of fund.case with it. cases/README.md lists all.
+The bytes of the others, every listing and every curve come of tests/reference.py alone, the listing with months of tests/months.py;
+the texts and the ring come of tools/casefile.
 """
 
 import os
@@ -19,6 +21,7 @@ from dataclasses import dataclass, replace
 from pathlib import Path
 
 import examples
+import months
 import programs
 import reference
 from examples import c1, flat
@@ -28,7 +31,8 @@ sys.path[:0] = [str(ROOT / "tools")]
 import casetext
 
 FOLDER = ROOT / "cases"
-BY_HAND = {"fund.toml", "fund-days.csv"}
+BY_HAND = {"fund.toml", "fund-days.csv", "fund-months.csv"}
+START = 37  # the place of the oldest month in fund.months
 
 
 @dataclass(frozen=True)
@@ -125,8 +129,18 @@ def texts(example):
 def table(examples):
     """cases/README.md: every example with what it shows and how its listing ends."""
     rows = "".join(f"| {one.name} | {one.title} | {programs.outcome(reference.listing(one.data))} |\n" for one in examples)
-    return ("# Example case files\n\nWritten by tests/cases.py, but for fund.toml and fund-days.csv, which are written by hand. Its first lines say\n"
-            "what each kind of file holds.\n\n| Name | What it is | Its last line |\n|---|---|---|\n" + rows)
+    return ("# Example case files\n\nWritten by tests/cases.py, but for fund.toml, fund-days.csv and fund-months.csv, which are written by hand. Its\n"
+            "first lines say what each kind of file holds.\n\n"
+            f"fund.months is the history of months in fund-months.csv, its oldest month at place {START} of the ring. In this folder\n"
+            f"`../value --months fund.months --start {START} fund.case` prints fund-months.txt, and so does\n"
+            "`../value --months fund-months.csv fund.case`.\n\n| Name | What it is | Its last line |\n|---|---|---|\n" + rows)
+
+
+def with_months(fund):
+    """fund.months and fund-months.txt, of the history in fund-months.csv and the file of the fund."""
+    rates = casetext.months.from_csv((FOLDER / "fund-months.csv").read_bytes())
+    history = casetext.months.write(rates, START)
+    return {"cases/fund.months": history, "cases/fund-months.txt": months.listing(fund, history, START)}
 
 
 def wanted():
@@ -140,6 +154,7 @@ def wanted():
         contents |= texts(one)
     files = {f"cases/{name}": text.encode() for name, text in contents.items()}
     files |= {f"cases/{one.name}.case": one.data for one in examples}
+    files |= with_months(files["cases/fund.case"])
     c1_file = files["cases/c1.case"], files["cases/c1.txt"]
     return files | dict(zip(("crates/valuation/stdin", "crates/valuation/stdout"), c1_file))
 

@@ -5,9 +5,12 @@ import fnmatch
 import glob
 import os
 import re
+import struct
 import sys
 import unittest
 from dataclasses import replace
+from fractions import Fraction
+from math import floor
 
 sys.path.insert(0, os.path.dirname(os.path.abspath(__file__)))
 import reference
@@ -17,7 +20,7 @@ ROOT = os.path.abspath(os.path.join(os.path.dirname(os.path.abspath(__file__)), 
 PAGES = [os.path.relpath(page, ROOT) for pattern in ("README.md", "CHANGELOG.md", "docs/*.md")
          for page in sorted(glob.glob(os.path.join(ROOT, pattern)))]
 
-SUFFIXES = "md py rt antt toml case curve txt csv c h a so edit rs json yml sh".split()
+SUFFIXES = "md py rt antt toml case curve txt csv months c h a so edit rs json yml sh".split()
 PRODUCTS = ("target/", "hosts/target/", "bench/target/", "libhost.a/", "libginghamowl.a/")  # made by a build, never committed
 PLACEHOLDERS = ("NAME", "FILE", "DIR", "...")
 READERS_OWN = {"fund.case", "my_program.c"}  # files that a reader makes while following a page
@@ -263,6 +266,26 @@ class Method(unittest.TestCase):
             if cash == 19_260_330:
                 for name in "LAS":
                     self.assertIn(f"\n{name} {getattr(rounded, name)[0]} {getattr(rounded, name)[1]}\n", self.TEXT)
+
+    def test_months(self):
+        rows = re.findall(r"^\| (-?[\d,]+)[^|]* \| (-?[\d,]+(?:\.\d+\.\.)?) \| (-?[\d,]+)(, which is refused)? \|$", self.TEXT, re.M)
+        self.assertEqual(len(rows), 7)
+        number = lambda text: Fraction(text.replace(",", "").removesuffix(".."))
+        for total, mean, ufr, refused in rows:
+            exact = number(total) / 120
+            self.assertTrue(abs(exact) - Fraction(1, 100) < abs(number(mean)) <= abs(exact), total)
+            self.assertEqual(number(ufr), 100 * floor(exact / 100 + Fraction(1, 2)))
+            self.assertEqual(bool(refused), not 0 <= number(ufr) <= 5_000)
+        with open(os.path.join(ROOT, "cases", "fund.months"), "rb") as file:
+            months = struct.unpack(">120h", file.read())
+        self.assertEqual(sum(months), number(rows[0][0]))
+
+    def test_fund_with_months(self):
+        with open(os.path.join(ROOT, "cases", "fund.case"), "rb") as file:
+            fund = reference.read(file.read())
+        L = {ufr: reference.Rounded(replace(fund, ufr=ufr)).L[0] for ufr in (4_200, 4_000, 3_900)}
+        self.assertIn(f"L rises from {L[4_200] / 100:,.2f} to {L[3_900] / 100:,.2f} euros, by {(L[3_900] - L[4_200]) / 100:,.2f}.", self.TEXT)
+        self.assertIn(f"For the fund that is {(L[3_900] - L[4_000]) / 100:,.2f} euros of L.", self.TEXT)
 
 
 if __name__ == "__main__":

@@ -1,4 +1,4 @@
-"""Changed and random texts, sheets and files give a case or an error with its sentences, and nothing else."""
+"""Changed and random texts, sheets and files give a case or months, or an error with its sentences, and nothing else."""
 
 import random
 import re
@@ -6,15 +6,17 @@ import sys
 import tempfile
 import unittest
 from collections import Counter
+from itertools import product
 from pathlib import Path
 
 ROOT = Path(__file__).resolve().parents[1]
 sys.path[:0] = [str(ROOT / "tools")]
-from casetext import Fault, Wrong, explain, from_toml, read, template, to_toml, warnings_of, write
+from casetext import Fault, Wrong, explain, from_toml, months, read, template, to_toml, warnings_of, write
 
 UP = read((ROOT / "cases" / "up.case").read_bytes())
 DAYS = (ROOT / "cases" / "fund-days.csv").read_text("utf-8")
 FUND = (ROOT / "cases" / "fund.toml").read_text("utf-8")
+MONTHS = (ROOT / "cases" / "fund-months.csv").read_text("utf-8")
 FLOWS = ["term;flow\n1;31.415.927\n2;27182818\n3;€ 16.180.339,00\n", "1;2;3\n31.415.927;27182818;€ 16.180.339,00\n",
          "jaar,1,2\nflow,31415927,27182818\n"]
 PIECES = ["", "0", "1", "-1", "25", "4.2", "1.000", "1,000", "1.000.000", "nan", "inf", "1e999999999", "0x" + "f" * 50, "9" * 60,
@@ -52,14 +54,27 @@ class Fuzz(unittest.TestCase):
         try:
             case = from_toml(text, folder)
         except Wrong as wrong:
-            self.assertTrue(wrong.faults)
-            for fault in wrong.faults:
-                self.assertTrue(fault.isprintable() and len(fault) < 2_000, fault)
-            return "wrong"
+            return self.judge_faults(wrong.faults)
         self.assertEqual(from_toml(to_toml(case)), case)
         self.assertEqual(read(write(case)), case)
         self.assertTrue(all(warning.isprintable() for warning in warnings_of(case)))
         return "case"
+
+    def judge_faults(self, faults):
+        self.assertTrue(faults)
+        for fault in faults:
+            self.assertTrue(fault.isprintable() and len(fault) < 2_000, fault)
+        return "wrong"
+
+    def judge_months(self, data):
+        try:
+            rates = months.from_csv(data)
+        except Wrong as wrong:
+            return self.judge_faults(wrong.faults)
+        self.assertEqual(months.read(months.write(rates, 37), 37), rates)
+        self.assertEqual(months.from_csv(months.to_csv(rates).encode()), rates)
+        self.assertTrue(all(warning.isprintable() for warning in months.warnings_of(rates)))
+        return "months"
 
     def test_texts(self):
         rng, seen = random.Random(31), Counter()
@@ -95,6 +110,17 @@ class Fuzz(unittest.TestCase):
         self.assertGreater(seen["wrong", True, True], 500)
         self.assertEqual(seen["case", False, False], 0)
 
+    def test_months(self):
+        rng, seen = random.Random(34), Counter()
+        english = MONTHS.replace(",", ".").replace(";", ",")
+        sheets, encodings = [MONTHS, english, re.sub(".*,", "", english)], ["utf-8", "utf-8-sig", "utf-16"]
+        for sheet, encoding in product(sheets, encodings):
+            self.assertEqual(self.judge_months(sheet.encode(encoding)), "months")
+        for _ in range(1_000):
+            seen[self.judge_months(changed(rng, rng.choice(sheets)).encode(rng.choice(encodings), "replace"))] += 1
+        self.assertGreater(seen["wrong"], 500)
+        self.assertGreater(seen["months"], 10)
+
     def test_garbage(self):
         rng = random.Random(33)
         with tempfile.TemporaryDirectory() as name:
@@ -104,6 +130,7 @@ class Fuzz(unittest.TestCase):
                 (folder / "fund-days.csv").write_bytes(data)
                 self.judge(FUND, folder)
                 self.judge(data.decode("latin-1"))
+                self.assertEqual(self.judge_months(data), "wrong")
                 self.judge("".join(rng.choice(PIECES) for _ in range(rng.randint(1, 30))), folder)
                 self.assertFalse(explain(data)[1])
                 with self.assertRaises(Fault):

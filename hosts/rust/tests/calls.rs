@@ -67,7 +67,7 @@ fn refusals_by_number() {
         assert_eq!(found.to_string(), format!("refused, {number}: {}", refusal_sentence(number)));
     }
     assert_eq!(refusal(&file("c1")), None);
-    assert!(Refusal::ALL.iter().map(|refusal| refusal.number()).eq((1..=16).chain([27])));
+    assert!(Refusal::ALL.iter().map(|refusal| refusal.number()).eq((1..=19).chain([27])));
 }
 
 #[test]

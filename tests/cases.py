@@ -137,10 +137,15 @@ def table(examples):
 
 
 def with_months(fund):
-    """fund.months and fund-months.txt, of the history in fund-months.csv and the file of the fund."""
+    """fund.months and fund-months.txt, of the history in fund-months.csv and the file of the fund; and the same as the input of the program
+    with months, behind lengths and before the start index, and as its output, with the UFR found above."""
     rates = casetext.months.from_csv((FOLDER / "fund-months.csv").read_bytes())
     history = casetext.months.write(rates, START)
-    return {"cases/fund.months": history, "cases/fund-months.txt": months.listing(fund, history, START)}
+    listing = months.listing(fund, history, START)
+    behind_length = lambda data: len(data).to_bytes(4, "big") + data
+    return {"cases/fund.months": history, "cases/fund-months.txt": listing,
+            "crates/monthsvaluation/stdin": behind_length(fund) + behind_length(history) + START.to_bytes(8, "big"),
+            "crates/monthsvaluation/stdout": b"UFR %d\n" % months.ufr_of(history, START).ufr + listing}
 
 
 def wanted():

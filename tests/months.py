@@ -8,6 +8,7 @@ from functools import lru_cache
 from math import floor
 from typing import NamedTuple
 
+import reference
 from reference import Refused, Rounded, buffers, read, read_fields, refuse_unless, twos_complement
 from rolling import Valued
 
@@ -119,3 +120,9 @@ def value(file: bytes, history: bytes, start: int, factors: list, rates: list) -
     rounded = worked(with_ufr_field(file, rounded_ufr(history)))
     new_factors, new_rates = buffers(rounded)
     return Valued(0, rounded, new_factors + factors[240:], new_rates + rates[240:])
+
+
+def listing(file: bytes, history: bytes, start: int) -> bytes:
+    """What is printed: that of the named file, or R and the number."""
+    number = refusal(file, history, start, 240, 240)
+    return b"R %d\n" % number if number else reference.listing(with_ufr_field(file, rounded_ufr(history)))

@@ -485,13 +485,13 @@ class Statements(unittest.TestCase):
     """The statements that tests/pinned.py writes are others for each wrong mean, way to read months and limit."""
 
     def test_others(self):
-        right = pinned.months_cases()
+        right = pinned.months_cases(), pinned.months_refused()
         wrong = [("rounded_mean", mean) for mean in (*MEANS.values(), clamped)]
         wrong += [("months_of", read) for read in (unsigned, little_endian, last_left_out, first_left_out)]
         wrong += [("months_within_limits", within) for within in (*LIMITS.values(), last_not_checked, first_not_checked)]
         for name, other in wrong:
             with self.subTest(name, other=other), mock.patch.object(months, name, other):
-                self.assertNotEqual(pinned.months_cases(), right)
+                self.assertNotEqual((pinned.months_cases(), pinned.months_refused()), right)
 
     def test_other_files(self):
         """Likewise for each wrong file that is valued."""

@@ -9,6 +9,7 @@ import unittest
 sys.path.insert(0, os.path.dirname(os.path.abspath(__file__)))
 import examples
 import months
+import reference
 from months import Ufr, months_of, oldest_first, rounded_mean, rounded_ufr, sum_from_first_byte, sum_from_oldest, ufr_of, with_ufr_field
 from reference import Rounded, encode
 
@@ -182,6 +183,13 @@ class Valued(unittest.TestCase):
             self.refused(17, file, ABOVE * 120, 120)
             self.refused(18, file, ABOVE * 120, 0)
             self.refused(19, file, b"\xff\xcd" * 120, 0)
+
+    def test_listing(self):
+        """That of the file with the UFR in its field, or R and the number."""
+        named = months.with_ufr_field(WITHOUT, months.rounded_ufr(FLAT))
+        self.assertEqual(months.listing(WITHOUT, FLAT, 5), reference.listing(named))
+        self.assertNotEqual(months.listing(WITHOUT, FLAT, 5), reference.listing(WITHOUT))
+        self.assertEqual(months.listing(WITHOUT, FLAT, 120), b"R 17\n")
 
     def test_refusal_by_lengths(self):
         self.assertEqual(months.refusal(WITH, FLAT, 0, 240, 240), 0)

@@ -3,13 +3,14 @@
  * "Document 01" is "The UFR curve and the solvency verdict of one fund". It says what a case file
  * is, what each figure means and what each refusal is. "Document 02" has the requests that came
  * later: ginghamowl_save and its refusal 14 are its request One, the rolling window of days and its
- * refusals 15, 16 and 27 its request Two. The functions below are those of the crate `host`
- * (crates/host/src/lib.rt), and their contracts there are proved against both.
+ * refusals 15, 16 and 27 its request Two, the UFR from a history of months and its refusals 17, 18 and
+ * 19 its request Five. The functions below are those of the crate `host` (crates/host/src/lib.rt), and
+ * their contracts there are proved against both.
  *
  * LENT MEMORY, the same for every function:
  *
  *   - A buffer is a pointer and a length. A length counts ENTRIES, not bytes: 240 factors are
- *     240 uint64_t. A file or a listing has entries of one byte.
+ *     240 uint64_t. A file, a history or a listing has entries of one byte.
  *   - A pointer may be NULL only where its length is 0. Else it points to that many entries, each
  *     of which is initialised, aligned as its type asks.
  *   - Buffers that are written (factors and rates of a valuation, out) overlap no other buffer of
@@ -50,15 +51,17 @@ extern "C" {
 /* ---------------------------------------------------------------- sizes */
 
 enum {
-    GINGHAMOWL_TERMS = 120,         /* the terms of the curve: 1 to 120 years */
-    GINGHAMOWL_DAY_RATES = 60,      /* the zero rates of a day: terms 1 to 60 */
-    GINGHAMOWL_ENTRIES = 240,       /* the least length of a factor or rate buffer */
-    GINGHAMOWL_FILE_BYTES = 9223,   /* the longest accepted file; one byte more decides a refusal, and
-                                       every saved case fits */
-    GINGHAMOWL_LISTING_BYTES = 512, /* a listing always fits into so many bytes */
-    GINGHAMOWL_WINDOW_DAYS = 70,    /* the slots of a rolling window, and the most days that it holds */
-    GINGHAMOWL_WINDOW_RATES = 4200, /* the rates of all its slots */
-    GINGHAMOWL_WINDOW_BYTES = 8896  /* the size of a rolling window */
+    GINGHAMOWL_TERMS = 120,          /* the terms of the curve: 1 to 120 years */
+    GINGHAMOWL_DAY_RATES = 60,       /* the zero rates of a day: terms 1 to 60 */
+    GINGHAMOWL_ENTRIES = 240,        /* the least length of a factor or rate buffer */
+    GINGHAMOWL_FILE_BYTES = 9223,    /* the longest accepted file; one byte more decides a refusal, and
+                                        every saved case fits */
+    GINGHAMOWL_LISTING_BYTES = 512,  /* a listing always fits into so many bytes */
+    GINGHAMOWL_WINDOW_DAYS = 70,     /* the slots of a rolling window, and the most days that it holds */
+    GINGHAMOWL_WINDOW_RATES = 4200,  /* the rates of all its slots */
+    GINGHAMOWL_WINDOW_BYTES = 8896,  /* the size of a rolling window */
+    GINGHAMOWL_HISTORY_MONTHS = 120, /* the months of a history */
+    GINGHAMOWL_HISTORY_BYTES = 240   /* the length of a history, two bytes for each month */
 };
 
 /* Where the ends of term t (1 to 120) stand in a factor or rate buffer. */
@@ -67,11 +70,11 @@ enum {
 
 /* ---------------------------------------------------------------- refusals */
 
-/* Document 01's numbers, and 14, 15, 16 and 27 of document 02; no refusal has the numbers 17 to 26.
- * 1 to 12 are errors of the office that made the file, the case or the day, the others of the host.
- * The first that applies is given. For a file the order is document 01's: 13; the map (1, then 3);
- * each field in bit order; then 2; then 6. For a case that is saved, and for a rolling window, the
- * functions below have it. */
+/* Document 01's numbers, and 14 to 19 and 27 of document 02; no refusal has the numbers 20 to 26.
+ * 1 to 12, 18 and 19 are errors of the office that made the file, the case, the day or the months, the
+ * others of the host. The first that applies is given. For a file the order is document 01's: 13; the
+ * map (1, then 3); each field in bit order; then 2; then 6. For a case that is saved, for a rolling
+ * window and for a history of months, the functions below have it. */
 /* hosts/words writes: refusals */
 enum {
     GINGHAMOWL_ACCEPTED = 0,
@@ -267,6 +270,12 @@ typedef struct {
     ginghamowl_rolling_window window;
 } ginghamowl_changed_window;
 
+/* `refusal` is GINGHAMOWL_ACCEPTED or 17, 18 or 19. `ufr` in steps of 0.00001; it is 0 for a refusal. */
+typedef struct {
+    uint8_t refusal;
+    uint64_t ufr;
+} ginghamowl_ufr;
+
 /* ---------------------------------------------------------------- functions */
 
 /* Values a case file. On acceptance the entries 0 to 239 of both buffers are written, lower and
@@ -367,6 +376,39 @@ ginghamowl_valuation ginghamowl_rolling_value(ginghamowl_rolling_window window, 
                                               const uint64_t *bonds, size_t bonds_length,
                                               uint64_t *factors, size_t factors_length,
                                               int64_t *rates, size_t rates_length);
+
+/* The UFR from a history of months, the month-end forward rates of ten years: their mean, rounded to the
+ * nearest 100 steps, halves upward, also below 0, so that a mean of -50 steps gives 0.
+ *
+ * A history has 240 bytes, 120 months of two bytes each: two's complement, the high byte first, in steps
+ * of 0.00001. It is a ring. The oldest month stands at `start` (0 to 119), which is at the bytes
+ * 2 * start and 2 * start + 1, and the month i months later at (start + i) % 120. `start` is only
+ * checked, and has no influence on the UFR.
+ *
+ * At each month end the host replaces the oldest month itself, without a call: it writes the two bytes of
+ * the new month at offset 2 * start, and sets `start` to (start + 1) % 120.
+ *
+ * The first refusal that applies is given, in this order:
+ *
+ *   17             the history has not 240 bytes, or `start` is above 119
+ *   18             a month is outside -1,000 to 10,000
+ *   19             the rounded UFR is outside 0 to 5,000 */
+ginghamowl_ufr ginghamowl_ufr_of(const uint8_t *history, size_t history_length, uint64_t start);
+
+/* Values a case file with the UFR from a history of months, as if it stood in the file's UFR field. The
+ * answer, and what both buffers hold afterwards, is what ginghamowl_value gives of the file with bit 0 of
+ * its map set and this UFR in the two bytes behind the map: in place of the file's own UFR where the bit
+ * is set already, else inserted there. The first refusal that applies is given, in this order:
+ *
+ *   13             a buffer has fewer than 240 entries
+ *   1 to 12        the file's own, as ginghamowl_refusal gives them; its own UFR is checked too (9)
+ *   17, 18, 19     the history, as ginghamowl_ufr_of checks it
+ *
+ * A refusal changes neither buffer. */
+ginghamowl_valuation ginghamowl_value_with_months(const uint8_t *file, size_t file_length,
+                                                  const uint8_t *history, size_t history_length, uint64_t start,
+                                                  uint64_t *factors, size_t factors_length,
+                                                  int64_t *rates, size_t rates_length);
 
 #ifdef __cplusplus
 }

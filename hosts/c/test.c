@@ -32,6 +32,8 @@ _Static_assert(offsetof(ginghamowl_rolling_window, sums) == 8416, "the sums are 
 _Static_assert(sizeof(ginghamowl_day) == 240, "60 rates of 4 bytes");
 _Static_assert(sizeof(ginghamowl_changed_window) == 8904, "a byte, padded to 8, and the window");
 _Static_assert(offsetof(ginghamowl_changed_window, window) == 8, "the window behind the refusal");
+_Static_assert(sizeof(ginghamowl_ufr) == 16, "a byte, padded to 8, and the UFR");
+_Static_assert(offsetof(ginghamowl_ufr, ufr) == 8, "the UFR behind the refusal");
 
 static unsigned long checks, failures;
 
@@ -217,6 +219,22 @@ static void value_into(const uint8_t *file, size_t length, uint8_t refusal, size
     free(rates.all);
 }
 
+/* The answer and both buffers are what ginghamowl_value gives of this file, which is accepted. */
+static void valued_as_the_file(const uint8_t *file, size_t length, ginghamowl_valuation v, guarded factors, guarded rates)
+{
+    guarded file_factors = lent(factors.length), file_rates = lent(rates.length);
+    ginghamowl_valuation of_file = ginghamowl_value(file, length, entries(file_factors), factors.length,
+                                                    (int64_t *)entries(file_rates), rates.length);
+
+    CHECK(of_file.refusal == GINGHAMOWL_ACCEPTED);
+    CHECK(v.refusal == of_file.refusal && v.verdict == of_file.verdict);
+    CHECK(memcmp(&v.figures, &of_file.figures, sizeof v.figures) == 0);
+    CHECK(memcmp(entries(factors), entries(file_factors), factors.length * sizeof *factors.all) == 0);
+    CHECK(memcmp(entries(rates), entries(file_rates), rates.length * sizeof *rates.all) == 0);
+    free(file_factors.all);
+    free(file_rates.all);
+}
+
 static void test_lengths(void)
 {
     static const size_t lengths[] = {0, 1, 239, 240, 241, 1000};
@@ -233,40 +251,50 @@ static void test_lengths(void)
         }
 }
 
-/* C1 with one byte changed. */
-static void refused_with(size_t at, uint8_t byte, uint8_t refusal)
+/* What C1 is refused with where one byte is another. */
+enum { CHANGES = 15 };
+static const struct {
+    size_t at;
+    uint8_t byte, refusal;
+} REFUSED_CHANGES[CHANGES] = {
+    {0, 0x80, GINGHAMOWL_REFUSED_MAP},
+    {1, 0x74, GINGHAMOWL_REFUSED_MAP},
+    {2, 0, GINGHAMOWL_REFUSED_DAY_COUNT},
+    {2, 71, GINGHAMOWL_REFUSED_DAY_COUNT},
+    {3, 0x7f, GINGHAMOWL_REFUSED_RATE},
+    {3, 0x80, GINGHAMOWL_REFUSED_RATE},
+    {121, 0x01, GINGHAMOWL_REFUSED_GROWTH}, /* term 60 at 256 steps: 60 x 256 is above 12,000 */
+    {123, 0, GINGHAMOWL_REFUSED_FLOW_COUNT},
+    {123, 121, GINGHAMOWL_REFUSED_FLOW_COUNT},
+    {123, 60, GINGHAMOWL_REFUSED_ENDS_EARLY},
+    {124, 0xff, GINGHAMOWL_REFUSED_FLOW},
+    {128, 0x80, GINGHAMOWL_REFUSED_AMOUNT},
+    {192, 0xff, GINGHAMOWL_REFUSED_SHOCK},
+    {216, 0x01, GINGHAMOWL_REFUSED_PEOPLE},
+    {222, 0x05, GINGHAMOWL_REFUSED_PEOPLE},
+};
+
+/* C1 with one of these bytes changed. */
+static void test_refused_changes(void)
 {
     uint8_t file[C1_BYTES];
     ginghamowl_part part;
+    size_t i;
 
-    c1(file);
-    file[at] = byte;
-    value_into(file, C1_BYTES, refusal, 240, 240);
-    CHECK(ginghamowl_refusal(file, C1_BYTES) == refusal);
-    part = ginghamowl_rates_part(file, C1_BYTES);
-    CHECK(part.offset == 0 && part.length == 0);
+    for (i = 0; i < CHANGES; i++) {
+        c1(file);
+        file[REFUSED_CHANGES[i].at] = REFUSED_CHANGES[i].byte;
+        value_into(file, C1_BYTES, REFUSED_CHANGES[i].refusal, 240, 240);
+        CHECK(ginghamowl_refusal(file, C1_BYTES) == REFUSED_CHANGES[i].refusal);
+        part = ginghamowl_rates_part(file, C1_BYTES);
+        CHECK(part.offset == 0 && part.length == 0);
+    }
 }
 
 static void test_refusals(void)
 {
     uint8_t file[C1_BYTES], *copy;
     size_t length;
-
-    refused_with(0, 0x80, GINGHAMOWL_REFUSED_MAP);
-    refused_with(1, 0x74, GINGHAMOWL_REFUSED_MAP);
-    refused_with(2, 0, GINGHAMOWL_REFUSED_DAY_COUNT);
-    refused_with(2, 71, GINGHAMOWL_REFUSED_DAY_COUNT);
-    refused_with(3, 0x7f, GINGHAMOWL_REFUSED_RATE);
-    refused_with(3, 0x80, GINGHAMOWL_REFUSED_RATE);
-    refused_with(121, 0x01, GINGHAMOWL_REFUSED_GROWTH); /* term 60 at 256 steps: 60 x 256 is above 12,000 */
-    refused_with(123, 0, GINGHAMOWL_REFUSED_FLOW_COUNT);
-    refused_with(123, 121, GINGHAMOWL_REFUSED_FLOW_COUNT);
-    refused_with(123, 60, GINGHAMOWL_REFUSED_ENDS_EARLY);
-    refused_with(124, 0xff, GINGHAMOWL_REFUSED_FLOW);
-    refused_with(128, 0x80, GINGHAMOWL_REFUSED_AMOUNT);
-    refused_with(192, 0xff, GINGHAMOWL_REFUSED_SHOCK);
-    refused_with(216, 0x01, GINGHAMOWL_REFUSED_PEOPLE);
-    refused_with(222, 0x05, GINGHAMOWL_REFUSED_PEOPLE);
 
     c1(file);
     for (length = 0; length < C1_BYTES; length++) {
@@ -1094,14 +1122,10 @@ static void drops_not(const ginghamowl_rolling_window *w, uint8_t refusal)
     CHECK(same_window(&changed.window, w));
 }
 
-/* The answer and both buffers are what ginghamowl_value gives of the file of the case with the window's days. */
-static void valued_as_the_file(const ginghamowl_rolling_window *w, const held_case *c, ginghamowl_valuation v, guarded factors,
-                               guarded rates)
+/* The file of the case with the window's days. Returns its length. */
+static size_t with_days_of(const ginghamowl_rolling_window *w, const held_case *c, uint8_t file[MOST_BYTES])
 {
     static held_case with_days;
-    static uint8_t file[MOST_BYTES];
-    guarded file_factors = lent(factors.length), file_rates = lent(rates.length);
-    ginghamowl_valuation of_file;
     uint64_t day;
     size_t t;
 
@@ -1110,21 +1134,14 @@ static void valued_as_the_file(const ginghamowl_rolling_window *w, const held_ca
     for (day = 0; day < w->count; day++)
         for (t = 0; t < DAY; t++)
             with_days.rates[day * DAY + t] = w->rates[place_of(w, day) + t];
-    of_file = ginghamowl_value(file, shortest(&with_days, file), entries(file_factors), factors.length,
-                               (int64_t *)entries(file_rates), rates.length);
-    CHECK(of_file.refusal == GINGHAMOWL_ACCEPTED);
-    CHECK(v.refusal == of_file.refusal && v.verdict == of_file.verdict);
-    CHECK(memcmp(&v.figures, &of_file.figures, sizeof v.figures) == 0);
-    CHECK(memcmp(entries(factors), entries(file_factors), factors.length * sizeof *factors.all) == 0);
-    CHECK(memcmp(entries(rates), entries(file_rates), rates.length * sizeof *rates.all) == 0);
-    free(file_factors.all);
-    free(file_rates.all);
+    return shortest(&with_days, file);
 }
 
 /* One call with buffers of these lengths: it gives this refusal, and changes nothing lent; or it is valued as the file is. */
 static void rolling_value_into(const ginghamowl_rolling_window *w, const held_case *c, uint8_t refusal, size_t factors_length,
                                size_t rates_length)
 {
+    static uint8_t file[MOST_BYTES];
     size_t case_rates_size = c->rates_length * sizeof *c->rates, pension_size = c->pension_length * sizeof *c->pension;
     size_t bonds_size = c->bonds_length * sizeof *c->bonds;
     int32_t *case_rates = exactly(c->rates, case_rates_size);
@@ -1139,7 +1156,7 @@ static void rolling_value_into(const ginghamowl_rolling_window *w, const held_ca
     CHECK(unchanged(case_rates, c->rates, case_rates_size) && unchanged(pension, c->pension, pension_size)
           && unchanged(bonds, c->bonds, bonds_size));
     if (refusal == GINGHAMOWL_ACCEPTED)
-        valued_as_the_file(w, c, v, factors, rates);
+        valued_as_the_file(file, with_days_of(w, c, file), v, factors, rates);
     else
         CHECK(is_refused(v, refusal) && held_from(factors, 0) && held_from(rates, 0));
     free(case_rates);
@@ -1472,9 +1489,387 @@ static void test_rolling_order(void)
     rolling_values_not(&steep, &c, GINGHAMOWL_REFUSED_GROWTH);
 }
 
+/* ---------------------------------------------------------------- histories of months */
+
+enum { MONTHS = GINGHAMOWL_HISTORY_MONTHS, MOST_HISTORY = 2 * GINGHAMOWL_HISTORY_BYTES };
+
+/* What ginghamowl_ufr_of takes. Of the bytes, the first `length` are lent. */
+typedef struct {
+    uint8_t bytes[MOST_HISTORY];
+    size_t length;
+    uint64_t start;
+} held_history;
+
+static void set_month(held_history *h, size_t place, int month)
+{
+    put(h->bytes + 2 * place, (uint64_t)month, 2);
+}
+
+static int month_at(const held_history *h, size_t place)
+{
+    return (int16_t)(h->bytes[2 * place] << 8 | h->bytes[2 * place + 1]);
+}
+
+/* A history with this sum: the months at its first places are one step higher than the others. */
+static held_history with_sum(int sum)
+{
+    held_history h = {{0}, GINGHAMOWL_HISTORY_BYTES, 0};
+    int least = (sum + 1000 * MONTHS) / MONTHS - 1000, place; /* rounded down: no sum is below -1,000 x 120 */
+
+    for (place = 0; place < MONTHS; place++)
+        set_month(&h, (size_t)place, least + (place < sum - least * MONTHS));
+    return h;
+}
+
+static held_history flat_months(int month)
+{
+    return with_sum(month * MONTHS);
+}
+
+/* Months none of which is like its neighbours, with a UFR within its limits. */
+static held_history uneven_months(void)
+{
+    held_history h = flat_months(0);
+    int place;
+
+    for (place = 0; place < MONTHS; place++)
+        set_month(&h, (size_t)place, place * place * 37 % 7001 - 900);
+    return h;
+}
+
+/* The UFR of a sum of months, with no look at the limits: halves of 100 steps go upward. */
+static int rounded(int sum)
+{
+    return 100 * ((sum + 6000 + 12000 * 100) / 12000 - 100); /* 100 more hundreds, so that the division rounds down */
+}
+
+static int rounded_mean(const held_history *h)
+{
+    int sum = 0;
+    size_t place;
+
+    for (place = 0; place < MONTHS; place++)
+        sum += month_at(h, place);
+    return rounded(sum);
+}
+
+static uint8_t history_refusal(const held_history *h)
+{
+    size_t place;
+
+    if (h->length != GINGHAMOWL_HISTORY_BYTES || h->start >= MONTHS)
+        return GINGHAMOWL_REFUSED_HISTORY;
+    for (place = 0; place < MONTHS; place++)
+        if (month_at(h, place) < -1000 || month_at(h, place) > 10000)
+            return GINGHAMOWL_REFUSED_MONTH;
+    return rounded_mean(h) < 0 || rounded_mean(h) > 5000 ? GINGHAMOWL_REFUSED_MONTHS_UFR : GINGHAMOWL_ACCEPTED;
+}
+
+/* ---------------------------------------------------------------- tests of histories of months */
+
+/* Bytes that are only read, with guards in front and `behind` guards after them: with none, valgrind sees a byte read too many. */
+typedef struct {
+    uint8_t *all;
+    size_t length, behind;
+} read_only;
+
+static read_only lent_bytes(const uint8_t *bytes, size_t length, size_t behind)
+{
+    read_only r = {malloc(GUARDS + length + behind), length, behind};
+    size_t i;
+
+    if (r.all == NULL)
+        abort();
+    for (i = 0; i < GUARDS + length + behind; i++)
+        r.all[i] = pattern(i);
+    if (length != 0)
+        memcpy(r.all + GUARDS, bytes, length);
+    return r;
+}
+
+/* NULL where there are no bytes, and no guards behind them. */
+static const uint8_t *bytes_of(read_only r)
+{
+    return r.length + r.behind == 0 ? NULL : r.all + GUARDS;
+}
+
+/* The bytes are these, and the guards stand. */
+static int as_lent(read_only r, const uint8_t *bytes)
+{
+    size_t i;
+
+    for (i = 0; i < GUARDS + r.length + r.behind; i++)
+        if ((i < GUARDS || i >= GUARDS + r.length) && r.all[i] != pattern(i))
+            return 0;
+    return unchanged(r.all + GUARDS, bytes, r.length);
+}
+
+/* The history gives this refusal and this UFR. */
+static void gives(const held_history *h, uint8_t refusal, uint64_t ufr)
+{
+    size_t behind;
+
+    for (behind = 0; behind <= GUARDS; behind += GUARDS) {
+        read_only history = lent_bytes(h->bytes, h->length, behind);
+        ginghamowl_ufr found = ginghamowl_ufr_of(bytes_of(history), h->length, h->start);
+
+        CHECK(found.refusal == refusal && found.ufr == ufr);
+        CHECK(as_lent(history, h->bytes));
+        free(history.all);
+    }
+}
+
+/* The file with bit 0 of its map set and the UFR in its field: in place of its own UFR, or inserted. Returns its length. */
+static size_t with_ufr_field(const uint8_t *file, size_t length, uint64_t ufr, uint8_t named[MOST_BYTES])
+{
+    size_t others = (file[1] & 1) == 1 ? 4 : 2;
+
+    put(named, (uint64_t)(file[0] << 8 | file[1] | 1), 2);
+    put(named + 2, ufr, 2);
+    memcpy(named + 4, file + others, length - others);
+    return length + 4 - others;
+}
+
+/* One call with buffers of these lengths: it gives this refusal, and changes nothing lent; or it is valued as the named file is. */
+static void months_into(const uint8_t *bytes, size_t length, const held_history *h, uint8_t refusal, size_t factors_length,
+                        size_t rates_length)
+{
+    static uint8_t named[MOST_BYTES];
+    size_t behind;
+
+    for (behind = 0; behind <= GUARDS; behind += GUARDS) {
+        read_only file = lent_bytes(bytes, length, behind), history = lent_bytes(h->bytes, h->length, behind);
+        guarded factors = lent(factors_length), rates = lent(rates_length);
+        ginghamowl_valuation v = ginghamowl_value_with_months(
+            bytes_of(file), length, bytes_of(history), h->length, h->start,
+            factors_length == 0 ? NULL : entries(factors), factors_length,
+            rates_length == 0 ? NULL : (int64_t *)entries(rates), rates_length);
+
+        CHECK(guards_stand(factors) && guards_stand(rates));
+        CHECK(as_lent(file, bytes) && as_lent(history, h->bytes));
+        if (refusal == GINGHAMOWL_ACCEPTED)
+            valued_as_the_file(named, with_ufr_field(bytes, length, (uint64_t)rounded_mean(h), named), v, factors, rates);
+        else
+            CHECK(is_refused(v, refusal) && held_from(factors, 0) && held_from(rates, 0));
+        free(file.all);
+        free(history.all);
+        free(factors.all);
+        free(rates.all);
+    }
+}
+
+/* The file is refused with this number with this history; where a buffer is too short, with 13. */
+static void months_not(const uint8_t *file, size_t length, const held_history *h, uint8_t refusal)
+{
+    months_into(file, length, h, refusal, 240, 240);
+    months_into(file, length, h, GINGHAMOWL_REFUSED_BUFFER, 239, 240);
+    months_into(file, length, h, GINGHAMOWL_REFUSED_BUFFER, 240, 0);
+}
+
+/* The history gives this refusal, alone and with a file that is accepted. */
+static void refuses(const held_history *h, uint8_t refusal)
+{
+    uint8_t file[C1_BYTES];
+
+    c1(file);
+    gives(h, refusal, 0);
+    months_not(file, C1_BYTES, h, refusal);
+}
+
+/* Lengths and starts out of range, also such as a cut to fewer bytes, or another turn of the ring, would let pass. Where one is
+ * wrong, no month is looked at. */
+static void test_history_lengths(void)
+{
+    static const size_t lengths[] = {0, 1, 2, 120, 239, 240, 241, 242, 480};
+    static const uint64_t starts[] = {0, 1, 60, 119, 120, 121, 239, 240, 256, 65536, (uint64_t)1 << 32, ((uint64_t)1 << 32) + 5,
+                                      (uint64_t)1 << 63, UINT64_MAX - 119, UINT64_MAX};
+    held_history right = flat_months(3100), wrong = flat_months(3100);
+    size_t i, k;
+
+    set_month(&wrong, 0, -1001);
+    for (i = 0; i < sizeof lengths / sizeof *lengths; i++)
+        for (k = 0; k < sizeof starts / sizeof *starts; k++) {
+            right.length = wrong.length = lengths[i];
+            right.start = wrong.start = starts[k];
+            if (lengths[i] == 240 && starts[k] <= 119) {
+                gives(&right, GINGHAMOWL_ACCEPTED, 3100);
+                refuses(&wrong, GINGHAMOWL_REFUSED_MONTH);
+            } else {
+                refuses(&right, GINGHAMOWL_REFUSED_HISTORY);
+                refuses(&wrong, GINGHAMOWL_REFUSED_HISTORY);
+            }
+        }
+}
+
+/* One month at each limit and past it, and numbers that pass with their bytes exchanged or with one of them alone. */
+static void test_month_limits(void)
+{
+    static const int wrong[] = {-1001, 10001, INT16_MIN, INT16_MAX, 0x7f00, -0x7f00};
+    size_t place, i;
+
+    for (place = 0; place < MONTHS; place++) {
+        held_history h = flat_months(3149); /* 1 more in each month would round upward */
+
+        set_month(&h, place, 10000);
+        gives(&h, GINGHAMOWL_ACCEPTED, 3200);
+        set_month(&h, place, -1000);
+        gives(&h, GINGHAMOWL_ACCEPTED, 3100);
+        for (i = 0; i < sizeof wrong / sizeof *wrong; i++) {
+            set_month(&h, place, wrong[i]);
+            refuses(&h, GINGHAMOWL_REFUSED_MONTH);
+        }
+    }
+}
+
+/* Where the mean is half a hundred below q hundreds it is rounded to these, and a 120th of a step less to a hundred less. */
+static void test_month_rounding(void)
+{
+    int q;
+
+    for (q = -9; q <= 100; q++) {
+        held_history half = with_sum(12000 * q - 6000), less = with_sum(12000 * q - 6001);
+
+        if (q >= 0 && q <= 50)
+            gives(&half, GINGHAMOWL_ACCEPTED, 100 * (uint64_t)q);
+        else
+            refuses(&half, GINGHAMOWL_REFUSED_MONTHS_UFR);
+        if (q >= 1 && q <= 51)
+            gives(&less, GINGHAMOWL_ACCEPTED, 100 * (uint64_t)(q - 1));
+        else
+            refuses(&less, GINGHAMOWL_REFUSED_MONTHS_UFR);
+    }
+}
+
+/* The start is checked, and makes no difference. */
+static void test_month_start(void)
+{
+    static held_case c;
+    static uint8_t file[MOST_BYTES];
+    held_history h = uneven_months();
+    size_t length;
+
+    largest_case(&c);
+    length = shortest(&c, file);
+    for (h.start = 0; h.start < MONTHS; h.start++) {
+        gives(&h, GINGHAMOWL_ACCEPTED, (uint64_t)rounded_mean(&h));
+        months_into(file, length, &h, GINGHAMOWL_ACCEPTED, 240, 240);
+    }
+    refuses(&h, GINGHAMOWL_REFUSED_HISTORY);
+}
+
+/* At each month end the oldest month is replaced, as the header has it: the UFR is that of the last 120 months. */
+static void test_month_ends(void)
+{
+    enum { ENDS = 3 * MONTHS + 7 };
+    held_history h = flat_months(0);
+    int months[MONTHS + ENDS] = {0}, end, back, sum;
+
+    for (end = MONTHS; end < MONTHS + ENDS; end++) {
+        months[end] = end * end % 9001 - 400;
+        set_month(&h, h.start, months[end]);
+        h.start = (h.start + 1) % MONTHS;
+        for (sum = 0, back = 0; back < MONTHS; back++) {
+            sum += months[end - back];
+            CHECK(month_at(&h, (h.start + MONTHS - 1 - (size_t)back) % MONTHS) == months[end - back]);
+        }
+        gives(&h, GINGHAMOWL_ACCEPTED, (uint64_t)rounded(sum));
+    }
+}
+
+/* Any bytes, and histories with a byte or two changed. */
+static void test_history_bytes(void)
+{
+    uint64_t state = 88172645463325252u;
+    unsigned long seen[20] = {0}, round;
+
+    for (round = 0; round < 4000; round++) {
+        held_history h = with_sum((int)(drawn(&state) % 1320001) - 120000);
+        uint64_t hits = drawn(&state) % 16 == 0 ? GINGHAMOWL_HISTORY_BYTES : drawn(&state) % 3;
+        uint8_t refusal;
+
+        h.start = drawn(&state) % (MONTHS + 5);
+        if (drawn(&state) % 16 == 0)
+            h.length = drawn(&state) % (MOST_HISTORY + 1);
+        for (; hits > 0; hits--)
+            h.bytes[drawn(&state) % GINGHAMOWL_HISTORY_BYTES] = (uint8_t)drawn(&state);
+        refusal = history_refusal(&h);
+        gives(&h, refusal, refusal == GINGHAMOWL_ACCEPTED ? (uint64_t)rounded_mean(&h) : 0);
+        seen[refusal]++;
+    }
+    CHECK(seen[GINGHAMOWL_ACCEPTED] > 500 && seen[GINGHAMOWL_REFUSED_HISTORY] > 200);
+    CHECK(seen[GINGHAMOWL_REFUSED_MONTH] > 500 && seen[GINGHAMOWL_REFUSED_MONTHS_UFR] > 500);
+}
+
+/* Files with a UFR of their own and without, and each UFR that can be found. */
+static void test_months_value(void)
+{
+    static const size_t lengths[] = {0, 1, 239, 240, 241, 1000};
+    static held_case c;
+    static uint8_t with[MOST_BYTES], without[MOST_BYTES];
+    held_history h;
+    size_t with_length, without_length, f, r;
+    int ufr;
+
+    largest_case(&c);
+    with_length = shortest(&c, with);
+    c.fields.ufr = 4200;
+    without_length = shortest(&c, without);
+    CHECK(with_length == without_length + 2);
+    for (ufr = 0; ufr <= 5000; ufr += 100) {
+        h = with_sum(ufr * MONTHS + (ufr % 300 == 0 ? -6000 : 5999));
+        gives(&h, GINGHAMOWL_ACCEPTED, (uint64_t)ufr);
+        months_into(with, with_length, &h, GINGHAMOWL_ACCEPTED, 240, 240);
+        months_into(without, without_length, &h, GINGHAMOWL_ACCEPTED, 300, 241);
+    }
+    for (f = 0; f < sizeof lengths / sizeof *lengths; f++)
+        for (r = 0; r < sizeof lengths / sizeof *lengths; r++) {
+            int small = lengths[f] < GINGHAMOWL_ENTRIES || lengths[r] < GINGHAMOWL_ENTRIES;
+
+            months_into(with, with_length, &h, small ? GINGHAMOWL_REFUSED_BUFFER : GINGHAMOWL_ACCEPTED, lengths[f], lengths[r]);
+        }
+}
+
+/* 13; the file's own refusals, whatever the history is; then the history's, of which the first is given. */
+static void test_months_order(void)
+{
+    held_history histories[] = {flat_months(3100), flat_months(3100), flat_months(3100), flat_months(-51), flat_months(5050)};
+    static uint8_t named[MOST_BYTES];
+    uint8_t file[C1_BYTES + 1] = {0};
+    size_t i, k;
+
+    histories[0].length--;
+    histories[1].start = MONTHS;
+    set_month(&histories[2], MONTHS - 1, 10001);
+    for (i = 0; i < sizeof histories / sizeof *histories; i++) {
+        for (k = 0; k < CHANGES; k++) {
+            c1(file);
+            file[REFUSED_CHANGES[k].at] = REFUSED_CHANGES[k].byte;
+            months_not(file, C1_BYTES, &histories[i], REFUSED_CHANGES[k].refusal);
+        }
+        c1(file);
+        for (k = 0; k < C1_BYTES; k++)
+            months_into(file, k, &histories[i], GINGHAMOWL_REFUSED_ENDS_EARLY, 240, 240);
+        months_not(NULL, 0, &histories[i], GINGHAMOWL_REFUSED_ENDS_EARLY);
+        months_not(file, C1_BYTES + 1, &histories[i], GINGHAMOWL_REFUSED_BYTES_FOLLOW);
+        months_not(named, with_ufr_field(file, C1_BYTES, 5001, named), &histories[i], GINGHAMOWL_REFUSED_UFR);
+    }
+    refuses(&histories[0], GINGHAMOWL_REFUSED_HISTORY);
+    refuses(&histories[1], GINGHAMOWL_REFUSED_HISTORY);
+    refuses(&histories[2], GINGHAMOWL_REFUSED_MONTH);
+    refuses(&histories[3], GINGHAMOWL_REFUSED_MONTHS_UFR);
+    refuses(&histories[4], GINGHAMOWL_REFUSED_MONTHS_UFR);
+    for (i = 3; i <= 4; i++) { /* 18 before 19, 17 before both */
+        set_month(&histories[i], 60, -1001);
+        refuses(&histories[i], GINGHAMOWL_REFUSED_MONTH);
+        histories[i].start = MONTHS;
+        refuses(&histories[i], GINGHAMOWL_REFUSED_HISTORY);
+    }
+}
+
 int main(void)
 {
     test_lengths();
+    test_refused_changes();
     test_refusals();
     test_rates_part();
     test_window();
@@ -1499,6 +1894,14 @@ int main(void)
     test_rolling_value();
     test_rolling_growth();
     test_rolling_order();
+    test_history_lengths();
+    test_month_limits();
+    test_month_rounding();
+    test_month_start();
+    test_month_ends();
+    test_history_bytes();
+    test_months_value();
+    test_months_order();
     printf("c: %lu checks, %lu failed\n", checks, failures);
     return failures == 0 ? 0 : 1;
 }

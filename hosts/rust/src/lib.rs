@@ -1,9 +1,10 @@
 //! The valuation of one pension fund from one case file, every figure proved.
 //!
 //! "Document 01" is "The UFR curve and the solvency verdict of one fund": it says what a case file is, what each figure
-//! means and what each refusal is. "Document 02" has the requests that came later; saving a case is its request One, and a
-//! rolling window of days its request Two. This crate wraps the functions of `include/ginghamowl.h`; it is safe to call
-//! with any bytes and numbers, and depends on nothing but the standard library and the engine's archive.
+//! means and what each refusal is. "Document 02" has the requests that came later; saving a case is its request One, a
+//! rolling window of days its request Two, and the UFR from a history of months its request Five. This crate wraps the
+//! functions of `include/ginghamowl.h`; it is safe to call with any bytes and numbers, and depends on nothing but the
+//! standard library and the engine's archive.
 //!
 //! ```
 //! match ginghamowl::value(b"") {
@@ -16,11 +17,13 @@ use std::error::Error;
 use std::fmt;
 
 mod case;
+mod months;
 mod raw;
 mod rolling;
 mod words;
 
 pub use case::{Amounts, Case, People, Shocks};
+pub use months::History;
 pub use rolling::RollingWindow;
 pub use words::{refusal_sentence, verdict_sentence, verdict_word};
 
@@ -38,6 +41,12 @@ pub const WINDOW_DAYS: usize = 70;
 
 /// A rolling window has so many bytes.
 pub const WINDOW_BYTES: usize = 8896;
+
+/// A history has so many months.
+pub const HISTORY_MONTHS: usize = 120;
+
+/// A history has so many bytes, two for each month.
+pub const HISTORY_BYTES: usize = 2 * HISTORY_MONTHS;
 
 /// The terms of the curve, in years, are 1 to this.
 pub const TERMS: usize = 120;

@@ -73,6 +73,12 @@ pub struct HostChangedWindow {
     pub window: RollingWindow,
 }
 
+#[repr(C)]
+pub struct HostUfr {
+    pub refusal: u8,
+    pub ufr: u64,
+}
+
 extern "C" {
     pub fn ginghamowl_value(
         file: *const u8,
@@ -114,6 +120,18 @@ extern "C" {
         pension_length: usize,
         bonds: *const u64,
         bonds_length: usize,
+        factors: *mut u64,
+        factors_length: usize,
+        rates: *mut i64,
+        rates_length: usize,
+    ) -> HostValuation;
+    pub fn ginghamowl_ufr_of(history: *const u8, history_length: usize, start: u64) -> HostUfr;
+    pub fn ginghamowl_value_with_months(
+        file: *const u8,
+        file_length: usize,
+        history: *const u8,
+        history_length: usize,
+        start: u64,
         factors: *mut u64,
         factors_length: usize,
         rates: *mut i64,

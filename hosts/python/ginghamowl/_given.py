@@ -5,7 +5,7 @@ from ._words import NO_REFUSAL, SENTENCES
 
 
 class Refused(Exception):
-    """A case file, a case, or a call with a rolling window that is refused.
+    """A case file, a case, or a call with a rolling window or a history of months that is refused.
 
     `number` is the refusal, and the text says what is wrong.
     """
@@ -57,5 +57,14 @@ def unsigned(number: int, what: str) -> int:
 
 def rate(number: int) -> int:
     """The rate for C, which has 32 bits for it. One that does not fit is out of limits, and so is the end in its place."""
-    require_int(number, "a rate")
-    return min(max(number, -2 ** 31), 2 ** 31 - 1)
+    return _signed(number, "a rate", 32)
+
+
+def month(number: int) -> int:
+    """The month for a history, which has 16 bits for it, likewise."""
+    return _signed(number, "a month", 16)
+
+
+def _signed(number: int, what: str, bits: int) -> int:
+    require_int(number, what)
+    return min(max(number, -2 ** (bits - 1)), 2 ** (bits - 1) - 1)

@@ -18,6 +18,12 @@ WINDOW_DAYS = 70
 #: A rolling window has so many bytes.
 WINDOW_BYTES = 8896
 
+#: A history has so many months.
+HISTORY_MONTHS = 120
+
+#: A history has so many bytes, two for each month.
+HISTORY_BYTES = 240
+
 DAY_RATES = 60
 ENTRIES = 240
 LISTING_BYTES = 512
@@ -82,6 +88,10 @@ class HostChangedWindow(Structure):
     _fields_ = [("refusal", c_uint8), ("window", HostRollingWindow)]
 
 
+class HostUfr(Structure):
+    _fields_ = [("refusal", c_uint8), ("ufr", c_uint64)]
+
+
 class Engine(NamedTuple):
     """The functions of ginghamowl.h, without the name's beginning."""
 
@@ -95,9 +105,12 @@ class Engine(NamedTuple):
     rolling_add: Any
     rolling_drop: Any
     rolling_value: Any
+    ufr_of: Any
+    value_with_months: Any
 
 
 _FILE = c_char_p, c_size_t  # a pointer to the bytes themselves: zeros in them are as good as any other byte
+_HISTORY = c_char_p, c_size_t, c_uint64  # with its start
 _FACTORS = _FLOWS = POINTER(c_uint64), c_size_t
 _RATES = POINTER(c_int64), c_size_t
 _OUT = POINTER(c_uint8), c_size_t
@@ -114,6 +127,8 @@ _RESULT_AND_ARGUMENTS: dict[str, tuple[Any, ...]] = {
     "rolling_add": (HostChangedWindow, HostRollingWindow, HostDay),
     "rolling_drop": (HostChangedWindow, HostRollingWindow),
     "rolling_value": (HostValuation, HostRollingWindow, *_CASE, *_FACTORS, *_RATES),
+    "ufr_of": (HostUfr, *_HISTORY),
+    "value_with_months": (HostValuation, *_FILE, *_HISTORY, *_FACTORS, *_RATES),
 }
 
 

@@ -25,7 +25,7 @@ refusal, since what is taken was admitted; and a survivor can be tried anew with
 
 Survivors that mean the same as the original are listed in tests/mutants_same.txt, each line KEY because REASON.
 
-The programs (valuation, batch, answers, searches) are left out: no contract says what they print.
+The programs (valuation, monthsvaluation, batch, answers, searches) are left out: no contract says what they print.
 """
 
 import argparse
@@ -55,13 +55,13 @@ SAME = os.path.join(ROOT, "tests", "mutants_same.txt")
 # The files of definitions that a reader must believe, by crate. Part of `host` is not here: no token of its one definition has a wrong edit.
 DEFINITIONS = {
     "arith": "Rounding Root",
-    "model": "Constants Numbers Case Limits Fields Layout Refusals Saving Fraction Brackets Curve Held Exact Rounded Bisection Margins Demand3 Buffers Rolling Window Listing",
+    "model": "Constants Numbers Case Limits Fields Layout Refusals Saving Fraction Brackets Curve Held Exact Rounded Bisection Margins Demand3 Buffers Rolling Months Window Listing",
     "casefile": "Answers",
     "window": "Holds Shown",
     "engine": "Guarantee",
     "flat": "Flat",
 }
-PROGRAMS = {"valuation", "batch", "answers", "searches"}
+PROGRAMS = {"valuation", "monthsvaluation", "batch", "answers", "searches"}
 APART = ("theory", "pinned", "refusals")  # crates with no code: theorems, and statements that take long to compute. Their refusals are counted apart
 TIMEOUT = 180  # seconds for one stage
 

@@ -9,7 +9,8 @@
  *
  * WORK is engine, plain or filter (a valuation), checks (the engine's checks of the file), saving (its case, saved by the engine),
  * or of a rolling window with the file's days: adding (the last of them), dropping (the first), rolling (its valuation with the
- * case) or window (only refusal 27's check of it, by a valuation without buffers).
+ * case) or window (only refusal 27's check of it, by a valuation without buffers); of a history of months, whose UFR is 4,200: ufr
+ * (finding it) or months (a valuation of the file with it).
  *
  * No time is asserted. The exit status is 1 where any result differs. */
 #define _XOPEN_SOURCE 700 /* clock_gettime and makecontext */
@@ -75,6 +76,17 @@ static void take_apart(void)
     roll();
 }
 
+/* A history of months, all of them 4,200. */
+static uint8_t history[GINGHAMOWL_HISTORY_BYTES];
+
+static void take_months(void)
+{
+    for (int i = 0; i < GINGHAMOWL_HISTORY_MONTHS; i++) {
+        history[2 * i] = 4200 >> 8;
+        history[2 * i + 1] = 4200 & 0xff;
+    }
+}
+
 static void load(const char *path)
 {
     FILE *file = fopen(path, "rb");
@@ -86,6 +98,7 @@ static void load(const char *path)
     loaded.length = fread(loaded.bytes, 1, sizeof loaded.bytes, file);
     fclose(file);
     take_apart();
+    take_months();
 }
 
 /* ---------------------------------------------------------------- what is timed */
@@ -160,6 +173,18 @@ static void engine_window(const struct input *input)
     value_window(0);
 }
 
+static void engine_ufr(const struct input *input)
+{
+    (void)input;
+    latest.valuation.refusal = ginghamowl_ufr_of(history, sizeof history, 0).refusal;
+}
+
+static void engine_months(const struct input *input)
+{
+    latest.valuation = ginghamowl_value_with_months(input->bytes, input->length, history, sizeof history, 0, latest.factors,
+                                                    GINGHAMOWL_ENTRIES, latest.rates, GINGHAMOWL_ENTRIES);
+}
+
 static void plain_reading(const struct input *input) { read_fund(input->bytes, &latest_fund); }
 
 static void plain_curves(const struct input *input)
@@ -190,7 +215,7 @@ struct work {
     const char *remark;
 };
 
-enum { PLAIN = 1, FILTER = 2, PROGRAMS = 5, PARTS = 13 };
+enum { PLAIN = 1, FILTER = 2, PROGRAMS = 5, PARTS = 15 };
 static const struct work programs[PROGRAMS] = {
     {"engine", engine, "whole valuation, with the checks of the file; proved"},
     {"plain C", plain, "whole valuation, without the checks of the file"},
@@ -207,6 +232,8 @@ static const struct work parts[PARTS] = {
     {"engine: dropping a day from it", engine_dropping, ""},
     {"engine: refusal 27's check of it alone", engine_window, ""},
     {"engine: valuing it", engine_rolling, ""},
+    {"engine: the UFR of a history of months", engine_ufr, ""},
+    {"engine: whole valuation with that UFR", engine_months, ""},
     {"plain C: reading", plain_reading, ""},
     {"plain C: reading, 3 curves", plain_curves, ""},
     {"plain C: reading, 3 curves, zero rates", plain_curves_and_rates, ""},
@@ -218,7 +245,8 @@ static const struct work *work_named(const char *name)
     static const struct work counted[] = {
         {"engine", engine, ""},            {"plain", plain, ""},            {"filter", filter, ""},
         {"checks", engine_checks, ""},     {"saving", engine_saving, ""},   {"adding", engine_adding, ""},
-        {"dropping", engine_dropping, ""}, {"rolling", engine_rolling, ""}, {"window", engine_window, ""}};
+        {"dropping", engine_dropping, ""}, {"rolling", engine_rolling, ""}, {"window", engine_window, ""},
+        {"ufr", engine_ufr, ""},           {"months", engine_months, ""}};
 
     for (size_t i = 0; i < sizeof counted / sizeof *counted; i++)
         if (strcmp(counted[i].name, name) == 0)

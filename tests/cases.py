@@ -137,14 +137,13 @@ def table(examples):
 
 
 def with_months(fund):
-    """fund.months and fund-months.txt, of the history in fund-months.csv and the file of the fund; and the same as the input of the program
-    with months, behind lengths and before the start index, and as its output, with the UFR found above."""
+    """fund.months and fund-months.txt, of the history in fund-months.csv and the file of the fund; and both for the program with months, as
+    its input and, with the UFR found above, its output."""
     rates = casetext.months.from_csv((FOLDER / "fund-months.csv").read_bytes())
     history = casetext.months.write(rates, START)
     listing = months.listing(fund, history, START)
-    behind_length = lambda data: len(data).to_bytes(4, "big") + data
     return {"cases/fund.months": history, "cases/fund-months.txt": listing,
-            "crates/monthsvaluation/stdin": behind_length(fund) + behind_length(history) + START.to_bytes(8, "big"),
+            "crates/monthsvaluation/stdin": programs.framed_months(fund, history, START),
             "crates/monthsvaluation/stdout": b"UFR %d\n" % months.ufr_of(history, START).ufr + listing}
 
 

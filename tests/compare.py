@@ -2,7 +2,7 @@
 
 Listings of thousands of files, and of the refused ones all three answers; factors and zero rates at all 120 terms;
 demand 3 of the engine's own brackets against the exact figures over fractions; bonds on all three curves, likewise; the
-program itself on inputs of odd kinds. Ends with 1 on any difference, or if a refusal from 1 to 12, a verdict or a way to
+programs that ./value runs, on inputs of odd kinds. Ends with 1 on any difference, or if a refusal from 1 to 12, a verdict or a way to
 find B was not seen.
 """
 
@@ -17,6 +17,8 @@ from types import SimpleNamespace
 import bonds
 import examples
 import files
+import histories
+import months
 import programs
 import reference
 from reference import MONEY, STEPS, Exact, allowed_width, demand3, encode
@@ -165,10 +167,11 @@ def compare_exact_bonds(comparison, rng, cases):
     return [f"B, {name}" for name, found in named.items() if not found]
 
 
-# ---------------------------------------------------------------- the program
+# ---------------------------------------------------------------- the programs
 
-def valuation(**standard_input):
-    return subprocess.run([programs.program("valuation")], capture_output=True, check=True, **standard_input).stdout
+def printed(name, **standard_input):
+    """What a program prints."""
+    return subprocess.run([programs.program(name)], capture_output=True, check=True, **standard_input).stdout
 
 
 def in_pieces(data):
@@ -181,12 +184,12 @@ def in_pieces(data):
         return run.stdout.read()
 
 
-def failing():
-    """What the program prints of an input whose reading fails: a folder."""
+def failing(name):
+    """What a program prints of an input whose reading fails: a folder."""
     with tempfile.TemporaryDirectory() as folder:
         descriptor = os.open(folder, os.O_RDONLY)
         try:
-            return valuation(stdin=descriptor)
+            return printed(name, stdin=descriptor)
         finally:
             os.close(descriptor)
 
@@ -194,10 +197,30 @@ def failing():
 def compare_program(comparison, rng, quick):
     batch = files.random_files(rng, 20 if quick else 100) + files.damaged_once(files.all_fields())
     batch += [encode(files.full_case(rng), True, True, True), *files.long_files(rng)]
-    comparison.same("the program", batch, (valuation(input=data) for data in batch), map(reference.listing, batch))
+    comparison.same("the program", batch, (printed("valuation", input=data) for data in batch), map(reference.listing, batch))
     few = batch[:5]
     comparison.same("the program, in pieces", few, map(in_pieces, few), map(reference.listing, few))
-    comparison.same("the program, a failing read", [b""], [failing()], [b""])
+    comparison.same("the program, a failing read", [b""], [failing("valuation")], [b""])
+
+
+def with_months(call):
+    """What the program with months reads and prints of a file, a history and its start index."""
+    listing, found = months.listing(call.file, call.history, call.start), months.ufr_of(call.history, call.start)
+    first = b"" if listing.startswith(b"R") else b"UFR %d\n" % found.ufr
+    return programs.framed_months(call.file, call.history, call.start), first + listing
+
+
+def compare_months_program(comparison, rng, quick):
+    """Each fault alone and right calls; and inputs that end early, or have a length that no file or history needs: nothing is printed."""
+    base, full = histories.bases()
+    calls = [base, full, *histories.one_fault(full), *histories.every_ufr(rng, [base.file])]
+    data, expected = map(list, zip(*map(with_months, rng.sample(calls, 40) if quick else calls)))
+    whole = programs.framed_months(full.file, full.history, full.start)
+    long = [programs.framed_months(bytes(9_225), full.history, 0), programs.framed_months(full.file, bytes(242), 0)]
+    odd = [*(whole[:end] for end in (0, 3, 4, 5, len(full.file) + 3, len(full.file) + 7, len(whole) - 9, len(whole) - 1)), *long]
+    comparison.same("the program with months", data, (printed("monthsvaluation", input=one) for one in data), expected)
+    comparison.same("the program with months, odd inputs", odd, (printed("monthsvaluation", input=one) for one in odd), [b""] * len(odd))
+    comparison.same("the program with months, a failing read", [b""], [failing("monthsvaluation")], [b""])
 
 
 # ---------------------------------------------------------------- all of it
@@ -214,6 +237,7 @@ def main(quick):
     compare_exactly(comparison, rng, 72 if quick else 600)
     unseen_ways = compare_bonds(comparison, rng, bonds.bond_cases(rng, 100 if quick else 1_000), 13 if quick else 125)
     compare_program(comparison, rng, quick)
+    compare_months_program(comparison, rng, quick)
     unseen = [outcome for outcome in programs.OUTCOMES if not comparison.outcomes[outcome]] + unseen_ways
     print(f"listings: {counts(comparison.outcomes)}; not seen: {unseen or 'none'}")
     print(f"{comparison.different} different")

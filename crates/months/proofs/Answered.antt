@@ -1,6 +1,6 @@
 -- What a history gives, where each of its checks holds or fails. Assumes nothing.
 use Prim.Native.Nat.{ℕ, _-_, _≤_, _<_}
-use mathlib.Core.Path.{_≡_, ap, sym, _∙_}
+use mathlib.Core.Path.{_≡_, ap, sym}
 use mathlib.Core.Bool.{true, false, _&&_}
 use mathlib.Core.List.{List}
 use mathlib.Core.Logic.{_≢_}
@@ -9,8 +9,7 @@ use borrow.Author.Tests.{eq-eqb, ne-eqb, le-leb, lt-leb}
 use lib.Dec.{leb, eqb}
 use lib.ListN.{length}
 use Rattle.model.specs.Curve.{natural}
-use Rattle.model.specs.Fields.{rightAll}
-use Rattle.model.specs.Months.{month, monthsOf, roundedUfr, ufrRefusal, ufrAnswer}
+use Rattle.model.specs.Months.{monthsOf, roundedUfr, ufrRefusal, ufrAnswer}
 use Rattle.model.specs.Refusals.{firstOf}
 use Rattle.model.specs.declared.months.Ufr.the-variants.{Found, Refused}
 use Rattle.theory.proofs.general.Differences.{natural-is}
@@ -37,7 +36,7 @@ module _ (history : List ℕ) (start : ℕ) where
 
     module _ (within : r .within ≡ true) where
       abbrev mean : ℕ
-      mean = meanOf h (r .sum)
+      mean = meanOf (r .sum)
 
       past : (leb 100000 mean && leb mean 105000) ≡ false → Refused 19 ≡ ufrAnswer history start
       unfolding ufrAnswer ufrRefusal firstOf monthsOf

@@ -1,14 +1,14 @@
 -- The months of a history as naturals, 100,000 and the month each: one more month adds such a number to the sum; the sum of 120, rounded as
 -- the mean is, has 100,000 more than the rounded mean. Assumes nothing.
 use Prim.Native.Nat.{ℕ, suc, _+_, _*_, _/_, _≤_}
-use mathlib.Core.Path.{_≡_, refl, ap, sym, _∙_, subst}
-use mathlib.Core.Bool.{Bool, _&&_}
+use mathlib.Core.Path.{_≡_, refl, ap, sym, _∙_}
+use mathlib.Core.Bool.{_&&_}
 use mathlib.Core.List.{List, [], _∷_, _++_}
 use native.Mathlib.Nat.{zero-add}
 use native.Mathlib.Omega.{arith}
 use lib.Dec.{leb}
 use lib.IntN.{ℤ, pos, negsuc, _+ℤ_, _*ℤ_, +ℤ-idr}
-use Rattle.model.specs.Fields.{valueAll, rightAll, withinZ}
+use Rattle.model.specs.Fields.{valueAll, withinZ}
 use Rattle.model.specs.Months.{month, monthsOf, total, floorZ, hundreds, roundedUfr}
 use Rattle.model.specs.Numbers.{number, twosComplement}
 use Rattle.theory.proofs.acceptance.Runs.{values-last}
@@ -52,10 +52,11 @@ floor-raised : (z : ℤ) (a m : ℕ) → Diff z a (12000 * m) → Diff (floorZ z
 floor-raised (pos n) a m h = omega arith
 floor-raised (negsuc n) a m h = omega arith
 
-module _ {history : List ℕ} {r : MonthsSum} (h : Summed history 120 r) where
-  abbrev pub meanOf : ℕ → ℕ
-  meanOf sum = (sum + 6000) / 12000 * 100
+-- what `ufr_of` makes of the sum of 120 months: 100,000 and their rounded mean
+abbrev pub meanOf : ℕ → ℕ
+meanOf sum = (sum + 6000) / 12000 * 100
 
+module _ {history : List ℕ} {r : MonthsSum} (h : Summed history 120 r) where
   pub mean-raised : Diff (roundedUfr history) (meanOf (r .sum)) 100000
   unfolding roundedUfr monthsOf
   mean-raised =

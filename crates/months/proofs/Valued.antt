@@ -3,7 +3,7 @@
 use Prim.Native.Nat.{ℕ, zero, suc, _≤_, _<_}
 use mathlib.Core.Path.{_≡_, refl, ap, ap₂, sym, _∙_, subst}
 use mathlib.Core.Bool.{false, _&&_}
-use mathlib.Core.List.{List, _∷_, _++_}
+use mathlib.Core.List.{List, _++_}
 use native.Mathlib.Omega.{arith}
 use borrow.Author.Tests.{le-leb, lt-leb}
 use lib.Dec.{leb, lit<}
@@ -16,7 +16,6 @@ use Rattle.model.specs.Held.{held}
 use Rattle.model.specs.Layout.{caseOf}
 use Rattle.model.specs.Limits.{WithinLimits}
 use Rattle.model.specs.Months.{ufrRefusal, ufrFound, foundOr, ufrAnswer, monthsRefusal, monthsCase, monthsValuation, monthsFactorsAfter, monthsRatesAfter}
-use Rattle.model.specs.Numbers.{table}
 use Rattle.model.specs.Refusals.{firstOf, refusal}
 use Rattle.model.specs.declared.case.Case.{Case}
 use Rattle.model.specs.declared.figures.Valuation.{Valuation}

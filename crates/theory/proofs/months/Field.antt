@@ -1,17 +1,17 @@
 -- The file with a UFR in its field is a file of the same case with that UFR: the map gets bit 0, the UFR stands behind it, and the other
 -- fields follow as they did. So where the UFR is within its limits and the file is accepted, that file is accepted too, and its case is
 -- the file's with the new UFR. Assumes nothing.
-use Prim.Native.Nat.{ℕ, _+_, _≤_, _<_}
+use Prim.Native.Nat.{ℕ, _+_, _≤_}
 use mathlib.Core.Path.{_≡_, refl, ap, ap₂, sym, _∙_, subst}
 use mathlib.Core.Bool.{Bool, true, false, cond}
 use mathlib.Core.List.{List, _++_, append-assoc}
 use native.Mathlib.Omega.{arith}
 use lib.Dec.{T}
-use lib.ListN.{length, drop, length-append}
+use lib.ListN.{drop, length-append}
 use lib.Seq.{drop-at}
 use Rattle.model.specs.Numbers.{bytesOf, Bytes}
 use Rattle.model.specs.Case.{FileCase, withUfr}
-use Rattle.model.specs.Layout.{shocks, people, Present, mapOf, stands, presentIn, fileMap, fileOf, caseOf, Agrees, Keeps}
+use Rattle.model.specs.Layout.{shocks, people, Present, mapOf, stands, fileMap, fileOf, caseOf, Keeps}
 use Rattle.model.specs.Refusals.{refusal, daysAt}
 use Rattle.model.specs.Months.{withUfrField}
 use Rattle.model.specs.inner.Positions.{daysField, pensionField, bondsField, amountsField}

@@ -1,11 +1,10 @@
 -- The mean of 120 months rounded to the nearest 100 steps. With q = floor((z + 6,000) ÷ 12,000), z - 12,000 × q lies between -6,000 and
 -- 5,999: so no other multiple is nearer, and the only one that can be equally near is lower. Assumes nothing.
-use Prim.Native.Nat.{ℕ, suc, _+_, _*_, _/_, _≤_, _<_}
+use Prim.Native.Nat.{ℕ, suc, _+_, _*_, _≤_, _<_}
 use mathlib.Core.Path.{_≡_, sym}
 use native.Mathlib.Nat.{le-antisymm}
 use native.Mathlib.Omega.{arith}
 use lib.IntN.{ℤ, pos, negsuc, natAbs, _+ℤ_, _-ℤ_, _*ℤ_}
-use lib.Signed.{_≤ℤ_}
 use Rattle.model.specs.Months.{floorZ, hundreds, apart, Nearest}
 use Rattle.theory.proofs.general.Differences.{Diff, again, one-diff, diff-pos, diff-sum, diff-minus, diff-times, diff-le, le-diff}
 

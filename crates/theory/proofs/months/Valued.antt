@@ -1,11 +1,10 @@
 -- A case file that is valued with a history: 13 and the file's own refusals come first, then the history's; and where neither refuses, the
 -- answer and both buffers are those of the file with the UFR found in its field. Assumes nothing.
-use Prim.Native.Nat.{ℕ, suc, _≤_}
-use mathlib.Core.Path.{_≡_, refl, ap, ap₂, sym, _∙_}
+use Prim.Native.Nat.{ℕ, suc}
+use mathlib.Core.Path.{_≡_, ap, ap₂, sym, _∙_}
 use mathlib.Core.Bool.{_&&_, cond}
-use mathlib.Core.List.{List, [], _∷_, _++_}
-use borrow.Author.Tests.{leb-true}
-use lib.Dec.{T, leb}
+use mathlib.Core.List.{List, _∷_, _++_}
+use lib.Dec.{leb}
 use lib.ListN.{length}
 use lib.IntN.{ℤ}
 use Rattle.model.specs.Numbers.{Bytes}
@@ -20,9 +19,8 @@ use Rattle.model.specs.Months.{historyChecks, ufrRefusal, ufrFound, monthsRefus
 use Rattle.model.specs.Months.{monthsFactorsAfter, monthsRatesAfter, withUfrField, ValuedWithField}
 use Rattle.theory.proofs.acceptance.Acceptance as Acceptance
 use Rattle.theory.proofs.acceptance.Acceptance.{checks-numbered}
-use Rattle.theory.proofs.acceptance.Checks.{numbered, after-none, after-some, none-hold, hold-parts, numbered-append, hold-none}
+use Rattle.theory.proofs.acceptance.Checks.{after-none, after-some, none-hold, hold-parts, numbered-append, hold-none}
 use Rattle.theory.proofs.curve.Changed.{within-ufr}
-use Rattle.theory.proofs.general.Lists.{and-first, and-second}
 use Rattle.theory.proofs.months.Field.{field-read}
 use Rattle.theory.proofs.months.Found.{found-most}
 

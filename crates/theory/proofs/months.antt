@@ -7,3 +7,4 @@ pub mod Found
 pub mod Field
 pub mod Valued
 pub mod Demand
+pub mod Plain

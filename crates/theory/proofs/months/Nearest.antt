@@ -42,7 +42,7 @@ module _ (a b c d e f : ℕ) (least : 12000 * c + b ≤ a + 6000 + 12000 * d) (m
   left-higher (negsuc n) (negsuc m) h k l = omega arith
 
 -- z - 12,000 × q as a difference
-diff-apart : (z q : ℤ) (a b c d : ℕ) → Diff z a b → Diff q c d → Diff (z -ℤ pos 12000 *ℤ q) (a + 12000 * d) (b + 12000 * c)
+pub diff-apart : (z q : ℤ) (a b c d : ℕ) → Diff z a b → Diff q c d → Diff (z -ℤ pos 12000 *ℤ q) (a + 12000 * d) (b + 12000 * c)
 diff-apart z q a b c d h k = diff-minus z (pos 12000 *ℤ q) a b (12000 * c) (12000 * d) h (diff-times 12000 q c d k)
 
 module _ (z : ℤ) where

@@ -1,6 +1,7 @@
 """Reference implementation of document 02's request Five, "UFR from ten years of months", over that of document 01 in tests/reference.py.
 
-Written from the papers alone, in their words, to be run beside the engine. Whole numbers and fractions only; no float occurs.
+Written from the papers, in their words, and from the readings of decisions 168 to 170 and 172, which it shares with the definitions; without the
+engine's code. To be run beside the engine. Whole numbers and fractions only; no float occurs.
 """
 
 from fractions import Fraction

@@ -212,7 +212,10 @@ use Rattle.model.proofs.SavedCases.{amountsOf, shocksOf, fieldsOf, noAmounts, n
 use Rattle.model.proofs.RollingCases.{windowOf, someDay, oneDayLeft, flatDays}
 """
 
-MONTHS_WRITTEN = WRITTEN.replace("tests/reference.py", "tests/months.py")
+MONTHS_WRITTEN = """\
+-- tests/pinned.py wrote this file, from an implementation in Python that was written from document 02 and the readings of decisions 168
+-- to 170 and 172 (tests/months.py): change that, not this. Assumes nothing.
+"""
 
 MONTHS_HEAD = """\
 -- A UFR from ten years of months: the months of a history, the rounding of their mean, refusals, and the case and the file that are

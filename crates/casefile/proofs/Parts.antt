@@ -4,13 +4,13 @@ use mathlib.Core.List.{List, []}
 use Prim.Native.Nat.{ℕ, zero, suc, _+_, _*_, _-_, _≤_}
 use native.Mathlib.Nat.{zero-add}
 use native.Mathlib.Omega.{arith}
-use lib.ListN.{length, getD, take, drop}
+use lib.ListN.{length, take, drop}
 use Rattle.model.specs.Held.{held, defaultCase}
 use Rattle.model.specs.Layout.{caseOf}
 use Rattle.model.specs.Refusals.{refusal, ratesPartAfter, ratesPart, daysAt, dayCount}
 use Rattle.model.specs.declared.case.Case.{Case}
 use Rattle.theory.proofs.acceptance.Acceptance.{days-reach}
-use Rattle.model.specs.inner.Positions.{pensionAt}
+use Rattle.model.specs.inner.Positions.{rateBytes}
 use Rattle.casefile.specs.Answers.{answerOf, caseAfter, readingOf, ratesFrom, behind}
 use Rattle.casefile.specs.declared.Answer.the-variants.{Accepted, Refused}
 
@@ -43,14 +43,16 @@ pub refused-place : (place : ℕ × ℕ) (r : ℕ) (file : List ℕ) → (r ≡ 
 refused-place place zero file n = absurd (n refl)
 refused-place place (suc r) file n = λ i. (place .0, sym (zero-add (place .1)) i)
 
--- the rates stand between the count of the days and that of the pension flows
-pub rates-inside : (file : List ℕ) → refusal file ≡ 0 → (daysAt file + 1 ≤ pensionAt file) × (pensionAt file ≤ length file)
-unfolding pensionAt
+-- the rates stand between the count of the days and the end of their field
+abbrev pub daysEnd : List ℕ → ℕ
+daysEnd file = daysAt file + 1 + rateBytes file * 60 * dayCount file
+
+pub rates-inside : (file : List ℕ) → refusal file ≡ 0 → (daysAt file + 1 ≤ daysEnd file) × (daysEnd file ≤ length file)
 rates-inside file h = (omega arith, days-reach file h)
 
 pub accepted-rates : (file : List ℕ) → refusal file ≡ 0
-    → take (pensionAt file - (daysAt file + 1)) (drop (daysAt file + 1) file) ≡ ratesPart file
-unfolding ratesPart pensionAt dayCount
+    → take (daysEnd file - (daysAt file + 1)) (drop (daysAt file + 1) file) ≡ ratesPart file
+unfolding ratesPart
 accepted-rates file h =
-    let n : daysAt file + 1 + 120 * getD file (daysAt file) 0 - (daysAt file + 1) ≡ 120 * getD file (daysAt file) 0 = omega arith in
+    let n : daysEnd file - (daysAt file + 1) ≡ rateBytes file * 60 * dayCount file = omega arith in
     simp h (ap (λ k. take k (drop (daysAt file + 1) file)) n)

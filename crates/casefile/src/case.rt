@@ -6,12 +6,14 @@ use model::case::Shocks;
 use scan::cursor::number_at;
 use scan::places::Places;
 use scan::rates::Sums;
+use scan::rates::units_per_step;
 use scan::runs::fill;
 ghost use mathlib.Core.Path.{_≡_};
 ghost use mathlib.Core.Bool.{cond};
 ghost use Prim.Native.Nat.{_+_, _≤_};
 ghost use Rattle.model.specs.Fields.{valueAll};
 ghost use Rattle.model.specs.Layout.{flow, amountsFrom, amounts, shocksFrom, shocks, people, caseOf};
+ghost use Rattle.model.specs.Refusals.{refusal};
 ghost use Rattle.model.specs.Held.{padded, held};
 ghost use Rattle.scan.specs.inner.Found.{Found};
 ghost use Rattle.scan.specs.inner.Sums.{Summed};
@@ -115,9 +117,10 @@ fn people_in(file: &[u8], at: usize) -> People
     }
 }
 
-// The case of the whole file, by its places and sums. What the file does not have stays as the default case has it.
+// The case of an accepted file, by its places and sums. What the file does not have stays as the default case has it.
 pub fn case_in(file: &[u8], p: Places, s: Sums) -> Case
-    requires { ⌜ Found (now file) p × Summed (now file) (p .«days_at» + 1) (p .days) s ⌝ }
+    requires { ⌜ Found (now file) p × Summed (p .«rate_bytes») (now file) (p .«days_at» + 1) (p .days) s ⌝ }
+    requires accepted { ⌜ refusal (now file) ≡ 0 ⌝ }
     ensures { λ r. ⌜ r ≡ held (caseOf (now (file .entry))) ⌝ }
 {
     let mut case = Case::default();
@@ -128,8 +131,9 @@ pub fn case_in(file: &[u8], p: Places, s: Sums) -> Case
     let shocks = shocks_in(file, p.shocks_at);
     let people = people_in(file, p.people_at);
     let sums = s.sums;
+    let per_step = units_per_step(p.rate_bytes) * p.days as u64;
     case.ufr = ufr;
-    case.per_step = p.days as u64;
+    case.per_step = per_step;
     case.sums = sums;
     case.pension_count = p.pension;
     case.pension = pension;

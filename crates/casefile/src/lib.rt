@@ -28,7 +28,7 @@ pub fn refusal_of(file: &[u8]) -> u8
     ensures { λ r. ⌜ r ≡ refusal (now (file .entry)) ⌝ }
 {
     let p = find(file);
-    let s = sum_days(file, p.days_at + 1, p.days);
+    let s = sum_days(file, p.days_at + 1, p.rate_bytes, p.days);
     refusal_with(file, p, s)
 }
 
@@ -38,7 +38,7 @@ pub fn read(file: &[u8]) -> Reading
     ensures { λ r. ⌜ ReadExactly (now (file .entry)) r ⌝ }
 {
     let p = find(file);
-    let s = sum_days(file, p.days_at + 1, p.days);
+    let s = sum_days(file, p.days_at + 1, p.rate_bytes, p.days);
     let number = refusal_with(file, p, s);
     if number != 0 {
         return Reading {
@@ -61,6 +61,6 @@ pub fn rates_part(file: &[u8]) -> &[u8]
     }
     let p = find(file);
     let start = p.days_at + 1;
-    let end = p.pension_at;
+    let end = p.days_end;
     &file[start..end]
 }

@@ -8,7 +8,7 @@ ghost use Prim.Native.Nat.{_+_, _<_, _≤_};
 ghost use Rattle.model.specs.Numbers.{number, every};
 ghost use Rattle.model.specs.Fields.{within};
 ghost use Rattle.model.specs.Layout.{amounts, shocks, people, stands};
-ghost use Rattle.model.specs.Refusals.{bitsRight};
+ghost use Rattle.model.specs.Refusals.{exactlyOne, bitsRight};
 
 pub fn between(least: u64, most: u64, v: u64) -> bool
     ensures { λ r. ⌜ r ≡ within least most v ⌝ }
@@ -16,21 +16,28 @@ pub fn between(least: u64, most: u64, v: u64) -> bool
     both(least <= v, v <= most)
 }
 
-// No bit from 7 to 15 stands.
+// No bit from 8 to 15 stands.
 fn none_above(map: u64) -> bool
     requires { ⌜ map < 65536 ⌝ }
-    ensures { λ r. ⌜ r ≡ every (λ i. not (stands (7 + i) map)) 9 ⌝ }
+    ensures { λ r. ⌜ r ≡ every (λ i. not (stands (8 + i) map)) 8 ⌝ }
 {
-    map < 128
+    map < 256
 }
 
-// Bits 1, 2, 5 and 6 stand, and none above them.
+fn exactly_one(a: bool, b: bool) -> bool
+    ensures { λ r. ⌜ r ≡ exactlyOne a b ⌝ }
+{
+    if a { !b } else { b }
+}
+
+// One of the bits 1 and 7 stands, of the two days fields; bits 2, 5 and 6 stand, and none above bit 7.
 pub fn bits_right(map: u64) -> bool
     requires { ⌜ map < 65536 ⌝ }
     ensures { λ r. ⌜ r ≡ bitsRight map ⌝ }
 {
-    let days_and_pension = both(map / 2 % 2 == 1, map / 4 % 2 == 1);
-    let shocks = both(days_and_pension, map / 32 % 2 == 1);
+    let days = exactly_one(map / 2 % 2 == 1, map / 128 % 2 == 1);
+    let pension = both(days, map / 4 % 2 == 1);
+    let shocks = both(pension, map / 32 % 2 == 1);
     let people = both(shocks, map / 64 % 2 == 1);
     both(people, none_above(map))
 }

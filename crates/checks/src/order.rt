@@ -9,6 +9,7 @@ use crate::limits::shocks_right;
 use scan::places::Places;
 use scan::rates::Sums;
 use scan::rates::forwards_within;
+use scan::rates::units_per_step;
 use scan::runs::each_at_most;
 ghost use mathlib.Core.Path.{_≡_};
 ghost use mathlib.Core.List.{[], _∷_};
@@ -16,9 +17,9 @@ ghost use Prim.Native.Nat.{_+_, _<_, _≤_};
 ghost use lib.Dec.{leb};
 ghost use lib.ListN.{getD, length};
 ghost use Rattle.model.specs.Fields.{reaches, rightAll, counted};
-ghost use Rattle.model.specs.Layout.{day, flow};
-ghost use Rattle.model.specs.inner.Positions.{present, bondsAt, amountsAt, ufrField, daysField, bondsField, amountsField};
-ghost use Rattle.model.specs.Refusals.{refusal};
+ghost use Rattle.model.specs.Layout.{day, days, flow};
+ghost use Rattle.model.specs.inner.Positions.{rateBytes, present, bondsAt, amountsAt, ufrField, daysField, bondsField, amountsField};
+ghost use Rattle.model.specs.Refusals.{refusal, daysAt};
 ghost use Rattle.scan.specs.inner.Found.{Found};
 ghost use Rattle.scan.specs.inner.Sums.{Summed};
 ghost use Rattle.checks.specs.inner.After.{after, afterAll};
@@ -42,14 +43,25 @@ fn part_check(so_far: u8, file: &[u8], end: usize, right: bool, number: u8) -> u
     first(whole, right, number)
 }
 
-// The days: the count n, and the rates, which were tested where they were summed.
-fn days_check(so_far: u8, file: &[u8], at: usize, count: usize, end: usize, right: bool) -> u8
-    requires { ⌜ (at ≤ 32000) × (count ≡ getD (now file) at 0) × (end ≡ daysField .end (now file) at) ⌝ }
-    requires rates { ⌜ right ≡ rightAll day (daysField .value (now file) at) ⌝ }
-    ensures { λ r. ⌜ r ≡ afterAll «so_far» (daysField .checks (now (file .entry)) at) ⌝ }
+// The days, if their rates have `rate_bytes` bytes: the count n, and the rates, which were tested where they were summed.
+fn days_check(so_far: u8, file: &[u8], p: Places, right: bool, rate_bytes: u64) -> u8
+    requires { ⌜ Found (now file) p × (right ≡ rightAll (day (p .«rate_bytes»)) (days (p .«rate_bytes») .value (now file) (p .«days_at»))) ⌝ }
+    ensures { λ r. ⌜
+        r ≡ afterAll «so_far» (daysField «rate_bytes» (rateBytes (now (file .entry))) .checks (now (file .entry)) (daysAt (now (file .entry))))
+        ⌝ }
 {
-    let counted = part_check(so_far, file, at + 1, between(1, 70, count as u64), 4);
-    part_check(counted, file, end, right, 5)
+    if p.rate_bytes == rate_bytes {
+        let counted = part_check(
+            so_far,
+            file,
+            p.days_at + 1,
+            between(1, 70, p.days as u64),
+            4,
+        );
+        part_check(counted, file, p.days_end, right, 5)
+    } else {
+        so_far
+    }
 }
 
 // Pension or bond flows: their count, at most `most`, and the flows.
@@ -114,13 +126,13 @@ fn end_check(so_far: u8, file: &[u8], end: usize, forwards: bool) -> u8
 
 // The number that a file is refused with, by its places and sums; 0 where it is accepted.
 pub fn refusal_with(file: &[u8], p: Places, s: Sums) -> u8
-    requires { ⌜ Found (now file) p × Summed (now file) (p .«days_at» + 1) (p .days) s ⌝ }
+    requires { ⌜ Found (now file) p × Summed (p .«rate_bytes») (now file) (p .«days_at» + 1) (p .days) s ⌝ }
     ensures { λ r. ⌜ r ≡ refusal (now (file .entry)) ⌝ }
 {
     let map = part_check(0, file, 2, bits_right(p.map), 3);
     let ufr = ufr_check(map, file, p);
-    let days = days_check(ufr, file, p.days_at, p.days, p.pension_at, s.within);
-    let pension = flows_check(days, file, p.pension_at, p.pension, p.bonds_at, 120);
+    let short_days = days_check(ufr, file, p, s.within, 2);
+    let pension = flows_check(short_days, file, p.pension_at, p.pension, p.bonds_at, 120);
     let bonds = bonds_check(pension, file, p);
     let amounts = amounts_check(bonds, file, p);
     let shocks = part_check(
@@ -130,9 +142,16 @@ pub fn refusal_with(file: &[u8], p: Places, s: Sums) -> u8
         shocks_right(file, p.shocks_at),
         11,
     );
-    let end = p.people_at + 8;
-    let people = part_check(shocks, file, end, people_right(file, p.people_at), 12);
+    let people = part_check(
+        shocks,
+        file,
+        p.people_end,
+        people_right(file, p.people_at),
+        12,
+    );
+    let long_days = days_check(people, file, p, s.within, 4);
     let sums = s.sums;
-    let forwards = forwards_within(sums, p.days as u64);
-    end_check(people, file, end, forwards)
+    let per_step = units_per_step(p.rate_bytes) * p.days as u64;
+    let forwards = forwards_within(sums, per_step);
+    end_check(long_days, file, p.end, forwards)
 }

@@ -1,23 +1,27 @@
-// The days: their count, and their rates one after another.
+// The days: their count, and their rates one after another, each of 2 or 4 bytes.
 use encode::put_bytes;
 use given::rates::day_count;
 use given::rates::raised;
+use given::rates::raised_long;
 ghost use mathlib.Core.Path.{_≡_};
-ghost use mathlib.Core.Bool.{true};
+ghost use mathlib.Core.Bool.{true, cond};
+ghost use mathlib.Core.List.{[]};
 ghost use Prim.Native.Nat.{_+_, _*_, _≤_};
+ghost use lib.Dec.{eqb};
 ghost use lib.ListN.{length};
+ghost use Rattle.model.specs.Case.{knownForm};
 ghost use Rattle.model.specs.Fields.{bytesAll, rightAll};
 ghost use Rattle.model.specs.Saving.{daysOf};
-ghost use Rattle.model.specs.Layout.{dailyRate};
+ghost use Rattle.model.specs.Layout.{dailyRate, days};
 ghost use Rattle.model.specs.inner.Positions.{daysField};
 ghost use Rattle.output.specs.inner.Wrote.{Wrote};
 ghost use Rattle.fields.specs.inner.Days.{RightDays};
 
 // A rate as the 16 bits of its two's complement. 100,000 steps and the rate less 34,464 is 65,536 and the rate, of which the lowest two
 // bytes are stored.
-fn put_rate(buf: &mut [u8], at: usize, rate: i32) -> usize
-    requires { ⌜ (at + 2 ≤ length (now buf)) × (dailyRate .right rate ≡ true) ⌝ }
-    ensures { λ r. ⌜ Wrote (now (buf .entry)) at (dailyRate .bytes rate) 2 r (now (buf .exit)) ⌝ }
+fn put_short_rate(buf: &mut [u8], at: usize, rate: i32) -> usize
+    requires { ⌜ (at + 2 ≤ length (now buf)) × (dailyRate 2 .right rate ≡ true) ⌝ }
+    ensures { λ r. ⌜ Wrote (now (buf .entry)) at (dailyRate 2 .bytes rate) 2 r (now (buf .exit)) ⌝ }
 {
     let bits = raised(rate) - 34_464;
     buf[at] = (bits / 256 % 256) as u8;
@@ -25,29 +29,84 @@ fn put_rate(buf: &mut [u8], at: usize, rate: i32) -> usize
     at + 2
 }
 
-fn put_rates(buf: &mut [u8], at: usize, rates: &[i32]) -> usize
-    requires { ⌜ (at + 2 * length (now rates) ≤ length (now buf)) × (rightAll dailyRate (now rates) ≡ true) ⌝ }
+// A rate as the 32 bits of its two's complement. 10,000,000 and the rate and 4,284,967,296 is 2^32 and the rate, which is the rate's bits
+// modulo 2^32.
+fn put_long_rate(buf: &mut [u8], at: usize, rate: i32) -> usize
+    requires { ⌜ (at + 4 ≤ length (now buf)) × (dailyRate 4 .right rate ≡ true) ⌝ }
+    ensures { λ r. ⌜ Wrote (now (buf .entry)) at (dailyRate 4 .bytes rate) 4 r (now (buf .exit)) ⌝ }
+{
+    let bits = (raised_long(rate) + 4_284_967_296) % 4_294_967_296;
+    put_bytes(buf, at, 4, bits)
+}
+
+// A rate of either kind.
+fn put_rate(buf: &mut [u8], at: usize, rate: i32, rate_bytes: u64) -> usize
+    requires { ⌜ (at + «rate_bytes» ≤ length (now buf)) × (knownForm «rate_bytes» ≡ true) × (dailyRate «rate_bytes» .right rate ≡ true) ⌝ }
+    ensures { λ r. ⌜ Wrote (now (buf .entry)) at (dailyRate «rate_bytes» .bytes rate) «rate_bytes» r (now (buf .exit)) ⌝ }
+{
+    if rate_bytes == 4 {
+        put_long_rate(buf, at, rate)
+    } else {
+        put_short_rate(buf, at, rate)
+    }
+}
+
+fn put_rates(buf: &mut [u8], at: usize, rates: &[i32], rate_bytes: u64) -> usize
+    requires { ⌜ (at + «rate_bytes» * length (now rates) ≤ length (now buf)) × (knownForm «rate_bytes» ≡ true) ⌝ }
+    requires right { ⌜ rightAll (dailyRate «rate_bytes») (now rates) ≡ true ⌝ }
     ensures { λ r. ⌜
-        Wrote (now (buf .entry)) at (bytesAll dailyRate (now (rates .entry))) (2 * length (now (rates .entry))) r (now (buf .exit))
+        Wrote (now (buf .entry)) at (bytesAll (dailyRate «rate_bytes») (now (rates .entry))) («rate_bytes» * length (now (rates .entry))) r (now (buf .exit))
         ⌝ }
 {
     let mut next = at;
     let mut i: usize = 0;
     while i < rates.len() {
-        next = put_rate(buf, next, rates[i]);
+        next = put_rate(buf, next, rates[i], rate_bytes);
         i += 1;
     }
     next
 }
 
 // The count of the days, and their rates.
-pub fn put_days(buf: &mut [u8], at: usize, rates: &[i32]) -> usize
-    requires { ⌜ (at + (1 + 2 * length (now rates)) ≤ length (now buf)) × RightDays (now rates) ⌝ }
+fn put_days(buf: &mut [u8], at: usize, rates: &[i32], rate_bytes: u64) -> usize
+    requires { ⌜
+        (at + (1 + «rate_bytes» * length (now rates)) ≤ length (now buf)) × (knownForm «rate_bytes» ≡ true) × RightDays «rate_bytes» (now rates)
+        ⌝ }
     ensures { λ r. ⌜
-        Wrote (now (buf .entry)) at (daysField .bytes (daysOf (now (rates .entry)))) (1 + 2 * length (now (rates .entry))) r (now (buf .exit))
+        Wrote (now (buf .entry)) at (days «rate_bytes» .bytes (daysOf (now (rates .entry)))) (1 + «rate_bytes» * length (now (rates .entry))) r
+        (now (buf .exit))
         ⌝ }
 {
     let days = day_count(rates);
     let at_rates = put_bytes(buf, at, 1, days as u64);
-    put_rates(buf, at_rates, rates)
+    put_rates(buf, at_rates, rates, rate_bytes)
+}
+
+// The days field whose rates have `field_bytes` bytes, if the case has it.
+pub fn put_days_field(
+    buf: &mut [u8],
+    at: usize,
+    rates: &[i32],
+    rate_bytes: u64,
+    field_bytes: u64,
+) -> usize
+    requires { ⌜
+        (at + cond (eqb «rate_bytes» «field_bytes») (1 + «field_bytes» * length (now rates)) 0 ≤ length (now buf))
+        × (knownForm «rate_bytes» ≡ true) × RightDays «rate_bytes» (now rates)
+        ⌝ }
+    ensures { λ r. ⌜
+        Wrote
+        (now (buf .entry))
+        at
+        (daysField «field_bytes» «rate_bytes» .bytes (cond (eqb «rate_bytes» «field_bytes») (daysOf (now (rates .entry))) []))
+        (cond (eqb «rate_bytes» «field_bytes») (1 + «field_bytes» * length (now (rates .entry))) 0)
+        r
+        (now (buf .exit))
+        ⌝ }
+{
+    if rate_bytes == field_bytes {
+        put_days(buf, at, rates, rate_bytes)
+    } else {
+        at
+    }
 }

@@ -1,18 +1,21 @@
-// The rates of a list, 60 a day: each as a natural, 100,000 steps and the rate, whether all are within their limits, and their sums.
+// The rates of a list, 60 a day: each as a natural, 100,000 steps and the rate, whether all are within their limits, and their sums. A rate
+// has 2 or 4 bytes in a file, and is in steps or in hundredths of them.
 use scan::rates::Sums;
 use scan::rates::rate_right;
+use scan::rates::units_per_step;
 use scan::runs::both;
 ghost use mathlib.Core.Path.{_≡_};
 ghost use Prim.Native.Nat.{_+_, _*_, _<_, _≤_};
 ghost use lib.ListN.{length};
+ghost use Rattle.model.specs.Case.{unitsPerStep};
 ghost use Rattle.model.specs.Rolling.{dayIn};
 ghost use Rattle.model.specs.Saving.{daysIn, daysOf};
 ghost use Rattle.scan.specs.inner.Sums.{EachAtMost};
 ghost use Rattle.given.specs.inner.Raised.{raisedOr, summed, withDay};
 
-// 100,000 steps and the rate; 0 for a rate outside its limits.
+// 100,000 steps and the rate in steps; 0 for a rate outside its limits.
 pub fn raised(rate: i32) -> u64
-    ensures { λ r. ⌜ r ≡ raisedOr rate ⌝ }
+    ensures { λ r. ⌜ r ≡ raisedOr 1 rate ⌝ }
 {
     if rate < -1_000 {
         return 0;
@@ -21,6 +24,30 @@ pub fn raised(rate: i32) -> u64
         return 0;
     }
     (rate + 100_000) as u64
+}
+
+// The same of a rate in hundredths of a step.
+pub fn raised_long(rate: i32) -> u64
+    ensures { λ r. ⌜ r ≡ raisedOr 100 rate ⌝ }
+{
+    if rate < -100_000 {
+        return 0;
+    }
+    if rate > 1_000_000 {
+        return 0;
+    }
+    (rate + 10_000_000) as u64
+}
+
+// The same of a rate of either kind.
+fn raised_rate(rate: i32, rate_bytes: u64) -> u64
+    ensures { λ r. ⌜ r ≡ raisedOr (unitsPerStep «rate_bytes») rate ⌝ }
+{
+    if rate_bytes == 4 {
+        raised_long(rate)
+    } else {
+        raised(rate)
+    }
 }
 
 // How many days a list of rates has: 0 where it is no whole number of days.
@@ -49,26 +76,27 @@ fn day_at(rates: &[i32], d: usize) -> [i32; 60]
 }
 
 // The sums of up to 69 days with one day more.
-pub fn add_day(held: Sums, day: [i32; 60]) -> Sums
-    requires { ⌜ EachAtMost 7590000 (held .sums) ⌝ }
-    ensures { λ r. ⌜ r ≡ withDay held day ⌝ }
+pub fn add_day(held: Sums, day: [i32; 60], rate_bytes: u64) -> Sums
+    requires { ⌜ EachAtMost 759000000 (held .sums) ⌝ }
+    ensures { λ r. ⌜ r ≡ withDay «rate_bytes» held day ⌝ }
 {
+    let units = units_per_step(rate_bytes);
     let mut within = held.within;
     let mut sums = held.sums;
     let mut t: usize = 0;
     while t < 60 {
-        let rate = raised(day[t]);
+        let rate = raised_rate(day[t], rate_bytes);
         sums[t] += rate;
-        within = both(within, rate_right(rate));
+        within = both(within, rate_right(rate, units));
         t += 1;
     }
     Sums { within, sums }
 }
 
 // The sums of the first `days` days of a list.
-pub fn sum_rates(rates: &[i32], days: usize) -> Sums
+pub fn sum_rates(rates: &[i32], rate_bytes: u64, days: usize) -> Sums
     requires { ⌜ (days ≤ 70) × (60 * days ≤ length (now rates)) ⌝ }
-    ensures { λ r. ⌜ r ≡ summed (daysIn days (now (rates .entry))) ⌝ }
+    ensures { λ r. ⌜ r ≡ summed «rate_bytes» (daysIn days (now (rates .entry))) ⌝ }
 {
     let mut r = Sums {
         within: true,
@@ -77,7 +105,7 @@ pub fn sum_rates(rates: &[i32], days: usize) -> Sums
     let mut d: usize = 0;
     while d < days {
         let day = day_at(rates, d);
-        r = add_day(r, day);
+        r = add_day(r, day, rate_bytes);
         d += 1;
     }
     r

@@ -76,7 +76,8 @@ pub extern "C" fn ginghamowl_refusal(file: &[u8]) -> u8
     refusal_of(file)
 }
 
-// Where the rates stand in the file: n × 120 bytes; 0 and 0 where the file is refused. Only a refused file has an empty part.
+// Where the rates stand in the file: n × 120 bytes, or n × 240 of rates of four bytes; 0 and 0 where the file is refused. Only a refused
+// file has an empty part.
 #[no_mangle]
 pub extern "C" fn ginghamowl_rates_part(file: &[u8]) -> HostPart
     ensures { λ r. ⌜ r ≡ hostPart (now (file .entry)) ⌝ }

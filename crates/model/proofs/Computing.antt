@@ -5,10 +5,10 @@ use mathlib.Core.List.{List, [], _∷_, _++_}
 use lib.Ieee.{size}
 use Rattle.arith.specs.Rounding.{divide}
 use Rattle.arith.specs.Root.{root, rootOfDigits}
-use Rattle.model.specs.Case.{s}
+use Rattle.model.specs.Case.{perStep, s}
 use Rattle.model.specs.Numbers.{number, bytesOf, every, table}
 use Rattle.model.specs.Layout.{fileMap, fileOf, caseOf}
-use Rattle.model.specs.Refusals.{firstOf, forwardsRight, checks, refusal, daysAt, dayCount, ratesPart}
+use Rattle.model.specs.Refusals.{firstOf, forwardsRight, checks, refusal, ufrEnd, daysAt, dayCount, ratesPart}
 use Rattle.model.specs.Saving.{daysOf, shortest, caseChecks, caseRefusal, saveRefusal, saveAnswer, savedAfter}
 use Rattle.model.specs.Brackets.{largest, smallest}
 use Rattle.model.specs.Curve.{movedSum, curve, P, weight, weights}
@@ -21,6 +21,7 @@ use Rattle.model.specs.Rolling.{daysHeld, sumsOf, windowRight, addRefusa
 use Rattle.model.specs.Rolling.{windowRefusal, windowValuation, windowFactorsAfter, windowRatesAfter}
 use Rattle.model.specs.Months.{monthsOf, oldestFirst, total, roundedUfr, ufrRefusal, ufrAnswer, monthsRefusal, monthsValuation}
 use Rattle.model.specs.Months.{monthsFactorsAfter, monthsRatesAfter, withUfrField}
+use Rattle.model.specs.FourBytes.{rewrittenFile}
 use Rattle.model.specs.Window.{windowPoint}
 use Rattle.model.specs.Listing.{ascii, digits, decimal, word, line, listing}
 
@@ -37,8 +38,8 @@ text (one ∷ lines) = ascii one ++ ascii "\n" ++ text lines
 -- A proof whose `unfolding` line names `all` computes with every definition that is named here.
 unfoldable pub all : ℕ
 unfolding
-    s number bytesOf every table
-    fileMap fileOf caseOf daysAt dayCount firstOf forwardsRight checks refusal ratesPart
+    s perStep number bytesOf every table
+    fileMap fileOf caseOf ufrEnd daysAt dayCount firstOf forwardsRight checks refusal ratesPart
     daysOf shortest caseChecks caseRefusal saveRefusal saveAnswer savedAfter
     movedSum curve P
     weights weight Exact.G Exact.weighed Exact.growth Exact.productOf Exact.factor Exact.unadjusted Exact.worth Exact.judge
@@ -49,5 +50,6 @@ unfolding
     daysHeld sumsOf windowRight addRefusal dropRefusal added dropped addDay dropDay changedBy queuedBy
     windowRefusal windowValuation windowFactorsAfter windowRatesAfter
     monthsOf oldestFirst total roundedUfr ufrRefusal ufrAnswer monthsRefusal monthsValuation monthsFactorsAfter monthsRatesAfter withUfrField
+    rewrittenFile
     ascii digits decimal word line listing
 all = 0

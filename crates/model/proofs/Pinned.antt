@@ -42,6 +42,7 @@ bentFile =
 -- the case that it holds
 abbrev pub bentCase : FileCase
 bentCase = record {
+  rateBytes = 2;
   ufr = 4321;
   days = (negℤ (pos 290) ∷ negℤ (pos 230) ∷ negℤ (pos 170) ∷ negℤ (pos 110) ∷ negℤ (pos 50) ∷ pos 10 ∷ pos 70 ∷ pos 130 ∷ pos 190 ∷ pos 250
       ∷ pos 310 ∷ pos 370 ∷ pos 430 ∷ pos 490 ∷ pos 550 ∷ pos 525 ∷ pos 500 ∷ pos 475 ∷ pos 450 ∷ pos 425
@@ -183,6 +184,7 @@ upFile =
 -- the case that it holds
 abbrev pub upCase : FileCase
 upCase = record {
+  rateBytes = 2;
   ufr = 4321;
   days = (pos 206 ∷ pos 225 ∷ pos 244 ∷ pos 263 ∷ pos 282 ∷ pos 301 ∷ pos 320 ∷ pos 339 ∷ pos 358 ∷ pos 377
       ∷ pos 396 ∷ pos 415 ∷ pos 434 ∷ pos 453 ∷ pos 472 ∷ pos 491 ∷ pos 510 ∷ pos 529 ∷ pos 548 ∷ pos 567
@@ -348,6 +350,7 @@ downFile =
 -- the case that it holds
 abbrev pub downCase : FileCase
 downCase = record {
+  rateBytes = 2;
   ufr = 3879;
   days = (negℤ (pos 154) ∷ negℤ (pos 135) ∷ negℤ (pos 116) ∷ negℤ (pos 97) ∷ negℤ (pos 78) ∷ negℤ (pos 59) ∷ negℤ (pos 40) ∷ negℤ (pos 21) ∷ negℤ (pos 2) ∷ pos 17
       ∷ pos 36 ∷ pos 55 ∷ pos 74 ∷ pos 93 ∷ pos 112 ∷ pos 131 ∷ pos 150 ∷ pos 169 ∷ pos 188 ∷ pos 207
@@ -544,6 +547,7 @@ bent-exact-unadjusted-21 = (lit< tt, lit< tt, refl)
 -- C1 with shifts and one bond flow, at term 21. The base curve is C6's, the down curve C3's.
 abbrev pub past20 : FileCase
 past20 = record {
+  rateBytes = 2;
   ufr = 4200;
   days = replicate 60 (pos 0)
       ∷ [];
@@ -666,6 +670,7 @@ deepestFile =
 -- the case that it holds
 abbrev pub deepestCase : FileCase
 deepestCase = record {
+  rateBytes = 2;
   ufr = 4200;
   days = replicate 60 (negℤ (pos 1000))
       ∷ [];
@@ -736,6 +741,7 @@ deepest-widths = (refl, refl)
 -- A fund with 120 pension and 60 bond flows and both shifts. Most of its large flows lie past term 60, so that WL and WB are large.
 abbrev pub long : FileCase
 long = record {
+  rateBytes = 2;
   ufr = 3333;
   days = (pos 217 ∷ pos 234 ∷ pos 251 ∷ pos 268 ∷ pos 285 ∷ pos 302 ∷ pos 319 ∷ pos 336 ∷ pos 353 ∷ pos 370
       ∷ pos 387 ∷ pos 404 ∷ pos 421 ∷ pos 438 ∷ pos 455 ∷ pos 472 ∷ pos 489 ∷ pos 506 ∷ pos 523 ∷ pos 540
@@ -808,6 +814,7 @@ long-widths = (refl, refl)
 -- C1 with flows of 0 on both sides: Q is 0.
 abbrev pub noFlows : FileCase
 noFlows = record {
+  rateBytes = 2;
   ufr = 4200;
   days = replicate 60 (pos 0)
       ∷ [];
@@ -854,6 +861,7 @@ noFlows-widths = (refl, refl)
 -- C1 with a flow whose 4 × t × t × flow is 10^10: Q is 1, with nothing to round.
 abbrev pub wholeQuotient : FileCase
 wholeQuotient = record {
+  rateBytes = 2;
   ufr = 4200;
   days = replicate 60 (pos 0)
       ∷ [];
@@ -1069,6 +1077,7 @@ second-border-beyond-without-S near = not-le-of-lt (lit< tt) (near .positive)
 -- C1 with cash 1,049,999: one euro below the first border.
 abbrev pub shortage : FileCase
 shortage = record {
+  rateBytes = 2;
   ufr = 4200;
   days = replicate 60 (pos 0)
       ∷ [];
@@ -1114,6 +1123,7 @@ shortage-verdicts = (refl, refl)
 -- "Else ONBESLIST, which is undecided.": C1 with flat 100, at the first border, which the exact figures do not reach.
 abbrev pub firstBelow : FileCase
 firstBelow = record {
+  rateBytes = 2;
   ufr = 4200;
   days = replicate 60 (pos 100)
       ∷ [];
@@ -1159,6 +1169,7 @@ firstBelow-verdicts = (refl, refl)
 -- "Else ONBESLIST, which is undecided.": C1 with flat 100, at the first border, which the exact figures reach.
 abbrev pub firstAbove : FileCase
 firstAbove = record {
+  rateBytes = 2;
   ufr = 4200;
   days = replicate 60 (pos 100)
       ∷ [];
@@ -1204,6 +1215,7 @@ firstAbove-verdicts = (refl, refl)
 -- "Else ONBESLIST, which is undecided.": C1 with flat 100, at the second border, which the exact figures do not reach.
 abbrev pub secondBelow : FileCase
 secondBelow = record {
+  rateBytes = 2;
   ufr = 4200;
   days = replicate 60 (pos 100)
       ∷ [];
@@ -1249,6 +1261,7 @@ secondBelow-verdicts = (refl, refl)
 -- "Else ONBESLIST, which is undecided.": C1 with flat 100, at the second border, which the exact figures reach.
 abbrev pub secondAbove : FileCase
 secondAbove = record {
+  rateBytes = 2;
   ufr = 4200;
   days = replicate 60 (pos 100)
       ∷ [];

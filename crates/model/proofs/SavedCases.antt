@@ -48,6 +48,7 @@ shocksOf a b c d e f g h i j k l = record {
 -- UFR, amounts, shocks, head count, pension age and mean age
 abbrev pub fieldsOf : ℕ → Amounts → Shocks → ℕ → ℕ → ℕ → CaseFields
 fieldsOf a b c d e f = record {
+  «rate_bytes» = 2;
   ufr = a;
   amounts = b;
   shocks = c;

@@ -2,10 +2,10 @@
 -- working', whose curves are those of the DNB note of 2012, source document 001, step 2: the mean over the days).
 use Prim.Native.Nat.{ℕ, zero, suc, _*_, _-_}
 use mathlib.Core.List.{List, [], _∷_}
-use lib.ListN.{length, getD}
+use lib.ListN.{getD}
 use lib.IntN.{ℤ, pos, negsuc, negℤ, _+ℤ_, _*ℤ_}
 use Rattle.model.specs.Constants.{stepsPerOne}
-use Rattle.model.specs.Case.{FileCase, s}
+use Rattle.model.specs.Case.{FileCase, perStep, s}
 
 -- N, the sums s(t) as integers, and the UFR in steps: the mean rate R(t) is s(t) ÷ N
 pub record Curve : Type 0 where
@@ -23,14 +23,14 @@ shift k up = pos (k .shocks .«up_shift»)
 shift k down = negℤ (pos (k .shocks .«down_shift»))
 
 -- "Up and down curves add the shift to, or take it from, every mean rate at terms 1 to 60": to the sum over n days n × shift, and
--- s(0) stays 0
+-- s(0) stays 0; document 02, request Six, of rates of four bytes: "a shift adds or takes 100 × n × shift"
 unfoldable pub movedSum : FileCase → Move → ℕ → ℤ
 movedSum k m zero = pos 0
-movedSum k m (suc t) = s (k .days) (suc t) +ℤ pos (length (k .days)) *ℤ shift k m
+movedSum k m (suc t) = s (k .days) (suc t) +ℤ pos (perStep k) *ℤ shift k m
 
--- "N = 100,000 × n"; "with the same UFR"
+-- "N = 100,000 × n"; request Six: "N is 10,000,000 × n"; "with the same UFR"
 unfoldable pub curve : FileCase → Move → Curve
-curve k m = record { N = stepsPerOne * length (k .days); sum = movedSum k m; ufr = k .ufr }
+curve k m = record { N = stepsPerOne * perStep k; sum = movedSum k m; ufr = k .ufr }
 
 -- an integer as a natural number, and 0 below 0, which no N + s(t) of an accepted file is (`PUncut` of demand 3)
 abbrev pub natural : ℤ → ℕ

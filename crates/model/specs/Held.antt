@@ -4,7 +4,7 @@ use mathlib.Core.List.{List, []}
 use lib.ListN.{length, getD, replicate}
 use Rattle.model.specs.Constants.{defaultUfr}
 use Rattle.model.specs.Numbers.{table}
-use Rattle.model.specs.Case.{FileCase}
+use Rattle.model.specs.Case.{FileCase, perStep}
 use Rattle.model.specs.Layout.{noAmounts, shocksFrom}
 use Rattle.model.specs.Curve.{base, curve, P}
 use Rattle.model.specs.declared.case.Case.{Case}
@@ -13,11 +13,11 @@ use Rattle.model.specs.declared.case.Case.{Case}
 abbrev pub padded : ℕ → List ℕ → List ℕ
 padded n xs = table (λ i. getD xs i 0) n
 
--- of the days, P(t) of the terms 1 to 60 and what one step adds to it, n; of the flows, their number and room for the most that there can be
+-- of the days, P(t) of the terms 1 to 60 and what one step adds to it; of the flows, their number and room for the most that there can be
 unfoldable pub held : FileCase → Case
 held k = record {
   ufr = k .ufr;
-  «per_step» = length (k .days);
+  «per_step» = perStep k;
   sums = table (λ i. P (curve k base) (suc i)) 60;
   «pension_count» = length (k .pension);
   pension = padded 120 (k .pension);

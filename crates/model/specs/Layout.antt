@@ -1,5 +1,5 @@
--- The case file of document 01 ('The case file') as one expression, field by field. The bytes of a case, the case of the bytes and the
--- checks of each field follow from it. Refusals has the order of all checks.
+-- The case file of document 01 ('The case file') as one expression, field by field, with the second days field of document 02, request Six.
+-- The bytes of a case, the case of the bytes and the checks of each field follow from it. Refusals has the order of all checks.
 use Prim.Native.Nat.{ℕ, _+_, _*_, _/_, _%_, _^_, _≤_}
 use mathlib.Core.Path.{_≡_}
 use mathlib.Core.Bool.{Bool, true, false, cond}
@@ -9,7 +9,7 @@ use lib.ListN.{length, getD}
 use lib.IntN.{ℤ, pos, negℤ}
 use Rattle.model.specs.Constants.{defaultUfr, lastMarketTerm}
 use Rattle.model.specs.Numbers.{number, bytesOf, twosComplement, unsigned}
-use Rattle.model.specs.Case.{FileCase}
+use Rattle.model.specs.Case.{FileCase, unitsPerStep}
 use Rattle.model.specs.Limits.{WithinLimits}
 use Rattle.model.specs.Fields.{Fixed, numberOf, pairOf, several, named, withinZ, Field, field, counted, optional, _then_}
 use Rattle.model.specs.declared.case.Amounts.{Amounts}
@@ -25,12 +25,17 @@ rate w scale = record {
   right = withinZ (negℤ (pos (1000 * scale))) (pos (10000 * scale));
 }
 
--- "60 zero rates, terms 1 to 60, each 2 bytes": a rate in whole steps, and a day of them
-abbrev pub dailyRate : Fixed ℤ
-dailyRate = rate 2 1
+-- "60 zero rates, terms 1 to 60, each 2 bytes"; request Six: "of the same form whose rates are four bytes, two's complement, in steps of
+-- 0.0000001, limits -100,000 to 1,000,000": a rate of w bytes, and a day of them
+abbrev pub dailyRate : ℕ → Fixed ℤ
+dailyRate w = rate w (unitsPerStep w)
 
-abbrev pub day : Fixed (List ℤ)
-day = several lastMarketTerm dailyRate
+abbrev pub day : ℕ → Fixed (List ℤ)
+day w = several lastMarketTerm (dailyRate w)
+
+-- "a byte n, 1 to 70; then n days"; refusals 4 and 5
+abbrev pub days : ℕ → Field (List (List ℤ))
+days w = counted 70 4 5 (day w)
 
 -- "flows of 4 bytes, 0 to 100,000,000 euros"
 abbrev pub flow : Fixed ℕ
@@ -107,14 +112,19 @@ pub record Present : Type 0 where
   pub bonds : Bool
   pub amounts : Bool
 
--- "a 16-bit map (bit 0 is the lowest)": bits 1, 2, 5 and 6 stand, and the bits of the optional fields that are there
-abbrev pub mapOf : Present → ℕ
-mapOf p =
-    2 ^ 1 + 2 ^ 2 + 2 ^ 5 + 2 ^ 6 + cond (p .ufr) (2 ^ 0) 0 + cond (p .bonds) (2 ^ 3) 0 + cond (p .amounts) (2 ^ 4) 0
+-- "a 16-bit map (bit 0 is the lowest)": bits 2, 5 and 6 stand, the bit of the days field, whose rates have w bytes, and the bits of the
+-- optional fields that are there
+abbrev pub mapOf : ℕ → Present → ℕ
+mapOf w p =
+    2 ^ 2 + 2 ^ 5 + 2 ^ 6 + cond (p .ufr) (2 ^ 0) 0 + cond (eqb w 2) (2 ^ 1) 0 + cond (p .bonds) (2 ^ 3) 0 + cond (p .amounts) (2 ^ 4) 0
+    + cond (eqb w 4) (2 ^ 7) 0
 
--- the other way: a bit of a map stands; the optional fields that a map announces; the map of a file
+-- the other way: a bit of a map stands; the bytes of a rate and the optional fields that a map announces; the map of a file
 abbrev pub stands : ℕ → ℕ → Bool
 stands bit map = eqb (map / 2 ^ bit % 2) 1
+
+abbrev pub rateBytesIn : ℕ → ℕ
+rateBytesIn map = cond (stands 7 map) 4 2
 
 abbrev pub presentIn : ℕ → Present
 presentIn map = record { ufr = stands 0 map; bonds = stands 3 map; amounts = stands 4 map }
@@ -122,17 +132,17 @@ presentIn map = record { ufr = stands 0 map; bonds = stands 3 map; amounts = sta
 unfoldable pub fileMap : List ℕ → ℕ
 fileMap file = number file 0 2
 
--- what the fields hold, in bit order
-abbrev pub Parts : Type 0
-Parts = ℕ × (List (List ℤ) × (List ℕ × (List ℕ × (Amounts × (Shocks × People)))))
+-- what the fields of bits 0 to 6 hold, in bit order
+abbrev pub FirstParts : Type 0
+FirstParts = ℕ × (List (List ℤ) × (List ℕ × (List ℕ × (Amounts × (Shocks × People)))))
 
--- "then only the fields whose bit stands, in bit order"
-abbrev pub layout : Present → Field Parts
-layout p =
+-- "then only the fields whose bit stands, in bit order": those of document 01
+abbrev pub firstFields : ℕ → Present → Field FirstParts
+firstFields w p =
     -- "Bit 0, UFR: 2 bytes, in rate steps, 0 to 5,000. A file without this field has a UFR of 4,200."; refusal 9
     optional (p .ufr) defaultUfr (field 9 (numberOf 2 0 5000))
-    -- "Bit 1, days: a byte n, 1 to 70; then n days"; refusals 4 and 5
-    then counted 70 4 5 day
+    -- "Bit 1, days"
+    then optional (eqb w 2) [] (days 2)
     -- "Bit 2, pension flows: a byte m, 1 to 120; then m flows"; refusals 7 and 8
     then counted 120 7 8 flow
     -- "Bit 3, bond flows: a byte k, 1 to 60; then k flows, the same form and limit. Absent: k = 0."; refusals 7 and 8
@@ -144,31 +154,44 @@ layout p =
     -- "Bit 6, people"; refusal 12
     then field 12 people
 
--- the case with these fields, and the fields of a case
-abbrev pub caseFrom : Parts → FileCase
-caseFrom v = record {
-  ufr = v .0;
-  days = v .1 .0;
-  pension = v .1 .1 .0;
-  bonds = v .1 .1 .1 .0;
-  amounts = v .1 .1 .1 .1 .0;
-  shocks = v .1 .1 .1 .1 .1 .0;
-  people = v .1 .1 .1 .1 .1 .1;
+-- what all fields hold
+abbrev pub Parts : Type 0
+Parts = FirstParts × List (List ℤ)
+
+-- request Six: "Bit 7 announces a days field of the same form whose rates are four bytes"
+abbrev pub layout : ℕ → Present → Field Parts
+layout w p = firstFields w p then optional (eqb w 4) [] (days 4)
+
+-- the case with these fields, whose rates have w bytes
+abbrev pub caseFrom : ℕ → Parts → FileCase
+caseFrom w v = record {
+  rateBytes = w;
+  ufr = v .0 .0;
+  days = cond (eqb w 4) (v .1) (v .0 .1 .0);
+  pension = v .0 .1 .1 .0;
+  bonds = v .0 .1 .1 .1 .0;
+  amounts = v .0 .1 .1 .1 .1 .0;
+  shocks = v .0 .1 .1 .1 .1 .1 .0;
+  people = v .0 .1 .1 .1 .1 .1 .1;
 }
 
+-- the fields of a case: its days stand in the field whose rates have their bytes, and the other has none
+abbrev pub daysIf : ℕ → FileCase → List (List ℤ)
+daysIf w k = cond (eqb (k .rateBytes) w) (k .days) []
+
 abbrev pub partsOf : FileCase → Parts
-partsOf k = (k .ufr, (k .days, (k .pension, (k .bonds, (k .amounts, (k .shocks, k .people))))))
+partsOf k = ((k .ufr, (daysIf 2 k, (k .pension, (k .bonds, (k .amounts, (k .shocks, k .people)))))), daysIf 4 k)
 
 -- "First a 16-bit map"
 unfoldable pub fileOf : Present → FileCase → List ℕ
-fileOf p k = bytesOf 2 (mapOf p) ++ layout p .bytes (partsOf k)
+fileOf p k = bytesOf 2 (mapOf (k .rateBytes) p) ++ layout (k .rateBytes) p .bytes (partsOf k)
 
 -- the fields that the map of a file announces, and the case that its bytes hold
 abbrev pub fieldsOf : List ℕ → Field Parts
-fieldsOf file = layout (presentIn (fileMap file))
+fieldsOf file = layout (rateBytesIn (fileMap file)) (presentIn (fileMap file))
 
 unfoldable pub caseOf : List ℕ → FileCase
-caseOf file = caseFrom (fieldsOf file .value file 2)
+caseOf file = caseFrom (rateBytesIn (fileMap file)) (fieldsOf file .value file 2)
 
 -- what a field that is absent, or there, says of the case
 pub record Agrees (p : Present) (k : FileCase) : Type 0 where

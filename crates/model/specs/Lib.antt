@@ -1,4 +1,4 @@
--- Document 01 as definitions, a file a section, in its order; Saving, Rolling, Bisection and Months are requests One, Two, Three and Five of document 02. All of it has to be believed, except what is in inner.
+-- Document 01 as definitions, a file a section, in its order; Saving, Rolling, Bisection, Months and FourBytes are requests One, Two, Three, Five and Six of document 02. All of it has to be believed, except what is in inner.
 pub mod Constants
 pub mod Numbers
 pub mod Case
@@ -19,6 +19,7 @@ pub mod Demand3
 pub mod Buffers
 pub mod Rolling
 pub mod Months
+pub mod FourBytes
 pub mod Window
 pub mod Listing
 pub mod inner

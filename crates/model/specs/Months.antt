@@ -12,7 +12,7 @@ use Rattle.model.specs.Numbers.{bytesOf, table}
 use Rattle.model.specs.Case.{FileCase, withUfr}
 use Rattle.model.specs.Fields.{Check, Fixed, several, rightAll, withinZ}
 use Rattle.model.specs.Layout.{rate, stands, fileMap, caseOf}
-use Rattle.model.specs.Refusals.{firstOf, checks, daysAt}
+use Rattle.model.specs.Refusals.{firstOf, checks, ufrEnd}
 use Rattle.model.specs.Curve.{natural}
 use Rattle.model.specs.Buffers as Buffers
 use Rattle.model.specs.Buffers.{buffersCheck, factorEntries, rateEntries, written, answered, valuationOf}
@@ -119,7 +119,7 @@ monthsRatesAfter file history start factors rates =
 unfoldable pub withUfrField : ℕ → List ℕ → List ℕ
 withUfrField ufr file =
     let map = fileMap file in
-    bytesOf 2 (cond (stands 0 map) map (map + 1)) ++ bytesOf 2 ufr ++ drop (daysAt file) file
+    bytesOf 2 (cond (stands 0 map) map (map + 1)) ++ bytesOf 2 ufr ++ drop (ufrEnd file) file
 
 -- the valuation is that of the file with the UFR found in its field: the answer, and what the two lent buffers hold afterwards
 pub record ValuedWithField (file history : List ℕ) (start : ℕ) (factors : List ℕ) (rates : List ℤ) : Type 0 where

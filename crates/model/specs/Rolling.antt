@@ -23,7 +23,7 @@ use Rattle.model.specs.declared.rolling.ChangedWindow.{ChangedWindow}
 
 -- ---- what a window holds
 
--- "keeps up to 70 days"
+-- "keeps up to 70 days"; request Six: "The rolling window stays with two-byte days."
 abbrev pub windowDays : ℕ
 windowDays = 70
 
@@ -60,7 +60,7 @@ equalZ y z = leZ y z && leZ z y
 unfoldable pub windowRight : RollingWindow → Bool
 windowRight w =
     leb (w .count) windowDays && ltb (w .start) windowDays
-    && rightAll day (daysHeld w)
+    && rightAll (day 2) (daysHeld w)
     && every (λ i. equalZ (getD (w .sums) i (pos 0)) (s (daysHeld w) (suc i))) lastMarketTerm
 
 -- ---- a day added, and the oldest dropped
@@ -68,7 +68,7 @@ windowRight w =
 -- "27 .. ahead of all"; "15 for a day added to a window of 70, before its rates are looked at"; "Adding checks the day's 60 rates against
 -- the limits of refusal 5."
 unfoldable pub addRefusal : RollingWindow → List ℤ → ℕ
-addRefusal w new = firstOf ((windowRight w, 27) ∷ (ltb (w .count) windowDays, 15) ∷ (day .right new, 5) ∷ [])
+addRefusal w new = firstOf ((windowRight w, 27) ∷ (ltb (w .count) windowDays, 15) ∷ (day 2 .right new, 5) ∷ [])
 
 -- "16 for a drop from an empty window"
 unfoldable pub dropRefusal : RollingWindow → ℕ
@@ -125,7 +125,7 @@ changedBy w (c ∷ cs) = changedBy (change w c) cs
 -- "the days added and not dropped, oldest first", as a plain list: a day goes behind the last, if fewer than 70 are there and its rates
 -- are within the limits; a drop takes the first
 abbrev pub queue : List (List ℤ) → Change → List (List ℤ)
-queue days (add new) = cond (ltb (length days) windowDays && day .right new) (days ++ (new ∷ [])) days
+queue days (add new) = cond (ltb (length days) windowDays && day 2 .right new) (days ++ (new ∷ [])) days
 queue days dropOldest = drop 1 days
 
 unfoldable pub queuedBy : List (List ℤ) → List Change → List (List ℤ)
@@ -150,17 +150,17 @@ windowRefusal w k factors rates =
     ∷ buffersCheck factors rates
     ∷ (caseChecks k ++ ((ltb 0 (w .count), 4) ∷ (forwardsRight (w .count) (daysHeld w), 6) ∷ [])))
 
--- "valued with an accepted case's other fields"
+-- "valued with an accepted case's other fields", whichever days field that case has
 unfoldable pub windowValuation : RollingWindow → FileCase → ℕ → ℕ → Valuation
-windowValuation w k factors rates = answered (windowRefusal w k factors rates) (withDays (daysHeld w) k)
+windowValuation w k factors rates = answered (windowRefusal w k factors rates) (withDays 2 (daysHeld w) k)
 
 unfoldable pub windowFactorsAfter : RollingWindow → FileCase → List ℕ → List ℤ → List ℕ
 windowFactorsAfter w k factors rates =
-    written (windowRefusal w k (length factors) (length rates)) (factorEntries (withDays (daysHeld w) k)) factors
+    written (windowRefusal w k (length factors) (length rates)) (factorEntries (withDays 2 (daysHeld w) k)) factors
 
 unfoldable pub windowRatesAfter : RollingWindow → FileCase → List ℕ → List ℤ → List ℤ
 windowRatesAfter w k factors rates =
-    written (windowRefusal w k (length factors) (length rates)) (rateEntries (withDays (daysHeld w) k)) rates
+    written (windowRefusal w k (length factors) (length rates)) (rateEntries (withDays 2 (daysHeld w) k)) rates
 
 -- "gives what the file with these days gives": the answer, and what the two lent buffers hold afterwards
 pub record ValuedAsFile (w : RollingWindow) (k : FileCase) (file factors : List ℕ) (rates : List ℤ) : Type 0 where

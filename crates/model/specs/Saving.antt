@@ -6,7 +6,7 @@ use lib.Dec.{leb, ltb, eqb}
 use lib.ListN.{length, take, drop}
 use lib.IntN.{ℤ}
 use Rattle.model.specs.Constants.{defaultUfr, lastMarketTerm}
-use Rattle.model.specs.Case.{FileCase}
+use Rattle.model.specs.Case.{FileCase, knownForm, perStep}
 use Rattle.model.specs.Fields.{Check}
 use Rattle.model.specs.Layout.{amountsInOrder, Present, layout, partsOf, fileOf}
 use Rattle.model.specs.Refusals.{firstOf, forwardsRight}
@@ -14,7 +14,8 @@ use Rattle.model.specs.declared.case.CaseFields.{CaseFields}
 use Rattle.model.specs.declared.saved.Saved.{Saved}
 use Rattle.model.specs.declared.saved.Saved.the-variants.{Written, Refused}
 
--- ---- a case as a host hands it in: the fields that are no lists, and the rates, the pension flows and the bond flows as lists
+-- ---- a case as a host hands it in: the fields that are no lists, and the rates, the pension flows and the bond flows as lists. It says how
+-- many bytes a rate has, 2 or 4, and the rates are in the units of that days field.
 
 -- n days from the front of a list of rates
 abbrev pub daysIn : ℕ → List ℤ → List (List ℤ)
@@ -27,6 +28,7 @@ daysOf rates = cond (eqb (length rates % lastMarketTerm) 0) (daysIn (length rate
 
 abbrev pub given : CaseFields → List ℤ → List ℕ → List ℕ → FileCase
 given fields rates pension bonds = record {
+  rateBytes = fields .«rate_bytes»;
   ufr = fields .ufr;
   days = daysOf rates;
   pension = pension;
@@ -57,10 +59,12 @@ shortest k = fileOf (needed k) k
 -- ---- its checks
 
 -- "a case outside the limits gets document 01's number in its order": "each field in bit order ..; then 6". The fields are those of its
--- shortest file: without bond flows there is no count of them to check. The map and the lengths of a file (1, 2, 3) are no matter of a
--- case.
+-- shortest file: without bond flows there is no count of them to check. The lengths of a file (1, 2) are no matter of a case, and of its
+-- map (3) only which days field it has: a case whose rates have neither 2 nor 4 bytes has neither.
 unfoldable pub caseChecks : FileCase → List Check
-caseChecks k = layout (needed k) .limits (partsOf k) ++ ((forwardsRight (length (k .days)) (k .days), 6) ∷ [])
+caseChecks k =
+    (knownForm (k .rateBytes), 3)
+    ∷ (layout (k .rateBytes) (needed k) .limits (partsOf k) ++ ((forwardsRight (perStep k) (k .days), 6) ∷ []))
 
 unfoldable pub caseRefusal : FileCase → ℕ
 caseRefusal k = firstOf (caseChecks k)

@@ -41,17 +41,20 @@ pub struct People {
     pub mean_age: u64,
 }
 
-// The fields of a case that are no lists.
+// The fields of a case that are no lists. `rate_bytes` is 2 or 4: how many bytes a rate has in the file, and so in which units it is,
+// steps of 0.00001 or of 0.0000001.
 #[repr(C)]
 pub struct CaseFields {
+    pub rate_bytes: u64,
     pub ufr: u64,
     pub amounts: Amounts,
     pub shocks: Shocks,
     pub people: People,
 }
 
-// `sums` has P(t) of the terms 1 to 60: over the days, the sum of 100,000 and the rate in steps. `per_step` is what one rate step
-// adds to such a sum: it is added once a day, so it is the number of days. N, which is 1 in these units, is 100,000 times that.
+// `sums` has P(t) of the terms 1 to 60: over the days, the sum of 1 and the rate, in the units of the rates. `per_step` is what one rate
+// step adds to such a sum: the number of days, or 100 times that of rates of four bytes. N, which is 1 in these units, is 100,000 times
+// `per_step`.
 // Of `pension` and `bonds` the first `pension_count` and `bond_count` are flows, and the rest is 0.
 pub struct Case {
     pub ufr: u64,

@@ -14,8 +14,8 @@ use Rattle.model.specs.Numbers.{number, twosComplement}
 use Rattle.theory.proofs.acceptance.Runs.{values-last}
 use Rattle.theory.proofs.general.Differences.{Diff, again, diff-pos, diff-sum, diff-times, raised-diff, diff-raised}
 use Rattle.theory.proofs.months.Rotated.{total-append}
-use Rattle.scan.specs.inner.Sums.{raisedRate, rateRight}
-use Rattle.scan.proofs.rates.Integers.{raised, rate-is, within-raised}
+use Rattle.scan.specs.inner.Sums.{raisedTwo, rateRight}
+use Rattle.scan.proofs.rates.Integers.{raised-two, right-two, within-raised}
 use Rattle.scan.proofs.runs.Loops.{right-next}
 use Rattle.months.specs.declared.history.MonthsSum.{MonthsSum}
 use Rattle.months.specs.inner.Summed.{Summed}
@@ -27,19 +27,19 @@ unfolding total
 total-more xs x = total-append xs (x ∷ []) ∙ ap (λ z. total xs +ℤ z) (+ℤ-idr x)
 
 pub sum-next : {history : List ℕ} {i : ℕ} {held next : MonthsSum} (rate : ℕ) → Summed history i held
-    → rate ≡ raisedRate (number history (2 * i) 2) → rate ≤ 132767 → next .sum ≡ held .sum + rate
-    → next .within ≡ (held .within && rateRight rate) → Summed history (i + 1) next
+    → rate ≡ raisedTwo (number history (2 * i) 2) → rate ≤ 132767 → next .sum ≡ held .sum + rate
+    → next .within ≡ (held .within && rateRight 1 rate) → Summed history (i + 1) next
 sum-next {history} {i} {held} {next} rate h read most sum within =
     let v = number history (0 + 2 * i) 2 in
-    let e : rate ≡ raisedRate v = read ∙ ap (λ at. raisedRate (number history at 2)) (sym (zero-add (2 * i))) in
+    let e : rate ≡ raisedTwo v = read ∙ ap (λ at. raisedTwo (number history at 2)) (sym (zero-add (2 * i))) in
     let front = valueAll month history 0 i in
     let one : suc i ≡ i + 1 = omega arith in
     let is : total (valueAll month history 0 (i + 1)) ≡ total front +ℤ twosComplement 2 v =
     ap (λ n. total (valueAll month history 0 n)) (sym one) ∙ ap total (values-last month history 0 i) ∙ total-more front (twosComplement 2 v) in
     let more = diff-sum (total front) (twosComplement 2 v) (held .sum) (100000 * i) rate 100000
-    (raised-diff (total front) (held .sum) (100000 * i) (h .sum)) (rw e (raised v)) in
+    (raised-diff (total front) (held .sum) (100000 * i) (h .sum)) (rw e (raised-two v)) in
     record {
-      within = within ∙ right-next month history 0 i (h .within) (ap rateRight e ∙ rate-is v);
+      within = within ∙ right-next month history 0 i (h .within) (ap (rateRight 1) e ∙ right-two v);
       sum = diff-raised (total (valueAll month history 0 (i + 1))) (next .sum) (100000 * (i + 1))
           (rw is (again (total front +ℤ twosComplement 2 v) (held .sum + rate) (100000 * i + 100000) (next .sum) (100000 * (i + 1)) more (omega arith)));
       most = omega (arith, h .most);

@@ -10,7 +10,7 @@ use lib.Dec.{leb, lit<}
 use lib.IntN.{ℤ}
 use lib.ListN.{length, drop}
 use Rattle.model.specs.Buffers.{valuationRefusal}
-use Rattle.model.specs.Case.{FileCase, withUfr}
+use Rattle.model.specs.Case.{FileCase, perStep, withUfr}
 use Rattle.model.specs.Curve.{base, curve, P}
 use Rattle.model.specs.Held.{held}
 use Rattle.model.specs.Layout.{caseOf}
@@ -37,7 +37,7 @@ use Rattle.months.specs.inner.Changed.{changed}
 -- ---- the case with another UFR
 
 changed-held : (ufr : ℕ) (k : FileCase) → changed ufr (held k) ≡ held (withUfr ufr k)
-unfolding held
+unfolding held perStep
 changed-held ufr k =
     rw (table-same (λ i. P (curve k base) (suc i)) (λ i. P (curve (withUfr ufr k) base) (suc i)) 60 (λ i l. sym (ufr-P ufr k base (suc i))))
 

@@ -20,7 +20,7 @@ pub fn sum_months(history: &[u8]) -> MonthsSum
     while i < 120 {
         let month = rate_at(history, 2 * i);
         sum += month;
-        let right = rate_right(month);
+        let right = rate_right(month, 1);
         within = both(within, right);
         i += 1;
     }

@@ -7,8 +7,8 @@ use model::months::Ufr;
 use output::put;
 use output::put_number;
 
-// The longest acceptable file has 9,223 bytes, and a history 240: one byte more decides a refusal.
-const MOST_FILE: usize = 9224;
+// The longest acceptable file has 17,623 bytes, and a history 240: one byte more decides a refusal.
+const MOST_FILE: usize = 17624;
 
 const MOST_HISTORY: usize = 241;
 

@@ -13,8 +13,8 @@ use Rattle.model.specs.Rolling.{windowRight, addRefusal, dropRefusal, added, dr
 use Rattle.model.specs.declared.rolling.RollingWindow.{RollingWindow}
 
 -- a day of 60 rates is right if each of them is
-pub day-right : (new : List ℤ) → length new ≡ 60 → day .right new ≡ rightAll dailyRate new
-day-right new long = ap (λ b. b && rightAll dailyRate new) (eq-eqb (length new) 60 long)
+pub day-right : (new : List ℤ) → length new ≡ 60 → day 2 .right new ≡ rightAll (dailyRate 2) new
+day-right new long = ap (λ b. b && rightAll (dailyRate 2) new) (eq-eqb (length new) 60 long)
 
 module _ (w : RollingWindow) (new : List ℤ) where
   pub add-27 : windowRight w ≡ false → record { refusal = 27; window = w } ≡ addDay w new
@@ -25,11 +25,11 @@ module _ (w : RollingWindow) (new : List ℤ) where
   unfolding addDay addRefusal firstOf
   add-15 h l = rw (h, le-ltb (w .count) 70 l)
 
-  pub add-5 : windowRight w ≡ true → w .count < 70 → day .right new ≡ false → record { refusal = 5; window = w } ≡ addDay w new
+  pub add-5 : windowRight w ≡ true → w .count < 70 → day 2 .right new ≡ false → record { refusal = 5; window = w } ≡ addDay w new
   unfolding addDay addRefusal firstOf
   add-5 h l k = rw (h, lt-ltb (w .count) 70 l, k)
 
-  pub add-0 : windowRight w ≡ true → w .count < 70 → day .right new ≡ true → record { refusal = 0; window = added w new } ≡ addDay w new
+  pub add-0 : windowRight w ≡ true → w .count < 70 → day 2 .right new ≡ true → record { refusal = 0; window = added w new } ≡ addDay w new
   unfolding addDay addRefusal firstOf
   add-0 h l k = rw (h, lt-ltb (w .count) 70 l, k)
 

@@ -29,7 +29,7 @@ module _ (v w : Width) (z : ℤ) (f : SFits v z) (g : SFits w z) where
 pub widened : {z : ℤ} → SFits w16 z → SFits w32 z
 widened f = record { sfits = omega (arith, f .sfits) }
 
-pub rate-fits : (z : ℤ) → dailyRate .right z ≡ true → SFits w16 z
+pub rate-fits : (z : ℤ) → dailyRate 2 .right z ≡ true → SFits w16 z
 rate-fits (pos n) h = record { sfits = omega (arith, leb-true n 10000 h) }
 rate-fits (negsuc n) h = record { sfits = omega (arith, leb-true n 999 (and-first (leb n 999) true h)) }
 

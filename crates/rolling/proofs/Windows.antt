@@ -27,35 +27,35 @@ use Rattle.rolling.proofs.Stored.{oldest-first, first-within, without-f
 -- ---- a day more
 
 -- whether the day can be added is told by the sums with it
-pub with-new : (w : RollingWindow) (new : List ℤ) {held all : Sums} → length new ≡ 60 → held ≡ summed (daysHeld w) → all ≡ withDay held new
-    → all ≡ summed (daysHeld w ++ (new ∷ []))
-with-new w new whole e f = f ∙ ap (λ (r : Sums). withDay r new) e ∙ summed-more (daysHeld w) new whole
+pub with-new : (w : RollingWindow) (new : List ℤ) {held all : Sums} → length new ≡ 60 → held ≡ summed 2 (daysHeld w) → all ≡ withDay 2 held new
+    → all ≡ summed 2 (daysHeld w ++ (new ∷ []))
+with-new w new whole e f = f ∙ ap (λ (r : Sums). withDay 2 r new) e ∙ summed-more 2 (daysHeld w) new whole
 
-pub new-told : (w : RollingWindow) (new : List ℤ) {all : Sums} → windowRight w ≡ true → all ≡ summed (daysHeld w ++ (new ∷ []))
-    → all .within ≡ day .right new
+pub new-told : (w : RollingWindow) (new : List ℤ) {all : Sums} → windowRight w ≡ true → all ≡ summed 2 (daysHeld w ++ (new ∷ []))
+    → all .within ≡ day 2 .right new
 unfolding summed
 new-told w new right is =
-    ap (λ (r : Sums). r .within) is ∙ right-more day (daysHeld w) new ∙ ap (λ b. b && day .right new) (right-facts w right .days)
+    ap (λ (r : Sums). r .within) is ∙ right-more (day 2) (daysHeld w) new ∙ ap (λ b. b && day 2 .right new) (right-facts w right .days)
 
 module _ (w : RollingWindow) (new : List ℤ) {all : Sums} (room : w .count < 70) (within : all .within ≡ true)
-    (is : all ≡ summed (daysHeld w ++ (new ∷ []))) where
+    (is : all ≡ summed 2 (daysHeld w ++ (new ∷ []))) where
   abbrev more : List (List ℤ)
   more = daysHeld w ++ (new ∷ [])
 
   more-count : length more ≡ w .count + 1
   more-count = length-append (daysHeld w) (new ∷ []) ∙ omega (arith, held-count w)
 
-  more-right : rightAll day more ≡ true
+  more-right : rightAll (day 2) more ≡ true
   unfolding summed
   more-right = ap (λ (r : Sums). r .within) (sym is) ∙ within
 
-  pub new-right : rightAll dailyRate new ≡ true
+  pub new-right : rightAll (dailyRate 2) new ≡ true
   new-right =
-      let last = and-second (rightAll day (daysHeld w)) (day .right new) (sym (right-more day (daysHeld w) new) ∙ more-right) in
-      and-second (eqb (length new) 60) (rightAll dailyRate new) last
+      let last = and-second (rightAll (day 2) (daysHeld w)) (day 2 .right new) (sym (right-more (day 2) (daysHeld w) new) ∙ more-right) in
+      and-second (eqb (length new) 60) (rightAll (dailyRate 2) new) last
 
   pub all-most : EachAtMost 7700000 (all .sums)
-  all-most = rw is (summed-most more 7700000 (omega (arith, more-count)))
+  all-most = rw is (summed-most 2 more 7700000 (omega (arith, more-count)))
 
   pub window-added : {at : ℕ} {rates stored : List ℤ} → at ≡ slot 70 (w .start) (w .count) → rates ≡ withDayIn (w .rates) at new
       → stored ≡ table (λ t. storedSum (getD (all .sums) t 0) (100000 * (w .count + 1))) 60
@@ -72,34 +72,34 @@ module _ (w : RollingWindow) (new : List ℤ) {all : Sums} (room : w .count < 70
 -- ---- the oldest less
 
 module _ (w : RollingWindow) {held : Sums} {oldest : List ℤ} (right : windowRight w ≡ true) (some : 0 < w .count)
-    (is : held ≡ summed (daysHeld w)) (out : oldest ≡ dayIn (w .rates) (w .start)) where
+    (is : held ≡ summed 2 (daysHeld w)) (out : oldest ≡ dayIn (w .rates) (w .start)) where
   abbrev rest : List (List ℤ)
   rest = drop 1 (daysHeld w)
 
   parted : daysHeld w ≡ oldest ∷ rest
   parted = oldest-first w some (right-facts w right .start) ∙ ap (λ (d : List ℤ). d ∷ rest) (sym out)
 
-  held-parted : held ≡ summed (oldest ∷ rest)
-  held-parted = is ∙ ap summed parted
+  held-parted : held ≡ summed 2 (oldest ∷ rest)
+  held-parted = is ∙ ap (summed 2) parted
 
   rest-count : length rest ≡ w .count - 1
   rest-count = length-drop 1 (daysHeld w) ∙ omega (arith, held-count w)
 
-  rest-right : rightAll day rest ≡ true
-  rest-right = and-second (day .right oldest) (rightAll day rest) (ap (rightAll day) (sym parted) ∙ right-facts w right .days)
+  rest-right : rightAll (day 2) rest ≡ true
+  rest-right = and-second (day 2 .right oldest) (rightAll (day 2) rest) (ap (rightAll (day 2)) (sym parted) ∙ right-facts w right .days)
 
   pub oldest-within : EachAtLeast oldest (held .sums)
   oldest-within = rw held-parted (first-within oldest rest)
 
-  module _ {less : List ℕ} (taken : less ≡ table (λ t. getD (held .sums) t 0 - raisedOr (getD oldest t (pos 0))) 60) where
-    less-is : less ≡ summed rest .sums
+  module _ {less : List ℕ} (taken : less ≡ table (λ t. getD (held .sums) t 0 - raisedOr 1 (getD oldest t (pos 0))) 60) where
+    less-is : less ≡ summed 2 rest .sums
     less-is =
         taken
-        ∙ ap (λ (r : Sums). table (λ t. getD (r .sums) t 0 - raisedOr (getD oldest t (pos 0))) 60) held-parted
+        ∙ ap (λ (r : Sums). table (λ t. getD (r .sums) t 0 - raisedOr 1 (getD oldest t (pos 0))) 60) held-parted
         ∙ without-first oldest rest
 
     pub less-most : EachAtMost 7700000 less
-    less-most = rw less-is (summed-most rest 7700000 (omega (arith, rest-count, right-facts w right .count)))
+    less-most = rw less-is (summed-most 2 rest 7700000 (omega (arith, rest-count, right-facts w right .count)))
 
     pub window-dropped : {next : ℕ} {stored : List ℤ} → next ≡ slot 70 (w .start) 1
         → stored ≡ table (λ t. storedSum (getD less t 0) (100000 * (w .count - 1))) 60

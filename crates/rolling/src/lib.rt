@@ -36,7 +36,7 @@ pub fn empty() -> RollingWindow
 // Whether the window is right, else 27; and if it is, the sums of the days held.
 pub fn check(w: RollingWindow) -> Sums
     ensures { λ r. ⌜ r .within ≡ windowRight w ⌝ }
-    ensures sums { λ r. ⌜ (r .within ≡ true → r ≡ summed (daysHeld w)) ⌝ }
+    ensures sums { λ r. ⌜ (r .within ≡ true → r ≡ summed 2 (daysHeld w)) ⌝ }
 {
     let none = Sums {
         within: false,
@@ -61,7 +61,7 @@ pub fn check(w: RollingWindow) -> Sums
 
 // The window with the day behind the newest; `all` are the sums of all its days then.
 fn with_day(w: RollingWindow, day: Day, all: Sums) -> RollingWindow
-    requires { ⌜ (windowRight w ≡ true) × (w .count < 70) × (all .within ≡ true) × (all ≡ summed (daysHeld w ++ (day .rates ∷ []))) ⌝ }
+    requires { ⌜ (windowRight w ≡ true) × (w .count < 70) × (all .within ≡ true) × (all ≡ summed 2 (daysHeld w ++ (day .rates ∷ []))) ⌝ }
     ensures { λ r. ⌜ r ≡ added w (day .rates) ⌝ }
 {
     let count = w.count as usize;
@@ -81,7 +81,7 @@ fn with_day(w: RollingWindow, day: Day, all: Sums) -> RollingWindow
 
 // The window without its oldest day; `held` are the sums of all its days.
 fn without_day(w: RollingWindow, held: Sums) -> RollingWindow
-    requires { ⌜ (windowRight w ≡ true) × (0 < w .count) × (held ≡ summed (daysHeld w)) ⌝ }
+    requires { ⌜ (windowRight w ≡ true) × (0 < w .count) × (held ≡ summed 2 (daysHeld w)) ⌝ }
     ensures { λ r. ⌜ r ≡ dropped w ⌝ }
 {
     let start = w.start as usize;
@@ -118,7 +118,7 @@ pub fn add_day(w: RollingWindow, day: Day) -> ChangedWindow
         };
     }
     let rates = day.rates;
-    let all = add_rates(held, rates);
+    let all = add_rates(held, rates, 2);
     if !all.within {
         return ChangedWindow {
             refusal: 5,

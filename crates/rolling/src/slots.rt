@@ -31,7 +31,7 @@ pub fn day_in(rates: &[i16], at: usize) -> [i32; 60]
 
 // A day within the limits of refusal 5, written into a slot. Its rates then fit into 16 bits.
 pub fn put_day(rates: &mut [i16], at: usize, day: [i32; 60])
-    requires { ⌜ (at < 70) × (length (now rates) ≡ 4200) × (rightAll dailyRate day ≡ true) ⌝ }
+    requires { ⌜ (at < 70) × (length (now rates) ≡ 4200) × (rightAll (dailyRate 2) day ≡ true) ⌝ }
     ensures { λ _. ⌜ now (rates .exit) ≡ withDayIn (now (rates .entry)) at day ⌝ }
 {
     let mut t: usize = 0;

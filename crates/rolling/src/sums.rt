@@ -20,7 +20,7 @@ ghost use Rattle.rolling.specs.inner.Ring.{heldIn, storedSum, EachAtLeas
 // The sums of the `count` days from the slot `start` on.
 pub fn sum_held(rates: &[i16], start: usize, count: usize) -> Sums
     requires { ⌜ (start < 70) × (count ≤ 70) × (length (now rates) ≡ 4200) ⌝ }
-    ensures { λ r. ⌜ r ≡ summed (heldIn (now (rates .entry)) start count) ⌝ }
+    ensures { λ r. ⌜ r ≡ summed 2 (heldIn (now (rates .entry)) start count) ⌝ }
 {
     let mut r = Sums {
         within: true,
@@ -29,7 +29,7 @@ pub fn sum_held(rates: &[i16], start: usize, count: usize) -> Sums
     let mut i: usize = 0;
     while i < count {
         let day = day_in(rates, slot_of(start, i));
-        r = add_day(r, day);
+        r = add_day(r, day, 2);
         i += 1;
     }
     r
@@ -38,7 +38,7 @@ pub fn sum_held(rates: &[i16], start: usize, count: usize) -> Sums
 // The sums without a day that is among the days summed.
 pub fn sums_without(sums: [u64; 60], day: [i32; 60]) -> [u64; 60]
     requires { ⌜ EachAtLeast day sums ⌝ }
-    ensures { λ r. ⌜ r ≡ table (λ t. getD sums t 0 - raisedOr (getD day t (pos 0))) 60 ⌝ }
+    ensures { λ r. ⌜ r ≡ table (λ t. getD sums t 0 - raisedOr 1 (getD day t (pos 0))) 60 ⌝ }
 {
     let mut out = sums;
     let mut t: usize = 0;

@@ -4,11 +4,12 @@ use Prim.Native.Nat.{ℕ, zero, suc, _*_, _<_}
 use mathlib.Core.Path.{_≡_, ap, ap₂, sym, _∙_, subst}
 use mathlib.Core.Bool.{true}
 use mathlib.Core.List.{List, _++_}
+use native.Mathlib.Nat.{one-mul}
 use native.Mathlib.Omega.{arith}
 use lib.ListN.{length, getD, drop}
-use lib.IntN.{ℤ}
-use Rattle.model.specs.Case.{FileCase, withDays, s}
-use Rattle.model.specs.Curve.{base, curve, P}
+use lib.IntN.{ℤ, pos, _+ℤ_}
+use Rattle.model.specs.Case.{FileCase, perStep, withDays, s}
+use Rattle.model.specs.Curve.{base, curve, natural, P}
 use Rattle.model.specs.Held.{held}
 use Rattle.model.specs.Limits.{WithinLimits}
 use Rattle.model.specs.Numbers.{every, table}
@@ -39,24 +40,28 @@ use Rattle.theory.proofs.rolling.Valued.{is-right, within-limits}
 
 -- ---- the sums of the days held
 
-module _ (w : RollingWindow) (right : windowRight w ≡ true) {held : Sums} (is : held ≡ summed (daysHeld w)) where
+module _ (w : RollingWindow) (right : windowRight w ≡ true) {held : Sums} (is : held ≡ summed 2 (daysHeld w)) where
   sum-diff : (t : ℕ) → t < 60 → Diff (s (daysHeld w) (suc t)) (getD (held .sums) t 0) (100000 * length (daysHeld w))
-  sum-diff t l = rw is (summed-diff (daysHeld w) t l (right-facts w right .days))
+  sum-diff t l = rw is (rw one-mul at (summed-diff 2 (daysHeld w) t l (right-facts w right .days)))
 
-  pub sums-most : EachAtMost 33855585 (held .sums)
-  sums-most = rw is (summed-most (daysHeld w) 33855585 (omega (arith, held-count w, right-facts w right .count)))
+  pub sums-most : EachAtMost 1095216660225 (held .sums)
+  sums-most = rw is (summed-most 2 (daysHeld w) 1095216660225 (omega (arith, held-count w, right-facts w right .count)))
 
   -- refusal 6 by them
   pub forwards-held : every (forwardRight (held .sums) (w .count)) 60 ≡ forwardsRight (w .count) (daysHeld w)
   forwards-held = forwards-are (daysHeld w) (w .count) (held .sums) (λ t l. rw held-count at (sum-diff t l))
 
   -- P(t)
-  pub sums-curve : (k : FileCase) → held .sums ≡ table (λ t. P (curve (withDays (daysHeld w) k) base) (suc t)) 60
+  pub sums-curve : (k : FileCase) → held .sums ≡ table (λ t. P (curve (withDays 2 (daysHeld w) k) base) (suc t)) 60
+  unfolding perStep
   sums-curve k =
       let days = daysHeld w in
-      sym (table-of (held .sums) 60 0 (ap (λ (r : Sums). length (r .sums)) is ∙ summed-length days))
-      ∙ table-same (λ t. getD (held .sums) t 0) (λ t. P (curve (withDays days k) base) (suc t)) 60
-      (λ t l. sym (natural-raised (s days (suc t)) (getD (held .sums) t 0) (100000 * length days) (sum-diff t l)) ∙ base-sum (withDays days k) t)
+      let step : length days ≡ perStep (withDays 2 days k) = sym (one-mul (length days)) in
+      sym (table-of (held .sums) 60 0 (ap (λ (r : Sums). length (r .sums)) is ∙ summed-length 2 days))
+      ∙ table-same (λ t. getD (held .sums) t 0) (λ t. P (curve (withDays 2 days k) base) (suc t)) 60
+      (λ t l.
+      sym (natural-raised (s days (suc t)) (getD (held .sums) t 0) (100000 * length days) (sum-diff t l))
+      ∙ ap (λ u. natural (pos (100000 * u) +ℤ s days (suc t))) step ∙ base-sum (withDays 2 days k) t)
 
 -- ---- the valuation
 
@@ -65,7 +70,7 @@ module _ (w : RollingWindow) (f : CaseFields) (own : List ℤ) (pension bonds : 
   k = given f own pension bonds
 
   abbrev valued : FileCase
-  valued = withDays (daysHeld w) k
+  valued = withDays 2 (daysHeld w) k
 
   -- the contract of `value_window`: the answer, and both buffers at the end
   abbrev pub Meets : Valuation → List ℕ → List ℤ → Type 0
@@ -78,16 +83,16 @@ module _ (w : RollingWindow) (f : CaseFields) (own : List ℤ) (pension bonds : 
   refused-window zero e l = let never : ⊥ = omega arith in absurd never
   refused-window (suc n) e l = (rw (sym e), (rw (sym e), rw (sym e)))
 
-  module _ (none : windowRefusal w k (length f₀) (length z₀) ≡ 0) {sums : Sums} {case : Case} (is : sums ≡ summed (daysHeld w))
+  module _ (none : windowRefusal w k (length f₀) (length z₀) ≡ 0) {sums : Sums} {case : Case} (is : sums ≡ summed 2 (daysHeld w))
       (made : case ≡ joined f (w .count) (sums .sums) pension bonds) where
     limits : WithinLimits valued
     limits = within-limits w k (length f₀) (length z₀) none
 
     case-holds : case ≡ held valued
-    unfolding held
+    unfolding held perStep
     case-holds =
         made
-        ∙ ap₂ (λ (n : ℕ) (xs : List ℕ). joined f n xs pension bonds) (sym (held-count w))
+        ∙ ap₂ (λ (n : ℕ) (xs : List ℕ). joined f n xs pension bonds) (sym (held-count w) ∙ sym (one-mul (length (daysHeld w))))
         (sums-curve w (is-right w k (length f₀) (length z₀) none) is k)
 
     pub case-fits : CaseFits case

@@ -29,7 +29,7 @@ fn refusal(
     factors: usize,
     rates: usize,
 ) -> u8
-    requires { ⌜ (held .within ≡ windowRight w) × (held .within ≡ true → held ≡ summed (daysHeld w)) ⌝ }
+    requires { ⌜ (held .within ≡ windowRight w) × (held .within ≡ true → held ≡ summed 2 (daysHeld w)) ⌝ }
     ensures { λ r. ⌜
         r ≡ windowRefusal w (given f (now («case_rates» .entry)) (now (pension .entry)) (now (bonds .entry))) factors rates
         ⌝ }

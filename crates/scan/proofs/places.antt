@@ -1,2 +1,3 @@
 -- Laws of the places.
 pub mod Bounds
+pub mod EitherPlace

@@ -4,8 +4,8 @@ use libc::STDOUT_FILENO;
 ghost use lib.ListN.{length};
 ghost use Rattle.valuation.specs.Input.{AtMost};
 
-// The longest acceptable file has 9,223 bytes. So the first 9,224 decide, also what comes before refusal 2.
-const MOST_BYTES: usize = 9224;
+// The longest acceptable file has 17,623 bytes. So the first 17,624 decide, also what comes before refusal 2.
+const MOST_BYTES: usize = 17624;
 
 // What reading the input gave: how many bytes it has, up to MOST_BYTES, or that a read failed.
 enum Input {

@@ -2,8 +2,8 @@
 use Prim.Native.Nat.{ℕ, zero, suc, _≤_, _<_}
 use mathlib.Core.Path.{_≡_, refl, sym, _∙_}
 use native.Mathlib.Omega.{arith}
-use lib.ListN.{length, getD}
-use Rattle.model.specs.Case.{FileCase}
+use lib.ListN.{getD}
+use Rattle.model.specs.Case.{FileCase, perStep}
 use Rattle.model.specs.Limits.{WithinLimits}
 use Rattle.model.specs.Curve.{Move, base, curve, P}
 use Rattle.model.specs.inner.Shifts.{added, taken}
@@ -11,7 +11,7 @@ use Rattle.model.specs.Held.{held}
 use Rattle.model.specs.Rounded as Rounded
 use Rattle.theory.proofs.general.Lists.{getD-table}
 use Rattle.model.specs.inner.CurveWithin.{CurveWithin, BaseWithin}
-use Rattle.theory.proofs.curve.CaseCurves.{N-is, ufr-is, P-zero, P-shifted, curve-within, base-within}
+use Rattle.theory.proofs.curve.CaseCurves.{N-is, ufr-is, P-zero, P-shifted, per-step-most, curve-within, base-within}
 use Rattle.curve.specs.inner.Shifted.{shiftedSum, shiftedSums, movedSums, curveHeld}
 use Rattle.curve.proofs.Curves.{N-of, ufr-of, P-of}
 use Rattle.theory.proofs.curve.Agree.{Agree, agree-back, same-factors, same-within, same-base}
@@ -19,7 +19,7 @@ use Rattle.theory.proofs.curve.Agree.{Agree, agree-back, same-factors, same-wit
 -- ---- the curves of a case
 module _ (k : FileCase) (w : WithinLimits k) where
   -- ---- the case as the engine holds it
-  held-per-step : held k .«per_step» ≡ length (k .days)
+  held-per-step : held k .«per_step» ≡ perStep k
   unfolding held
   held-per-step = refl
 
@@ -43,7 +43,7 @@ module _ (k : FileCase) (w : WithinLimits k) where
 
   -- ---- what is cited of it
   pub held-per-step-most : held k .«per_step» ≤ 7000
-  held-per-step-most = omega (arith, held-per-step, w .days .most)
+  held-per-step-most = omega (arith, held-per-step, per-step-most k w)
 
   pub held-curve-within : (m : Move) → CurveWithin (curveHeld (held k) m)
   held-curve-within m = same-within (curve k m) (curveHeld (held k) m) (agree-back _ _ (held-agree m)) (curve-within k w m)

@@ -1,18 +1,21 @@
 -- What `save` has to answer, and what the buffer holds afterwards: where the case is refused, where the buffer is too short, and where
 -- the bytes were written.
 use mathlib.Core.Path.{_≡_, refl, ap, sym, _∙_}
+use mathlib.Core.Bool.{true}
 use mathlib.Core.List.{List}
-use Prim.Native.Nat.{ℕ, zero, suc, _≤_, _<_}
+use Prim.Native.Nat.{ℕ, zero, suc, _*_, _^_, _≤_, _<_}
+use lib.Dec.{lit<}
 use native.Mathlib.Nat.{le-refl}
 use native.Mathlib.Omega.{arith}
 use lib.ListN.{length}
 use lib.IntN.{ℤ}
-use Rattle.model.specs.Case.{FileCase}
+use Rattle.model.specs.Case.{FileCase, knownForm, unitsPerStep}
 use Rattle.model.specs.Layout.{Present, fileOf}
 use Rattle.model.specs.Saving.{daysOf, given, needed, shortest, caseRefusal, saveRefusal, saveAnswer, savedAfter}
 use Rattle.model.specs.declared.case.CaseFields.{CaseFields}
 use Rattle.model.specs.declared.saved.Saved.{Saved}
 use Rattle.model.specs.declared.saved.Saved.the-variants.{Written, Refused}
+use Rattle.theory.proofs.acceptance.Form.{by-form}
 use Rattle.theory.proofs.acceptance.Within.{days-limited}
 use Rattle.theory.proofs.saving.Saved.{case-within, refused-first, saved-fits, saved-too-long}
 use Rattle.output.specs.inner.Wrote.{Wrote}
@@ -46,19 +49,24 @@ module _ (f : CaseFields) (rates : List ℤ) (pension bonds : List ℕ) (r : ℕ
   accepted : caseRefusal case ≡ 0
   accepted = sym told ∙ none
 
-  pub right-days : RightDays rates
+  pub known : knownForm (f .«rate_bytes») ≡ true
+  known = case-within case accepted .form
+
+  pub right-days : RightDays (f .«rate_bytes») rates
   right-days =
+      let w = f .«rate_bytes» in
       let days = case-within case accepted .days in
-      record { some = days .some; right = days-limited .tested (daysOf rates) (days .some, days .most, days .each) .1 .0 }
+      let fits = by-form (λ (v : ℕ). 20000 * unitsPerStep v < 256 ^ v) w known (lit< tt) (lit< tt) in
+      record { some = days .some; right = days-limited w fits .tested (daysOf rates) (days .some, days .most, days .each) .1 .0 }
 
   pub few : (length rates ≤ 4200) × (length pension ≤ 120) × (length bonds ≤ 60)
   few =
       let within = case-within case accepted in
-      (omega (arith, rates-count rates (right-days .some), within .days .most), within .mostPension, within .mostBonds)
+      (omega (arith, rates-count (f .«rate_bytes») rates (right-days .some), within .days .most), within .mostPension, within .mostBonds)
 
   module _ (held : List ℕ) (p : Included) (is : presentOf p ≡ needed case) where
     abbrev size : ℕ
-    size = savedLength p (length rates) (length pension) (length bonds)
+    size = savedLength (f .«rate_bytes») p (length rates) (length pension) (length bonds)
 
     bytes-are : fileOf (presentOf p) case ≡ shortest case
     unfolding shortest

@@ -33,23 +33,33 @@ fn if_there(there: bool, n: usize) -> usize
     if there { n } else { 0 }
 }
 
-// Bits 1, 2, 5 and 6, which always stand, and those of the optional fields.
-pub fn map_of(p: Included) -> u64
-    ensures { λ r. ⌜ r ≡ mapOf (presentOf p) ⌝ }
+// Bits 2, 5 and 6, which always stand, that of the days field, and those of the optional fields.
+pub fn map_of(rate_bytes: u64, p: Included) -> u64
+    ensures { λ r. ⌜ r ≡ mapOf «rate_bytes» (presentOf p) ⌝ }
 {
     let ufr = if_there(p.ufr, 1);
+    let short_days = if_there(rate_bytes == 2, 2);
     let bonds = if_there(p.bonds, 8);
     let amounts = if_there(p.amounts, 16);
-    (102 + ufr + bonds + amounts) as u64
+    let long_days = if_there(rate_bytes == 4, 128);
+    (100 + ufr + short_days + bonds + amounts + long_days) as u64
 }
 
 // The length by the numbers of rates, of pension flows and of bond flows.
-pub fn saved_length(p: Included, rates: usize, pension: usize, bonds: usize) -> usize
+pub fn saved_length(
+    rate_bytes: u64,
+    p: Included,
+    rates: usize,
+    pension: usize,
+    bonds: usize,
+) -> usize
     requires { ⌜ (rates ≤ 4200) × (pension ≤ 120) × (bonds ≤ 60) ⌝ }
-    ensures { λ r. ⌜ r ≡ savedLength p rates pension bonds ⌝ }
+    ensures { λ r. ⌜ r ≡ savedLength «rate_bytes» p rates pension bonds ⌝ }
 {
     let ufr = if_there(p.ufr, 2);
+    let short_days = if_there(rate_bytes == 2, 1 + 2 * rates);
     let bond_flows = if_there(p.bonds, 1 + 4 * bonds);
     let amounts = if_there(p.amounts, 64);
-    2 + ufr + (1 + 2 * rates) + (1 + 4 * pension) + bond_flows + amounts + 24 + 8
+    let long_days = if_there(rate_bytes == 4, 1 + 4 * rates);
+    2 + ufr + (short_days + (1 + 4 * pension) + bond_flows) + (amounts + 24 + 8) + long_days
 }

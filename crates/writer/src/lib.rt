@@ -26,7 +26,7 @@ pub fn save(f: CaseFields, rates: &[i32], pension: &[u64], bonds: &[u64], out: &
         return Saved::Refused(refusal);
     }
     let p = needed(f, bonds);
-    let length = saved_length(p, rates.len(), pension.len(), bonds.len());
+    let length = saved_length(f.rate_bytes, p, rates.len(), pension.len(), bonds.len());
     if out.len() < length {
         return Saved::Refused(14);
     }

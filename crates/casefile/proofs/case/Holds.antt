@@ -2,18 +2,25 @@
 use mathlib.Core.Path.{_≡_, refl, ap, ap₂, sym, _∙_}
 use mathlib.Core.Bool.{Bool, true, false, cond}
 use mathlib.Core.List.{List, []}
-use Prim.Native.Nat.{ℕ, _+_}
+use Prim.Native.Nat.{ℕ, suc, _+_, _*_, _<_}
 use lib.ListN.{length, getD}
-use Rattle.model.specs.Numbers.{table}
-use Rattle.model.specs.Fields.{valueAll}
+use lib.IntN.{pos, _+ℤ_}
+use Rattle.model.specs.Case.{unitsPerStep, perStep, s}
+use Rattle.model.specs.Curve.{base, curve, natural, P}
+use Rattle.model.specs.Fields.{valueAll, rightAll}
 use Rattle.model.specs.Layout.{day, flow, caseOf}
-use Rattle.model.specs.Refusals.{daysAt, dayCount}
+use Rattle.model.specs.Refusals.{refusal, ufrEnd, daysAt, dayCount}
 use Rattle.model.specs.Held.{padded, held}
+use Rattle.theory.proofs.acceptance.Acceptance.{rates-right}
+use Rattle.theory.proofs.acceptance.Form.{days-read, step-read}
 use Rattle.theory.proofs.acceptance.Runs.{values-length}
+use Rattle.theory.proofs.general.Lists.{getD-table, table-same}
 use Rattle.theory.proofs.curve.CaseCurves.{base-sum}
 use Rattle.model.specs.inner.Positions.{present, pensionAt, pensionCount, bondsAt, bondCount}
 use Rattle.scan.specs.inner.Found.{Found}
-use Rattle.scan.specs.inner.Sums.{daysFrom, sumAt, Summed}
+use Rattle.scan.specs.inner.Sums.{daysFrom, Summed}
+use Rattle.scan.proofs.rates.Days.{sums-are}
+use Rattle.scan.proofs.rates.Integers.{natural-raised}
 use Rattle.scan.specs.declared.places.Places.{Places}
 use Rattle.scan.specs.declared.rates.Sums.{Sums}
 
@@ -25,20 +32,16 @@ absent-flows file at false = refl
 
 module _ (file : List ℕ) where
   bonds-are : valueAll flow file (bondsAt file + 1) (bondCount file) ≡ caseOf file .bonds
-  unfolding caseOf bondCount bondsAt pensionAt daysAt
+  unfolding caseOf bondCount bondsAt pensionAt ufrEnd
   bonds-are = absent-flows file (bondsAt file) (present file .bonds)
 
-  days-are : daysFrom file (daysAt file + 1) (dayCount file) ≡ caseOf file .days
-  unfolding caseOf daysAt dayCount
-  days-are = refl
-
   pension-are : valueAll flow file (pensionAt file + 1) (pensionCount file) ≡ caseOf file .pension
-  unfolding caseOf pensionCount pensionAt daysAt
+  unfolding caseOf pensionCount pensionAt ufrEnd
   pension-are = refl
 
 module _ (file : List ℕ) (p : Places) (f : Found file p) where
-  pub days-held : p .days ≡ length (caseOf file .days)
-  days-held = f .daysMany ∙ sym (values-length day file (daysAt file + 1) (dayCount file)) ∙ ap length (days-are file)
+  pub step-held : (u : ℕ) → u ≡ unitsPerStep (p .«rate_bytes») → u * p .days ≡ perStep (caseOf file)
+  step-held u e = ap₂ (λ i n. i * n) e (f .daysMany) ∙ ap (λ w. unitsPerStep w * dayCount file) (f .form) ∙ sym (step-read file)
 
   pub pension-count-held : p .pension ≡ length (caseOf file .pension)
   pension-count-held =
@@ -54,10 +57,19 @@ module _ (file : List ℕ) (p : Places) (f : Found file p) where
   pub bonds-held : padded 60 (valueAll flow file (p .«bonds_at» + 1) (p .bonds)) ≡ padded 60 (caseOf file .bonds)
   bonds-held = ap₂ (λ at n. padded 60 (valueAll flow file (at + 1) n)) (f .bondsIs) (f .bondsMany) ∙ ap (padded 60) (bonds-are file)
 
-  pub sums-held : (r : Sums) → Summed file (p .«days_at» + 1) (p .days) r → r .sums ≡ held (caseOf file) .sums
-  unfolding held
-  sums-held r h =
-      h .sums
-      ∙ ap₂ (λ at n. table (sumAt (daysFrom file (at + 1) n) n) 60) (f .daysIs) (f .daysMany)
-      ∙ ap₂ (λ days n. table (sumAt days n) 60) (days-are file) (sym (f .daysMany) ∙ days-held)
-      ∙ ap (λ (g : ℕ → ℕ). table g 60) (λ i t. base-sum (caseOf file) t i)
+  -- of an accepted file, each rate of which is within its limits
+  pub sums-held : refusal file ≡ 0 → (r : Sums) → Summed (p .«rate_bytes») file (p .«days_at» + 1) (p .days) r
+      → r .sums ≡ held (caseOf file) .sums
+  unfolding held dayCount
+  sums-held accepted r h =
+      let w = p .«rate_bytes» in
+      let days = daysFrom w file (p .«days_at» + 1) (p .days) in
+      let same = ap₂ (λ at n. daysFrom w file (at + 1) n) (f .daysIs) (f .daysMany) ∙ ap (λ v. daysFrom v file (daysAt file + 1) (dayCount file)) (f .form) in
+      let right = h .within ∙ ap₂ (λ v ds. rightAll (day v) ds) (f .form) same ∙ rates-right file accepted in
+      let step = step-held (unitsPerStep w) refl in
+      let sum : (t : ℕ) → t < 60 → getD (r .sums) t 0 ≡ P (curve (caseOf file) base) (suc t) = λ t l.
+      sym (natural-raised (s days (suc t)) (getD (r .sums) t 0) (100000 * (unitsPerStep w * p .days))
+      (sums-are w (f .known) file (p .«days_at» + 1) (p .days) r h right t l))
+      ∙ ap₂ (λ u ds. natural (pos (100000 * u) +ℤ s ds (suc t))) step (same ∙ days-read file)
+      ∙ base-sum (caseOf file) t in
+      h .sums ∙ table-same _ _ 60 (λ t l. sym (ap (λ xs. getD xs t 0) (h .sums) ∙ getD-table _ 60 t 0 l) ∙ sum t l)

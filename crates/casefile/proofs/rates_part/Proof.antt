@@ -36,19 +36,19 @@ sub-result : tie.Need-sub-result
 sub-result c =
     let file = c .before .before .before .before .before .args .file .now in
     let f = c .before .find .ensures in
-    omega (arith, f .daysIs, f .pensionIs, rates-inside file (sym (c .before .before .before .refusal-of .ensures) ∙ c .before .before .if1 .left))
+    omega (arith, f .daysIs, f .daysEndIs, rates-inside file (sym (c .before .before .before .refusal-of .ensures) ∙ c .before .before .if1 .left))
 
 part-result-start : tie.Need-part-result-start
 part-result-start c =
     let file = c .before .before .before .before .before .args .file .now in
     let f = c .before .find .ensures in
-    omega (arith, f .daysIs, f .pensionIs, rates-inside file (sym (c .before .before .before .refusal-of .ensures) ∙ c .before .before .if1 .left))
+    omega (arith, f .daysIs, f .daysEndIs, rates-inside file (sym (c .before .before .before .refusal-of .ensures) ∙ c .before .before .if1 .left))
 
 part-result-end : tie.Need-part-result-end
 part-result-end c =
     let file = c .before .before .before .before .before .args .file .now in
     let f = c .before .find .ensures in
-    omega (arith, f .daysIs, f .pensionIs, rates-inside file (sym (c .before .before .before .refusal-of .ensures) ∙ c .before .before .if1 .left))
+    omega (arith, f .daysIs, f .daysEndIs, rates-inside file (sym (c .before .before .before .refusal-of .ensures) ∙ c .before .before .if1 .left))
 
 returns-2 : tie.Need-returns-2
 returns-2 c =
@@ -56,7 +56,7 @@ returns-2 c =
     let z : refusal (file .now) ≡ 0 = sym (c .before .before .before .before .refusal-of .ensures) ∙ c .before .before .before .if1 .left in
     let f = c .before .before .find .ensures in
     record {
-      bytes = ap₂ (λ p d. take (p - (d + 1)) (drop (d + 1) (file .now))) (f .pensionIs) (f .daysIs) ∙ accepted-rates (file .now) z;
+      bytes = ap₂ (λ p d. take (p - (d + 1)) (drop (d + 1) (file .now))) (f .daysEndIs) (f .daysIs) ∙ accepted-rates (file .now) z;
       place = rw z (ap (λ d. behind (file .ptr) (d + 1)) (f .daysIs));
     }
 

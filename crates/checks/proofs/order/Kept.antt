@@ -15,7 +15,7 @@ unfolding after
 keeps zero b n h = absurd (h refl)
 keeps (suc r) b n h = refl
 
-kept : (cs : List Check) (r : ℕ) → afterAll (suc r) cs ≡ suc r
+pub kept : (cs : List Check) (r : ℕ) → afterAll (suc r) cs ≡ suc r
 unfolding after
 kept [] r = refl
 kept (c ∷ cs) r = kept cs r

@@ -26,27 +26,28 @@ module _ {A : Type 0} (x : Fixed A) where
 
 -- ---- n days
 
-days-bytes : (n : ℕ) (rates : List ℤ) → length rates ≡ 60 * n → bytesAll day (daysIn n rates) ≡ bytesAll dailyRate rates
-days-bytes zero [] h = refl
-days-bytes zero (z ∷ rates) h = absurd (let never : ⊥ = omega arith in never)
-days-bytes (suc n) rates h =
-    ap (λ (l : List ℕ). bytesAll dailyRate (take 60 rates) ++ l) (days-bytes n (drop 60 rates) (omega (arith, length-drop 60 rates)))
-    ∙ sym (run-parts dailyRate (take 60 rates) (drop 60 rates))
-    ∙ ap (bytesAll dailyRate) (take-append-drop 60 rates)
+module _ (w : ℕ) where
+  days-bytes : (n : ℕ) (rates : List ℤ) → length rates ≡ 60 * n → bytesAll (day w) (daysIn n rates) ≡ bytesAll (dailyRate w) rates
+  days-bytes zero [] h = refl
+  days-bytes zero (z ∷ rates) h = absurd (let never : ⊥ = omega arith in never)
+  days-bytes (suc n) rates h =
+      ap (λ (l : List ℕ). bytesAll (dailyRate w) (take 60 rates) ++ l) (days-bytes n (drop 60 rates) (omega (arith, length-drop 60 rates)))
+      ∙ sym (run-parts (dailyRate w) (take 60 rates) (drop 60 rates))
+      ∙ ap (bytesAll (dailyRate w)) (take-append-drop 60 rates)
 
-days-right : (n : ℕ) (rates : List ℤ) → length rates ≡ 60 * n → rightAll day (daysIn n rates) ≡ true → rightAll dailyRate rates ≡ true
-days-right zero [] h k = refl
-days-right zero (z ∷ rates) h k = absurd (let never : ⊥ = omega arith in never)
-days-right (suc n) rates h k =
-    let first = and-first (day .right (take 60 rates)) (rightAll day (daysIn n (drop 60 rates))) k in
-    let rest = and-second (day .right (take 60 rates)) (rightAll day (daysIn n (drop 60 rates))) k in
-    let right = and-second (eqb (length (take 60 rates)) 60) (rightAll dailyRate (take 60 rates)) first in
-    let behind = days-right n (drop 60 rates) (omega (arith, length-drop 60 rates)) rest in
-    rw take-append-drop at (right-parts dailyRate (take 60 rates) (drop 60 rates) right behind)
+  days-right : (n : ℕ) (rates : List ℤ) → length rates ≡ 60 * n → rightAll (day w) (daysIn n rates) ≡ true → rightAll (dailyRate w) rates ≡ true
+  days-right zero [] h k = refl
+  days-right zero (z ∷ rates) h k = absurd (let never : ⊥ = omega arith in never)
+  days-right (suc n) rates h k =
+      let first = and-first (day w .right (take 60 rates)) (rightAll (day w) (daysIn n (drop 60 rates))) k in
+      let rest = and-second (day w .right (take 60 rates)) (rightAll (day w) (daysIn n (drop 60 rates))) k in
+      let right = and-second (eqb (length (take 60 rates)) 60) (rightAll (dailyRate w) (take 60 rates)) first in
+      let behind = days-right n (drop 60 rates) (omega (arith, length-drop 60 rates)) rest in
+      rw take-append-drop at (right-parts (dailyRate w) (take 60 rates) (drop 60 rates) right behind)
 
 -- ---- the days of a list that has a day or more
 
-module _ (rates : List ℤ) (some : 1 ≤ length (daysOf rates)) where
+module _ (w : ℕ) (rates : List ℤ) (some : 1 ≤ length (daysOf rates)) where
   whole : length rates % 60 ≡ 0
   whole = by (eqb (length rates % 60) 0) refl
     where
@@ -60,8 +61,8 @@ module _ (rates : List ℤ) (some : 1 ≤ length (daysOf rates)) where
   pub rates-count : length rates ≡ 60 * length (daysOf rates)
   rates-count = omega (arith, all-rates, whole-count rates whole)
 
-  pub rates-bytes : bytesAll day (daysOf rates) ≡ bytesAll dailyRate rates
-  rates-bytes = ap (bytesAll day) (whole-days rates whole) ∙ days-bytes (length rates / 60) rates all-rates
+  pub rates-bytes : bytesAll (day w) (daysOf rates) ≡ bytesAll (dailyRate w) rates
+  rates-bytes = ap (bytesAll (day w)) (whole-days rates whole) ∙ days-bytes w (length rates / 60) rates all-rates
 
-  pub rates-right : rightAll day (daysOf rates) ≡ true → rightAll dailyRate rates ≡ true
-  rates-right h = days-right (length rates / 60) rates all-rates (rw (whole-days rates whole) at h)
+  pub rates-right : rightAll (day w) (daysOf rates) ≡ true → rightAll (dailyRate w) rates ≡ true
+  rates-right h = days-right w (length rates / 60) rates all-rates (rw (whole-days rates whole) at h)

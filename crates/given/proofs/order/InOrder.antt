@@ -5,16 +5,17 @@ use mathlib.Core.Path.{_≡_, refl, ap, sym, _∙_}
 use mathlib.Core.Bool.{Bool, true, false, _&&_, cond}
 use mathlib.Core.List.{List, [], _∷_, _++_}
 use native.Mathlib.Omega.{arith}
-use borrow.Author.Tests.{le-leb, lt-ltb}
-use lib.Dec.{leb, ltb}
+use borrow.Author.Tests.{eqb-true, le-leb, lt-ltb}
+use lib.Dec.{T, leb, ltb, eqb}
 use lib.ListN.{length}
-use Rattle.model.specs.Case.{FileCase}
+use Rattle.model.specs.Case.{FileCase, knownForm, perStep, withDays}
 use Rattle.model.specs.Fields.{Check, within, rightAll}
-use Rattle.model.specs.Layout.{day, flow, amounts, shocks, people, layout, partsOf}
+use Rattle.model.specs.Layout.{day, days, flow, amounts, shocks, people, Present, Parts, firstFields, layout, daysIf, partsOf}
 use Rattle.model.specs.Refusals.{firstOf, forwardsRight}
 use Rattle.model.specs.Saving.{needed, caseChecks, caseRefusal}
 use Rattle.model.specs.inner.Positions.{ufrField, daysField, pensionField, bondsField, amountsField}
-use Rattle.theory.proofs.acceptance.Checks.{Hold, hold-parts, none-hold, after-none, after-some}
+use Rattle.theory.proofs.acceptance.Checks.{Hold, numbered, hold-parts, none-hold, after-none, after-some}
+use Rattle.theory.proofs.acceptance.Form.{by-form, laterFields}
 use Rattle.theory.proofs.acceptance.Within.{layout-limited}
 use Rattle.theory.proofs.general.Lists.{_also_}
 use Rattle.theory.proofs.saving.Saved.{agrees-needed}
@@ -45,19 +46,40 @@ bonds-as q (v ∷ vs) =
     ∙ ap (λ b. afterAll q (cond b ((within 1 60 n, 7) ∷ rest) [])) (sym (lt-ltb 0 n (omega arith)))
 
 module _ (k : FileCase) where
+  abbrev w : ℕ
+  w = k .rateBytes
+
   abbrev fieldChecks : List Check
-  fieldChecks = layout (needed k) .limits (partsOf k)
+  fieldChecks = (knownForm w, 3) ∷ layout w (needed k) .limits (partsOf k)
+
+  fields-numbered : T (numbered fieldChecks)
+  fields-numbered = layout-limited w (needed k) .counts (partsOf k)
+
+  -- the checks of the days, in the field that they are in
+  abbrev pub daysChecks : ℕ → List Check
+  daysChecks v = cond (eqb w v) ((within 1 70 (length (k .days)), 4) ∷ (rightAll (day w) (k .days), 5) ∷ []) []
+
+  days-as : (v : ℕ) → daysChecks v ≡ daysField v w .limits (daysIf v k)
+  days-as v = go (eqb w v) refl
+    where
+      go : (b : Bool) → eqb w v ≡ b
+          → cond b ((within 1 70 (length (k .days)), 4) ∷ (rightAll (day w) (k .days), 5) ∷ []) []
+          ≡ cond b (days v .limits (cond b (k .days) [])) []
+      go true e = ap (λ (i : ℕ). days i .limits (k .days)) (eqb-true w v e)
+      go false e = refl
 
   -- the number after the checks of the fields
-  pub fields-first : {u d m b a x q : ℕ} → u ≡ after 0 (within 0 5000 (k .ufr)) 9
-      → d ≡ afterAll u (daysField .limits (k .days))
+  pub fields-first : {o u d m b a x q l : ℕ} → o ≡ after 0 (knownForm w) 3
+      → u ≡ after o (within 0 5000 (k .ufr)) 9
+      → d ≡ afterAll u (daysChecks 2)
       → m ≡ afterAll d (pensionField .limits (k .pension))
       → b ≡ afterAll m ((within 0 60 (length (k .bonds)), 7) ∷ (rightAll flow (k .bonds), 8) ∷ [])
       → a ≡ after b (amounts .right (k .amounts)) 10
       → x ≡ after a (shocks .right (k .shocks)) 11
       → q ≡ after x (people .right (k .people)) 12
-      → q ≡ firstOf fieldChecks
-  fields-first {u} {d} {m} {b} {a} {x} {q} eu ed em eb ea ex eq =
+      → l ≡ afterAll q (daysChecks 4)
+      → l ≡ firstOf fieldChecks
+  fields-first {o} {u} {d} {m} {b} {a} {x} {q} {l} eo eu ed em eb ea ex eq el =
       let p = needed k in
       let agrees = agrees-needed k in
       let people-on : List Check = (people .right (k .people), 12) ∷ [] in
@@ -65,33 +87,53 @@ module _ (k : FileCase) where
       let amounts-on = amountsField p .limits (k .amounts) ++ shocks-on in
       let bonds-on = bondsField p .limits (k .bonds) ++ amounts-on in
       let pension-on = pensionField .limits (k .pension) ++ bonds-on in
-      let days-on = daysField .limits (k .days) ++ pension-on in
-      let ufr = left-out (p .ufr) 0 ((within 0 5000 (k .ufr), 9) ∷ []) (λ e. ufr-passes (agrees .ufrAbsent e) also tt) in
+      let days-on = daysField 2 w .limits (daysIf 2 k) ++ pension-on in
+      let ufr = left-out (p .ufr) o ((within 0 5000 (k .ufr), 9) ∷ []) (λ e. ufr-passes (agrees .ufrAbsent e) also tt) in
       let money = left-out (p .amounts) b ((amounts .right (k .amounts), 10) ∷ []) (λ e. ap (amounts .right) (agrees .amountsAbsent e) also tt) in
       let x = then a ((shocks .right (k .shocks), 11) ∷ []) people-on ex eq in
       let a = then b (amountsField p .limits (k .amounts)) shocks-on (ea ∙ money) x in
       let b = then m (bondsField p .limits (k .bonds)) amounts-on (eb ∙ bonds-as m (k .bonds)) a in
       let m = then d (pensionField .limits (k .pension)) bonds-on em b in
-      let d = then u (daysField .limits (k .days)) pension-on ed m in
-      then 0 (ufrField p .limits (k .ufr)) days-on (eu ∙ ufr) d
-      ∙ first-after fieldChecks (layout-limited p .counts (partsOf k))
+      let d = then u (daysField 2 w .limits (daysIf 2 k)) pension-on (ed ∙ ap (afterAll u) (days-as 2)) m in
+      let first = then o (ufrField p .limits (k .ufr)) days-on (eu ∙ ufr) d in
+      let fields = then o (firstFields w p .limits (partsOf k .0)) (daysField 4 w .limits (daysIf 4 k)) first (el ∙ ap (afterAll q) (days-as 4)) in
+      then 0 ((knownForm w, 3) ∷ []) (layout w p .limits (partsOf k)) eo fields ∙ first-after fieldChecks fields-numbered
     where
       ufr-passes : {u : ℕ} → u ≡ 4200 → within 0 5000 u ≡ true
       ufr-passes e = ap (within 0 5000) e
 
   -- where none of them fails, the days are counted and each rate is right
-  pub days-passed : firstOf fieldChecks ≡ 0 → (within 1 70 (length (k .days)) ≡ true) × (rightAll day (k .days) ≡ true)
+  pub days-passed : firstOf fieldChecks ≡ 0 → (within 1 70 (length (k .days)) ≡ true) × (rightAll (day w) (k .days) ≡ true)
   days-passed h =
-      let p = needed k in
-      let all = none-hold fieldChecks (layout-limited p .counts (partsOf k)) h in
-      let (counted, (right, rest)) = hold-parts (ufrField p .limits (k .ufr)) (daysField .limits (k .days) ++ _) all .1 in
-      (counted, right)
+      let (known, held) = none-hold fieldChecks fields-numbered h in
+      by-form Q w known
+      (λ all.
+      let first = hold-parts (firstFields 2 p .limits (parts 2 .0)) [] all .0 in
+      let on = hold-parts (ufrField p .limits (k .ufr)) (days 2 .limits (k .days) ++ later) first .1 in
+      let (counted, (right, none)) = hold-parts (days 2 .limits (k .days)) later on .0 in
+      (counted, right))
+      (λ all.
+      let (counted, (right, none)) = hold-parts (firstFields 4 p .limits (parts 4 .0)) (days 4 .limits (k .days)) all .1 in
+      (counted, right))
+      held
+    where
+      p : Present
+      p = needed k
+
+      parts : ℕ → Parts
+      parts v = partsOf (withDays v (k .days) k)
+
+      later : List Check
+      later = laterFields p .limits (k .pension, (k .bonds, (k .amounts, (k .shocks, k .people))))
+
+      Q : ℕ → Type 0
+      Q v = Hold (layout v p .limits (parts v)) → (within 1 70 (length (k .days)) ≡ true) × (rightAll (day v) (k .days) ≡ true)
 
   -- "then 6"
   pub case-first : (q : ℕ) {r : ℕ} {forwards : Bool} → q ≡ firstOf fieldChecks
-      → (q ≡ 0 → forwards ≡ forwardsRight (length (k .days)) (k .days)) → r ≡ after q forwards 6 → r ≡ caseRefusal k
+      → (q ≡ 0 → forwards ≡ forwardsRight (perStep k) (k .days)) → r ≡ after q forwards 6 → r ≡ caseRefusal k
   unfolding caseRefusal caseChecks after firstOf
   case-first zero {r} {forwards} e h er =
       er ∙ ap (λ (b : Bool). cond b 0 6) (h refl)
-      ∙ sym (after-none fieldChecks ((forwardsRight (length (k .days)) (k .days), 6) ∷ []) (layout-limited (needed k) .counts (partsOf k)) (sym e))
-  case-first (suc q) {r} {forwards} e h er = er ∙ sym (after-some fieldChecks ((forwardsRight (length (k .days)) (k .days), 6) ∷ []) q (sym e))
+      ∙ sym (after-none fieldChecks ((forwardsRight (perStep k) (k .days), 6) ∷ []) fields-numbered (sym e))
+  case-first (suc q) {r} {forwards} e h er = er ∙ sym (after-some fieldChecks ((forwardsRight (perStep k) (k .days), 6) ∷ []) q (sym e))

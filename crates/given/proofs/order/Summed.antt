@@ -2,24 +2,26 @@
 use Prim.Native.Nat.{ℕ, zero, suc, _*_, _≤_}
 use mathlib.Core.Path.{_≡_, refl, ap, ap₂, sym, _∙_}
 use mathlib.Core.Bool.{Bool, true, false, cond}
-use mathlib.Core.List.{List}
+use mathlib.Core.List.{List, [], _∷_}
+use native.Mathlib.Nat.{mul-le-mul}
 use native.Mathlib.Omega.{arith}
 use borrow.Author.Tests.{leb-true}
 use lib.Dec.{leb}
 use lib.ListN.{length}
 use lib.IntN.{ℤ}
-use Rattle.model.specs.Fields.{within, rightAll}
+use Rattle.model.specs.Case.{unitsPerStep}
+use Rattle.model.specs.Fields.{Check, within, rightAll}
 use Rattle.model.specs.Numbers.{every}
 use Rattle.model.specs.Refusals.{forwardsRight}
 use Rattle.model.specs.Saving.{daysIn, daysOf}
 use Rattle.model.specs.Layout.{day}
-use Rattle.model.specs.inner.Positions.{daysField}
 use Rattle.theory.proofs.general.Lists.{and-second, and-false}
 use Rattle.scan.specs.inner.Sums.{forwardRight, EachAtMost}
 use Rattle.scan.specs.declared.rates.Sums.{Sums}
 use Rattle.scan.proofs.rates.Forwards.{forwards-are}
 use Rattle.checks.specs.inner.After.{after, afterAll}
 use Rattle.given.specs.inner.Raised.{summed}
+use Rattle.given.proofs.rates.Signed.{units-most}
 use Rattle.given.proofs.rates.Days.{days-count, days-are, summed-most, summed-diff}
 
 -- a number that is there is kept
@@ -39,40 +41,51 @@ module _ (rates : List ℤ) {n m : ℕ} (isN : n ≡ length (daysOf rates)) (isM
   all-summed : leb n 70 ≡ true → m ≡ length (daysOf rates)
   all-summed e = isM ∙ ap (λ (b : Bool). cond b n 0) e ∙ isN
 
-  module _ (s : Sums) (h : s ≡ summed (daysIn m rates)) where
-    pub sums-most : EachAtMost 33855585 (s .sums)
-    sums-most = rw h (summed-most (daysIn m rates) 33855585 (omega (arith, days-count m rates, sums-asked .0)))
+  module _ (w : ℕ) (s : Sums) (h : s ≡ summed w (daysIn m rates)) where
+    -- what a step adds to a sum
+    step-most : unitsPerStep w * m ≤ 7000
+    step-most = mul-le-mul {n₁ = unitsPerStep w} {m₁ = m} {n₂ = 100} {m₂ = 70} (units-most w) (sums-asked .0)
+
+    pub step-small : {u : ℕ} → u ≡ unitsPerStep w → u * m ≤ 7000
+    step-small e = rw e step-most
+
+    pub sums-most : EachAtMost 1095216660225 (s .sums)
+    sums-most =
+        let count = ap (λ (n : ℕ). unitsPerStep w * n) (days-count m rates) in
+        rw h (summed-most w (daysIn m rates) 1095216660225 (omega (arith, count, step-most)))
 
     days-summed : leb n 70 ≡ true → daysIn m rates ≡ daysOf rates
     days-summed e = ap (λ (i : ℕ). daysIn i rates) (all-summed e) ∙ sym (days-are rates .0)
 
-    within-is : s .within ≡ rightAll day (daysIn m rates)
+    within-is : s .within ≡ rightAll (day w) (daysIn m rates)
     unfolding summed
     within-is = ap (λ (r : Sums). r .within) h
 
-    -- the checks of the days
-    pub days-told : (u : ℕ) {c d : ℕ} → c ≡ after u (within 1 70 n) 4 → d ≡ after c (s .within) 5 → d ≡ afterAll u (daysField .limits (daysOf rates))
-    days-told u {c} {d} ec ed = go (leb n 70) refl
-      where
-        counted : c ≡ after u (within 1 70 (length (daysOf rates))) 4
-        counted = ec ∙ ap (λ (i : ℕ). after u (within 1 70 i) 4) isN
+    -- the checks of the days, in either field
+    abbrev checksOf : Bool → ℕ → Bool → List Check
+    checksOf there count right = cond there ((within 1 70 count, 4) ∷ (right, 5) ∷ []) []
 
-        go : (b : Bool) → leb n 70 ≡ b → d ≡ afterAll u (daysField .limits (daysOf rates))
-        go true e = ed ∙ ap₂ (λ q b. after q b 5) counted (within-is ∙ ap (rightAll day) (days-summed e))
-        go false e =
-            let none : c ≡ after u false 4 = ec ∙ ap (λ (b : Bool). after u b 4) (and-false (leb 1 n) (leb n 70) e) in
-            ed
-            ∙ ap (λ (q : ℕ). after q (s .within) 5) none
-            ∙ decided u (s .within) (rightAll day (daysOf rates))
-            ∙ ap (λ (q : ℕ). after q (rightAll day (daysOf rates)) 5) (sym none ∙ counted)
+    pub days-told : (u : ℕ) (there : Bool) {d : ℕ} → d ≡ afterAll u (checksOf there n (s .within))
+        → d ≡ afterAll u (checksOf there (length (daysOf rates)) (rightAll (day w) (daysOf rates)))
+    days-told u false e = e
+    days-told u true e = e ∙ go (leb n 70) refl ∙ ap (λ (i : ℕ). afterAll u (checksOf true i (rightAll (day w) (daysOf rates)))) isN
+      where
+        go : (b : Bool) → leb n 70 ≡ b → afterAll u (checksOf true n (s .within)) ≡ afterAll u (checksOf true n (rightAll (day w) (daysOf rates)))
+        go true f = ap (λ (b : Bool). afterAll u (checksOf true n b)) (within-is ∙ ap (rightAll (day w)) (days-summed f))
+        go false f =
+            let none = and-false (leb 1 n) (leb n 70) f in
+            ap (λ (c : Bool). after (after u c 4) (s .within) 5) none
+            ∙ decided u (s .within) (rightAll (day w) (daysOf rates))
+            ∙ ap (λ (c : Bool). after (after u c 4) (rightAll (day w) (daysOf rates)) 5) (sym none)
 
     -- refusal 6, of days that passed their own checks
-    pub forwards-told : (within 1 70 (length (daysOf rates)) ≡ true) × (rightAll day (daysOf rates) ≡ true)
-        → every (forwardRight (s .sums) m) 60 ≡ forwardsRight (length (daysOf rates)) (daysOf rates)
-    forwards-told (counted, right) =
+    pub forwards-told : {u : ℕ} → u ≡ unitsPerStep w → (within 1 70 (length (daysOf rates)) ≡ true) × (rightAll (day w) (daysOf rates) ≡ true)
+        → every (forwardRight (s .sums) (u * m)) 60 ≡ forwardsRight (unitsPerStep w * length (daysOf rates)) (daysOf rates)
+    forwards-told e (counted, right) =
         let few = ap (λ (i : ℕ). leb i 70) isN ∙ and-second (leb 1 (length (daysOf rates))) (leb (length (daysOf rates)) 70) counted in
         let is = days-summed few in
-        let all = ap (rightAll day) is ∙ right in
-        ap (λ (r : Sums). every (forwardRight (r .sums) m) 60) h
-        ∙ forwards-are (daysIn m rates) m (summed (daysIn m rates) .sums) (λ t l. rw days-count at (summed-diff (daysIn m rates) t l all))
-        ∙ ap₂ forwardsRight (all-summed few) is
+        let all = ap (rightAll (day w)) is ∙ right in
+        let step = unitsPerStep w * m in
+        ap₂ (λ (r : Sums) (v : ℕ). every (forwardRight (r .sums) (v * m)) 60) h e
+        ∙ forwards-are (daysIn m rates) step (summed w (daysIn m rates) .sums) (λ t l. rw days-count at (summed-diff w (daysIn m rates) t l all))
+        ∙ ap₂ forwardsRight (ap (λ (i : ℕ). unitsPerStep w * i) (all-summed few)) is

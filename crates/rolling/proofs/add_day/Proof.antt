@@ -31,7 +31,7 @@ add-day-requires c κs =
     let k = c .before .before .before .before .before in
     let w = k .before .args .w in
     let within = not-false _ (c .before .before .before .if1 .left) in
-    rw (k .check .ensures .1 within) (summed-most (daysHeld w) 7590000 (omega (arith, held-count w)))
+    rw (k .check .ensures .1 within) (summed-most 2 (daysHeld w) 759000000 (omega (arith, held-count w)))
 
 returns-3 : tie.Need-returns-3
 returns-3 c =

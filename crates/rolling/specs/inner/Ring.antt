@@ -17,4 +17,4 @@ storedSum sum base = pos sum -ℤ pos base
 
 -- each sum has the day's rate in it
 pub record EachAtLeast (day : List ℤ) (sums : List ℕ) : Type 0 where
-  pub each : (t : ℕ) → t < 60 → raisedOr (getD day t (pos 0)) ≤ getD sums t 0
+  pub each : (t : ℕ) → t < 60 → raisedOr 1 (getD day t (pos 0)) ≤ getD sums t 0

@@ -1,24 +1,27 @@
--- The sums over the days: one day more adds to each sum 100,000 and a rate, and so the sums are P(t). Assumes nothing.
+-- The sums over the days: one day more adds to each sum 100,000 steps and a rate, and so the sums are P(t) where each rate is within its
+-- limits. Assumes nothing.
 use Prim.Native.Nat.{ℕ, zero, suc, _+_, _*_, _≤_, _<_}
 use mathlib.Core.Path.{_≡_, refl, ap, ap₂, sym, _∙_}
-use mathlib.Core.Bool.{Bool, _&&_}
+use mathlib.Core.Bool.{Bool, true, false, _&&_, cond}
 use mathlib.Core.List.{List, [], _∷_, _++_}
-use native.Mathlib.Nat.{add-assoc, zero-add}
+use native.Mathlib.Nat.{add-assoc, zero-add, mul-le-mul}
 use native.Mathlib.Numerals.{add-one}
 use native.Mathlib.Omega.{arith}
+use borrow.Author.Tests.{eq-eqb}
+use lib.Dec.{eqb}
 use lib.ListN.{length, getD, take, drop, set}
 use lib.Seq.{drop-cons, getD-at, getD-take, getD-drop}
 use lib.IntN.{ℤ, pos, _+ℤ_, +ℤ-assoc, +ℤ-idl, +ℤ-idr}
-use Rattle.model.specs.Case.{s}
+use Rattle.model.specs.Case.{knownForm, unitsPerStep, s}
 use Rattle.model.specs.Fields.{valueAll, rightAll}
 use Rattle.model.specs.Layout.{dailyRate, day}
 use Rattle.model.specs.Numbers.{number, every, table, twosComplement}
-use Rattle.theory.proofs.acceptance.Runs.{right-last, values-last, values-table}
+use Rattle.theory.proofs.acceptance.Runs.{right-at, right-last, values-last, values-length, values-table}
 use Rattle.theory.proofs.general.Differences.{Diff, again, diff-sum}
-use Rattle.theory.proofs.general.Lists.{every-same, length-table, getD-table, table-same}
-use Rattle.scan.specs.inner.Sums.{raisedRate, rateRight, rateOn, DayAdded, daysFrom, sumAt, EachAtMost, Summed}
+use Rattle.theory.proofs.general.Lists.{and-first, and-second, every-same, length-table, getD-table, table-same}
+use Rattle.scan.specs.inner.Sums.{raisedTwo, mostRaised, rateOn, rateRightOn, total, DayAdded, daysFrom, EachAtMost, Summed}
 use Rattle.scan.specs.declared.rates.Sums.{Sums}
-use Rattle.scan.proofs.rates.Integers.{raised, natural-raised, rate-is}
+use Rattle.scan.proofs.rates.Integers.{raised-right}
 
 -- one day more at the end
 s-more : (days : List (List ℤ)) (day : List ℤ) (t : ℕ) → s (days ++ (day ∷ [])) (suc t) ≡ s days (suc t) +ℤ getD day t (pos 0)
@@ -28,47 +31,51 @@ s-more (first ∷ days) day t =
     ap (λ z. getD first t (pos 0) +ℤ z) (s-more days day t)
     ∙ sym (+ℤ-assoc (getD first t (pos 0)) (s days (suc t)) (getD day t (pos 0)))
 
-module _ (file : List ℕ) (at t : ℕ) where
-  -- the number of the term t + 1 of day d
-  abbrev numberOn : ℕ → ℕ
-  numberOn d = number file (at + 120 * d + 2 * t) 2
+module _ (w : ℕ) (known : knownForm w ≡ true) (file : List ℕ) (at t : ℕ) (l : t < 60) where
+  -- where day n begins, and its rate of the term t + 1
+  abbrev start : ℕ → ℕ
+  start n = at + w * 60 * n
 
-  -- the sum of n days as a natural
-  unfoldable total : ℕ → ℕ
-  total zero = 0
-  total (suc n) = total n + raisedRate (numberOn n)
+  abbrev rate : ℕ → ℤ
+  rate n = twosComplement w (number file (start n + w * t) w)
 
-  day-more : (n : ℕ) → t < 60
-      → s (daysFrom file at (suc n)) (suc t) ≡ s (daysFrom file at n) (suc t) +ℤ twosComplement 2 (numberOn n)
-  day-more n l =
-      ap (λ days. s days (suc t)) (values-last day file at n)
-      ∙ s-more (daysFrom file at n) (valueAll dailyRate file (at + 120 * n) 60) t
-      ∙ ap (λ z. s (daysFrom file at n) (suc t) +ℤ z)
-      (ap (λ rates. getD rates t (pos 0)) (values-table dailyRate file (at + 120 * n) 60)
-      ∙ getD-table (λ i. twosComplement 2 (number file (at + 120 * n + 2 * i) 2)) 60 t (pos 0) l)
+  rate-is : (n : ℕ) → getD (valueAll (dailyRate w) file (start n) 60) t (pos 0) ≡ rate n
+  rate-is n =
+      ap (λ rates. getD rates t (pos 0)) (values-table (dailyRate w) file (start n) 60)
+      ∙ getD-table (λ i. twosComplement w (number file (start n + w * i) w)) 60 t (pos 0) l
 
-  total-is : (n : ℕ) → t < 60 → Diff (s (daysFrom file at n) (suc t)) (total n) (100000 * n)
+  day-more : (n : ℕ) → s (daysFrom w file at (suc n)) (suc t) ≡ s (daysFrom w file at n) (suc t) +ℤ rate n
+  day-more n =
+      ap (λ days. s days (suc t)) (values-last (day w) file at n)
+      ∙ s-more (daysFrom w file at n) (valueAll (dailyRate w) file (start n) 60) t
+      ∙ ap (λ z. s (daysFrom w file at n) (suc t) +ℤ z) (rate-is n)
+
+  -- of days whose rates are within their limits
+  total-is : (n : ℕ) → rightAll (day w) (daysFrom w file at n) ≡ true
+      → Diff (s (daysFrom w file at n) (suc t)) (total w file at t n) (100000 * (unitsPerStep w * n))
   unfolding s total
-  total-is zero l = refl
-  total-is (suc n) l =
-      let sum = s (daysFrom file at n) (suc t) in
-      let v = numberOn n in
-      rw (day-more n l)
-      (again (sum +ℤ twosComplement 2 v) (total n + raisedRate v) (100000 * n + 100000) (total n + raisedRate v) (100000 * suc n)
-      (diff-sum sum (twosComplement 2 v) (total n) (100000 * n) (raisedRate v) 100000 (total-is n l) (raised v)) (omega arith))
+  total-is zero h = omega arith
+  total-is (suc n) h =
+      let units = unitsPerStep w in
+      let both = sym (right-last (day w) file at n) ∙ h in
+      let rates = valueAll (dailyRate w) file (start n) 60 in
+      let last = and-second (rightAll (day w) (daysFrom w file at n)) (day w .right rates) both in
+      let each = and-second (eqb (length rates) 60) (rightAll (dailyRate w) rates) last in
+      let long : t < length rates = omega (arith, values-length (dailyRate w) file (start n) 60) in
+      let right = ap (dailyRate w .right) (sym (rate-is n)) ∙ right-at (dailyRate w) rates t (pos 0) long each in
+      let sum = s (daysFrom w file at n) (suc t) in
+      let added = rateOn w file (start n) t in
+      rw (day-more n)
+      (again (sum +ℤ rate n) (total w file at t n + added) (100000 * (units * n) + 100000 * units) (total w file at t n + added) (100000 * (units * suc n))
+      (diff-sum sum (rate n) (total w file at t n) (100000 * (units * n)) added (100000 * units)
+      (total-is n (and-first (rightAll (day w) (daysFrom w file at n)) (day w .right rates) both))
+      (raised-right w (number file (start n + w * t) w) known right)) (omega arith))
 
-  sum-is : (n : ℕ) → t < 60 → sumAt (daysFrom file at n) n t ≡ total n
-  sum-is n l = natural-raised (s (daysFrom file at n) (suc t)) (total n) (100000 * n) (total-is n l)
-
-  sum-next : (n : ℕ) → t < 60 → sumAt (daysFrom file at n) n t + raisedRate (numberOn n) ≡ sumAt (daysFrom file at (n + 1)) (n + 1) t
-  unfolding total
-  sum-next n l = ap (λ m. m + raisedRate (numberOn n)) (sum-is n l) ∙ sym (rw add-one (sum-is (suc n) l))
-
--- the sums of days, as differences
-pub sums-are : (file : List ℕ) (at n : ℕ) (sums : List ℕ) → sums ≡ table (sumAt (daysFrom file at n) n) 60
-    → (t : ℕ) → t < 60 → Diff (s (daysFrom file at n) (suc t)) (getD sums t 0) (100000 * n)
-sums-are file at n sums e t l =
-    rw (e, getD-table (sumAt (daysFrom file at n) n) 60 t 0 l, sum-is file at t n l) (total-is file at t n l)
+-- the sums of days whose rates are within their limits, as differences
+pub sums-are : (w : ℕ) → knownForm w ≡ true → (file : List ℕ) (at n : ℕ) (r : Sums) → Summed w file at n r → r .within ≡ true
+    → (t : ℕ) → t < 60 → Diff (s (daysFrom w file at n) (suc t)) (getD (r .sums) t 0) (100000 * (unitsPerStep w * n))
+sums-are w known file at n r h right t l =
+    rw (h .sums, getD-table (λ t. total w file at t n) 60 t 0 l) (total-is w known file at t l n (sym (h .within) ∙ right))
 
 -- the numbers of a part of a file, and a day that lies in it
 number-part : (file : List ℕ) (start n at w : ℕ) → at + w ≤ n → number (take n (drop start file)) at w ≡ number file (start + at) w
@@ -80,40 +87,45 @@ number-part file start n at (suc w) l =
     ∙ ap (λ i. getD file i 0) (sym (add-assoc start at w)))
 
 pub day-part : (file : List ℕ) (start n : ℕ) {before after : List ℕ} {right : Bool} → 120 ≤ n
-    → DayAdded (take n (drop start file)) 0 before after right → DayAdded file start before after right
+    → DayAdded 2 (take n (drop start file)) 0 before after right → DayAdded 2 file start before after right
 day-part file start n {before} long h =
-    let same : (t : ℕ) → t < 60 → rateOn (take n (drop start file)) 0 t ≡ rateOn file start t =
+    let same : (t : ℕ) → t < 60 → number (take n (drop start file)) (0 + 2 * t) 2 ≡ number file (start + 2 * t) 2 =
     λ t l.
-    ap (λ at. raisedRate (number (take n (drop start file)) at 2)) (zero-add (2 * t))
-    ∙ ap raisedRate (number-part file start n (2 * t) 2 (omega arith))
+    ap (λ at. number (take n (drop start file)) at 2) (zero-add (2 * t)) ∙ number-part file start n (2 * t) 2 (omega arith)
     in
     record {
-      within = h .within ∙ every-same _ _ 60 (λ t l. ap rateRight (same t l));
-      sums = h .sums ∙ table-same _ _ 60 (λ t l. ap (λ r. getD before t 0 + r) (same t l));
+      within = h .within ∙ every-same _ _ 60 (λ t l. ap (λ v. dailyRate 2 .right (twosComplement 2 v)) (same t l));
+      sums = h .sums ∙ table-same _ _ 60 (λ t l. ap (λ v. getD before t 0 + raisedTwo v) (same t l));
       most = h .most;
     }
 
 -- one day more
-rates-right : (file : List ℕ) (start n : ℕ)
-    → every (λ t. rateRight (rateOn file start t)) n ≡ rightAll dailyRate (valueAll dailyRate file start n)
+rates-right : (w : ℕ) (file : List ℕ) (start n : ℕ)
+    → every (rateRightOn w file start) n ≡ rightAll (dailyRate w) (valueAll (dailyRate w) file start n)
 unfolding every
-rates-right file start zero = refl
-rates-right file start (suc n) =
-    ap₂ (λ x y. x && y) (rates-right file start n) (rate-is (number file (start + 2 * n) 2))
-    ∙ sym (right-last dailyRate file start n)
+rates-right w file start zero = refl
+rates-right w file start (suc n) =
+    ap (λ x. x && rateRightOn w file start n) (rates-right w file start n) ∙ sym (right-last (dailyRate w) file start n)
 
-pub days-next : {file : List ℕ} {at d : ℕ} {held next : Sums} {right : Bool} → Summed file at d held
-    → DayAdded file (at + 120 * d) (held .sums) (next .sums) right → next .within ≡ (held .within && right) → Summed file at (d + 1) next
-days-next {file} {at} {d} h k e =
+day-right : (w : ℕ) (file : List ℕ) (start : ℕ) → every (rateRightOn w file start) 60 ≡ day w .right (day w .value file start)
+day-right w file start =
+    rates-right w file start 60
+    ∙ ap (λ b. b && rightAll (dailyRate w) (valueAll (dailyRate w) file start 60))
+    (sym (eq-eqb (length (valueAll (dailyRate w) file start 60)) 60 (values-length (dailyRate w) file start 60)))
+
+pub days-next : {w : ℕ} {file : List ℕ} {at d : ℕ} {held next : Sums} {right : Bool} → Summed w file at d held
+    → DayAdded w file (at + w * 60 * d) (held .sums) (next .sums) right → next .within ≡ (held .within && right)
+    → Summed w file at (d + 1) next
+unfolding total
+days-next {w} {file} {at} {d} h k e =
     record {
-      within = e ∙ ap₂ (λ x y. x && y) (h .within) (k .within ∙ rates-right file (at + 120 * d) 60)
-          ∙ sym (rw add-one (right-last day file at d));
+      within = e ∙ ap₂ (λ x y. x && y) (h .within) (k .within ∙ day-right w file (at + w * 60 * d))
+          ∙ sym (rw add-one (right-last (day w) file at d));
       sums = k .sums
           ∙ table-same _ _ 60
           (λ t l.
-          ap (λ x. x + rateOn file (at + 120 * d) t) (ap (λ xs. getD xs t 0) (h .sums) ∙ getD-table _ 60 t 0 l)
-          ∙ sum-next file at t d l);
-      most = record { each = λ t l. omega (arith, k .most (132767 * d) (h .most) .each t l) };
+          ap (λ x. x + rateOn w file (at + w * 60 * d) t) (ap (λ xs. getD xs t 0) (h .sums) ∙ getD-table _ 60 t 0 l) ∙ rw add-one);
+      most = record { each = λ t l. omega (arith, k .most (mostRaised w * d) (h .most) .each t l) };
     }
 
 -- an array whose entries are replaced from the front
@@ -130,5 +142,15 @@ set-most (x ∷ xs) (suc i) v zero most h k = k
 set-most (x ∷ xs) (suc i) v (suc t) most h k = set-most xs i v t most h k
 
 -- the sums of up to 255 days
-pub sums-most : {file : List ℕ} {at : ℕ} {r : Sums} (n : ℕ) → n ≤ 255 → Summed file at n r → EachAtMost 33855585 (r .sums)
-sums-most n l h = record { each = λ t b. omega (arith, h .most .each t b) }
+pub sums-most : {w : ℕ} {file : List ℕ} {at : ℕ} {r : Sums} (n : ℕ) → n ≤ 255 → Summed w file at n r → EachAtMost 1095216660225 (r .sums)
+sums-most {w} n l h =
+    let most = mul-le-mul {n₁ = mostRaised w} {m₁ = n} {n₂ = 4294967295} {m₂ = 255} (raised-most (eqb w 4)) l in
+    record { each = λ t b. omega (arith, h .most .each t b) }
+  where
+    raised-most : (b : Bool) → cond b 4294967295 132767 ≤ 4294967295
+    raised-most true = omega arith
+    raised-most false = omega arith
+
+-- what a step adds to a sum of up to 255 days
+pub step-most : {units days : ℕ} → units ≤ 100 → days < 256 → units * days ≤ 25500
+step-most {units} {days} h l = mul-le-mul {n₁ = units} {m₁ = days} {n₂ = 100} {m₂ = 255} h (omega arith)

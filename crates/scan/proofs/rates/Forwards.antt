@@ -1,5 +1,5 @@
--- Refusal 6 by the sums: t × P(t) is t × s(t) with t × 100,000 × n more, so that the difference of two terms that follow each other
--- has 100,000 × n more. Assumes nothing.
+-- Refusal 6 by the sums, to which one step adds u: t × P(t) is t × s(t) with t × 100,000 × u more, so that the difference of two terms that
+-- follow each other has 100,000 × u more. Assumes nothing.
 use Prim.Native.Nat.{ℕ, zero, suc, _+_, _*_, _-_, _≤_, _<_}
 use mathlib.Core.Path.{_≡_}
 use mathlib.Core.Bool.{Bool, _&&_}

@@ -1,20 +1,23 @@
--- An integer z that is r - m, for naturals r and m, is within limits where r is within the limits m higher. A rate of 16 bits is such a
--- difference, with 100,000 for m.
+-- An integer z that is r - m, for naturals r and m, is within limits where r is within the limits m higher. A rate is such a difference,
+-- with 100,000 steps for m.
 -- Assumes nothing.
-use Prim.Native.Nat.{ℕ, _+_, _*_, _-_, _%_, _<_}
-use mathlib.Core.Path.{_≡_, refl, ap₂, sym}
+use Prim.Native.Nat.{ℕ, _+_, _*_, _-_, _%_, _^_, _≤_, _<_}
+use mathlib.Core.Path.{_≡_, refl, ap, ap₂, sym, _∙_}
 use mathlib.Core.Bool.{Bool, true, false, _&&_, cond}
 use native.Mathlib.Omega.{arith}
-use borrow.Author.Tests.{ltb-true, ltb-false}
+use borrow.Author.Tests.{ltb-true, ltb-false, leb-true, leb-false, lt-leb}
 use lib.Dec.{T, leb, ltb, leb→le, le→leb}
 use lib.IntN.{ℤ, pos, negℤ, _+ℤ_, _-ℤ_}
 use lib.Signed.{leZ}
+use Rattle.model.specs.Case.{knownForm, unitsPerStep}
 use Rattle.model.specs.Curve.{natural}
 use Rattle.model.specs.Fields.{withinZ}
 use Rattle.model.specs.Layout.{dailyRate}
 use Rattle.model.specs.Numbers.{twosComplement}
+use Rattle.theory.proofs.acceptance.Form.{by-form}
+use Rattle.theory.proofs.general.Lists.{and-first, and-second, and-false}
 use Rattle.theory.proofs.general.Differences.{Diff, again, diff-pos, diff-sum, diff-neg, diff-minus, diff-le, le-diff, natural-is}
-use Rattle.scan.specs.inner.Sums.{raisedRate, rateRight}
+use Rattle.scan.specs.inner.Sums.{raisedTwo, raisedFour, raisedRate, rateRight}
 
 -- tests of the same truth
 same : (a b : Bool) → (T a → T b) → (T b → T a) → a ≡ b
@@ -41,9 +44,10 @@ within-raised least most low high r m z h e k =
 pub natural-raised : (z : ℤ) (r m : ℕ) → Diff z r m → natural (pos m +ℤ z) ≡ r
 natural-raised z r m h = natural-is (pos m +ℤ z) (m + r) (0 + m) r (diff-sum (pos m) z m 0 r m (diff-pos m) h) (omega arith)
 
--- 16 bits, two's complement: the upper half stands for the integers below 0
-pub raised : (v : ℕ) → Diff (twosComplement 2 v) (raisedRate v) 100000
-raised v = go (ltb (2 * v) 65536) refl
+-- ---- rates of 2 bytes: the upper half of 16 bits stands for the integers below 0
+
+pub raised-two : (v : ℕ) → Diff (twosComplement 2 v) (raisedTwo v) 100000
+raised-two v = go (ltb (2 * v) 65536) refl
   where
     go : (b : Bool) → ltb (2 * v) 65536 ≡ b → Diff (cond b (pos v) (pos v -ℤ pos 65536)) (cond b (100000 + v) (100000 + v - 65536)) 100000
     go true e = omega arith
@@ -53,12 +57,71 @@ raised v = go (ltb (2 * v) 65536) refl
         (omega (arith, ltb-false (2 * v) 65536 e))
 
 -- the same by a remainder
-pub wrapped : (v : ℕ) → v < 65536 → 67232 + (v + 32768) % 65536 ≡ raisedRate v
+pub wrapped : (v : ℕ) → v < 65536 → 67232 + (v + 32768) % 65536 ≡ raisedTwo v
 wrapped v l = go (ltb (2 * v) 65536) refl
   where
     go : (b : Bool) → ltb (2 * v) 65536 ≡ b → 67232 + (v + 32768) % 65536 ≡ cond b (100000 + v) (100000 + v - 65536)
     go true e = omega (arith, ltb-true (2 * v) 65536 e)
     go false e = omega (arith, ltb-false (2 * v) 65536 e)
 
-pub rate-is : (v : ℕ) → rateRight (raisedRate v) ≡ dailyRate .right (twosComplement 2 v)
-rate-is v = within-raised 1000 10000 99000 110000 (raisedRate v) 100000 (twosComplement 2 v) (raised v) refl refl
+pub right-two : (v : ℕ) → rateRight 1 (raisedTwo v) ≡ dailyRate 2 .right (twosComplement 2 v)
+right-two v = within-raised 1000 10000 99000 110000 (raisedTwo v) 100000 (twosComplement 2 v) (raised-two v) refl refl
+
+-- ---- rates of 4 bytes: 10,000,000 and a rate is the remainder, if the rate is not below -10,000,000
+
+abbrev span : ℕ
+span = 4294967296
+
+below-four : (v : ℕ) → Diff (pos v -ℤ pos span) v span
+below-four v =
+    again (pos v -ℤ pos span) (v + 0) (0 + span) v span (diff-minus (pos v) (pos span) v 0 span 0 (diff-pos v) (diff-pos span)) (omega arith)
+
+raised-low : (v : ℕ) → 2 * v < span → Diff (pos v) (raisedFour v) 10000000
+raised-low v h = let e : raisedFour v ≡ v + 10000000 = omega arith in rw e (omega arith)
+
+raised-high : (v : ℕ) → span ≤ v + 10000000 → v < span + span - 10000000 → Diff (pos v -ℤ pos span) (raisedFour v) 10000000
+raised-high v h k =
+    again (pos v -ℤ pos span) v span (raisedFour v) 10000000 (below-four v) (omega arith)
+
+-- its limits by naturals
+limits-high : (v : ℕ) → withinZ (negℤ (pos 100000)) (pos 1000000) (pos v -ℤ pos span) ≡ (leb span (v + 100000) && leb v (span + 1000000))
+limits-high v =
+    ap₂ (λ a b. a && b)
+    (diff-leb (negℤ (pos 100000)) (pos v -ℤ pos span) 0 100000 v span span (v + 100000) (diff-neg (pos 100000) 100000 0 (diff-pos 100000)) (below-four v) (omega arith))
+    (diff-leb (pos v -ℤ pos span) (pos 1000000) v span 1000000 0 v (span + 1000000) (below-four v) (diff-pos 1000000) (omega arith))
+
+pub right-four : (v : ℕ) → v < 256 ^ 4 → rateRight 100 (raisedFour v) ≡ dailyRate 4 .right (twosComplement 4 v)
+right-four v l = go (ltb (2 * v) span) refl (leb span (v + 10000000)) refl
+  where
+    go : (b : Bool) → ltb (2 * v) span ≡ b → (c : Bool) → leb span (v + 10000000) ≡ c
+        → rateRight 100 (raisedFour v) ≡ withinZ (negℤ (pos 100000)) (pos 1000000) (cond b (pos v) (pos v -ℤ pos span))
+    go true e c f =
+        within-raised 100000 1000000 9900000 11000000 (raisedFour v) 10000000 (pos v) (raised-low v (ltb-true (2 * v) span e)) refl refl
+    go false e true f =
+        within-raised 100000 1000000 9900000 11000000 (raisedFour v) 10000000 (pos v -ℤ pos span)
+        (raised-high v (leb-true span (v + 10000000) f) (omega arith)) refl refl
+    go false e false f =
+        let far = leb-false span (v + 10000000) f in
+        let half = ltb-false (2 * v) span e in
+        let high : 11000000 < raisedFour v = omega arith in
+        and-false (leb 9900000 (raisedFour v)) (leb (raisedFour v) 11000000) (lt-leb (raisedFour v) 11000000 high)
+        ∙ sym (limits-high v ∙ ap (λ b. b && leb v (span + 1000000)) (lt-leb span (v + 100000) (omega arith)))
+
+raised-four : (v : ℕ) → dailyRate 4 .right (twosComplement 4 v) ≡ true → Diff (twosComplement 4 v) (raisedFour v) 10000000
+raised-four v h = go (ltb (2 * v) span) refl h
+  where
+    go : (b : Bool) → ltb (2 * v) span ≡ b → withinZ (negℤ (pos 100000)) (pos 1000000) (cond b (pos v) (pos v -ℤ pos span)) ≡ true
+        → Diff (cond b (pos v) (pos v -ℤ pos span)) (raisedFour v) 10000000
+    go true e h = raised-low v (ltb-true (2 * v) span e)
+    go false e h =
+        let both = sym (limits-high v) ∙ h in
+        let least = leb-true span (v + 100000) (and-first (leb span (v + 100000)) (leb v (span + 1000000)) both) in
+        let most = leb-true v (span + 1000000) (and-second (leb span (v + 100000)) (leb v (span + 1000000)) both) in
+        raised-high v (omega arith) (omega arith)
+
+-- ---- of either kind: 100,000 steps and a rate that is within its limits
+pub raised-right : (w v : ℕ) → knownForm w ≡ true → dailyRate w .right (twosComplement w v) ≡ true
+    → Diff (twosComplement w v) (raisedRate w v) (100000 * unitsPerStep w)
+raised-right w v known =
+    by-form (λ w. dailyRate w .right (twosComplement w v) ≡ true → Diff (twosComplement w v) (raisedRate w v) (100000 * unitsPerStep w))
+    w known (λ h. raised-two v) (raised-four v)

@@ -28,13 +28,13 @@ abbrev pub numbered : List Check → Bool
 numbered [] = true
 numbered (c ∷ cs) = ltb 0 (c .1) && numbered cs
 
+both-on : (a b d : Bool) → T (a && b) → (T b → T d) → T (a && d)
+both-on true b d t f = f t
+both-on false b d t f = t
+
 pub numbered-append : (cs ds : List Check) → T (numbered cs) → T (numbered ds) → T (numbered (cs ++ ds))
 numbered-append [] ds t u = u
-numbered-append (c ∷ cs) ds t u = go (ltb 0 (c .1)) (numbered cs) (numbered (cs ++ ds)) t (λ k. numbered-append cs ds k u)
-  where
-    go : (a b d : Bool) → T (a && b) → (T b → T d) → T (a && d)
-    go true b d t f = f t
-    go false b d t f = t
+numbered-append (c ∷ cs) ds t u = both-on (ltb 0 (c .1)) (numbered cs) (numbered (cs ++ ds)) t (λ k. numbered-append cs ds k u)
 
 -- both ways
 pub none-hold : (cs : List Check) → T (numbered cs) → firstOf cs ≡ 0 → Hold cs
@@ -74,6 +74,14 @@ after-some ((false, n) ∷ cs) ds r h = h
 abbrev pub below : ℕ → List Check → Bool
 below m [] = true
 below m (c ∷ cs) = ltb (c .1) m && below m cs
+
+pub below-append : (m : ℕ) (cs ds : List Check) → T (below m cs) → T (below m ds) → T (below m (cs ++ ds))
+below-append m [] ds t u = u
+below-append m (c ∷ cs) ds t u = both-on (ltb (c .1) m) (below m cs) (below m (cs ++ ds)) t (λ k. below-append m cs ds k u)
+
+pub below-if : (m : ℕ) (b : Bool) (cs : List Check) → T (below m cs) → T (below m (cond b cs []))
+below-if m true cs t = t
+below-if m false cs t = tt
 
 pub first-below : (m : ℕ) (cs : List Check) → 0 < m → T (below m cs) → firstOf cs < m
 unfolding firstOf

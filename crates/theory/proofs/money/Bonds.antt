@@ -7,7 +7,7 @@ use native.Mathlib.Omega.{arith}
 use lib.ListN.{length}
 use Rattle.arith.specs.Rounding.{End}
 use Rattle.model.specs.Fraction.{Fraction, _//_, _÷ᶠ_, _^ᶠ_, whole}
-use Rattle.model.specs.Case.{FileCase, withUfr}
+use Rattle.model.specs.Case.{FileCase, perStep, withUfr}
 use Rattle.model.specs.Curve.{Move, curve, P}
 use Rattle.model.specs.Exact as Exact
 use Rattle.model.specs.Exact.{G, productOf}
@@ -27,11 +27,11 @@ module _ (ufr : ℕ) (k : FileCase) (m : Move) where
   same-P = fun-ext (λ t. ufr-P ufr k m t)
 
   pub exact-B-any-ufr : Exact.B (withUfr ufr k) m ≡ Exact.B k m
-  unfolding Exact.unadjusted G curve
+  unfolding Exact.unadjusted G curve perStep
   exact-B-any-ufr = ap (λ (p : ℕ → ℕ). Exact.worth (λ t. whole 1 ÷ᶠ productOf (growthBy (curve k m .N) p) t) 1 (k .bonds)) same-P
 
   pub B-any-ufr : (e : End) → Rounded.B (withUfr ufr k) m e ≡ Rounded.B k m e
-  unfolding Rounded.unadjusted curve
+  unfolding Rounded.unadjusted curve perStep
   B-any-ufr e = ap (λ (p : ℕ → ℕ). Rounded.worth e (λ t. scaled e (curve k m .N) (p t) t) 1 (k .bonds)) same-P
 
 -- ---- bond flows to term 20

@@ -55,7 +55,7 @@ right-too w v h e =
     facts-right v (record {
       count = omega (arith, r .count, count-same w v h);
       start = h .otherStart;
-      days = ap (rightAll day) (sym (h .days)) ∙ r .days;
+      days = ap (rightAll (day 2)) (sym (h .days)) ∙ r .days;
       sums = λ t l. sym (h .sums t l) ∙ r .sums t l ∙ ap (λ days. s days (suc t)) (h .days);
     })
 
@@ -78,7 +78,7 @@ alike-answers w v h =
     let right = right-same w v h in
     let count = count-same w v h in
     let refusal = refusal-same w v h in
-    let case : (k : FileCase) → withDays (daysHeld w) k ≡ withDays (daysHeld v) k = λ k. ap (λ days. withDays days k) (h .days) in
+    let case : (k : FileCase) → withDays 2 (daysHeld w) k ≡ withDays 2 (daysHeld v) k = λ k. ap (λ days. withDays 2 days k) (h .days) in
     record {
       right = right;
       adding = λ new. rw (right, count);
@@ -95,7 +95,7 @@ module _ (w v : RollingWindow) (h : Alike w v) where
       → Alike (added w new) (added v new)
   unfolding addRefusal added
   added-alike new long otherLong e =
-      let passed = none-hold ((windowRight w, 27) ∷ (ltb (w .count) 70, 15) ∷ (day .right new, 5) ∷ []) tt e in
+      let passed = none-hold ((windowRight w, 27) ∷ (ltb (w .count) 70, 15) ∷ (day 2 .right new, 5) ∷ []) tt e in
       let room = ltb-true (w .count) 70 (passed .1 .0) in
       let otherRoom : v .count < 70 = omega (arith, count-same w v h) in
       let whole = day-whole new (passed .1 .1 .0) in

@@ -21,9 +21,9 @@ module _ (w : RollingWindow) (k : FileCase) (factors : List ℕ) (rates : List �
     (e : windowValuation w k (length factors) (length rates) ≡ Valued figures verdict) where
   none : windowRefusal w k (length factors) (length rates) ≡ 0
   unfolding windowValuation
-  none = no-refusal (windowRefusal w k (length factors) (length rates)) (withDays (daysHeld w) k) figures verdict e
+  none = no-refusal (windowRefusal w k (length factors) (length rates)) (withDays 2 (daysHeld w) k) figures verdict e
 
-  pub window-demand3 : Demand3 (withDays (daysHeld w) k) (record {
+  pub window-demand3 : Demand3 (withDays 2 (daysHeld w) k) (record {
     figures = figures;
     verdict = verdict;
     factor = entryOf (windowFactorsAfter w k factors rates);
@@ -31,6 +31,6 @@ module _ (w : RollingWindow) (k : FileCase) (factors : List ℕ) (rates : List �
   })
   unfolding windowValuation windowFactorsAfter windowRatesAfter
   window-demand3 =
-      demand3 (withDays (daysHeld w) k) (within-limits w k (length factors) (length rates) none) _
-      (written-rounded (withDays (daysHeld w) k) figures verdict (windowFactorsAfter w k factors rates) (drop 240 factors)
+      demand3 (withDays 2 (daysHeld w) k) (within-limits w k (length factors) (length rates) none) _
+      (written-rounded (withDays 2 (daysHeld w) k) figures verdict (windowFactorsAfter w k factors rates) (drop 240 factors)
       (windowRatesAfter w k factors rates) (drop 240 rates) (rw none at (sym e)) (rw none) (rw none))

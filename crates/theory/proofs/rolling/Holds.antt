@@ -25,7 +25,7 @@ use Rattle.theory.proofs.rolling.Right.{day-whole, sums-at, Right, fact
 
 -- ---- a right window stays right
 
-pub added-right : (w : RollingWindow) (new : List ℤ) → length (w .rates) ≡ 4200 → Right w → w .count < 70 → day .right new ≡ true
+pub added-right : (w : RollingWindow) (new : List ℤ) → length (w .rates) ≡ 4200 → Right w → w .count < 70 → day 2 .right new ≡ true
     → Right (added w new)
 unfolding added
 added-right w new long r room good =
@@ -33,7 +33,7 @@ added-right w new long r room good =
     record {
       count = omega arith;
       start = r .start;
-      days = ap (rightAll day) held ∙ right-more day (daysHeld w) new ∙ and-both (rightAll day (daysHeld w)) (day .right new) (r .days) good;
+      days = ap (rightAll (day 2)) held ∙ right-more (day 2) (daysHeld w) new ∙ and-both (rightAll (day 2) (daysHeld w)) (day 2 .right new) (r .days) good;
       sums = λ t l. sums-at (daysHeld w ++ (new ∷ [])) t l ∙ ap (λ days. s days (suc t)) (sym held);
     }
 
@@ -42,13 +42,13 @@ unfolding dropped
 dropped-right w r = record {
   count = omega (arith, r .count);
   start = slot-less 70 (w .start) 1 (lit< tt);
-  days = ap (rightAll day) (held-dropped w) ∙ rest (daysHeld w) (r .days);
+  days = ap (rightAll (day 2)) (held-dropped w) ∙ rest (daysHeld w) (r .days);
   sums = λ t l. sums-at (drop 1 (daysHeld w)) t l ∙ ap (λ days. s days (suc t)) (sym (held-dropped w));
 }
   where
-    rest : (days : List (List ℤ)) → rightAll day days ≡ true → rightAll day (drop 1 days) ≡ true
+    rest : (days : List (List ℤ)) → rightAll (day 2) days ≡ true → rightAll (day 2) (drop 1 days) ≡ true
     rest [] h = refl
-    rest (first ∷ days) h = and-second (day .right first) (rightAll day days) h
+    rest (first ∷ days) h = and-second (day 2 .right first) (rightAll (day 2) days) h
 
 -- ---- a window that is right and holds these days
 
@@ -73,11 +73,11 @@ module _ (w : RollingWindow) (days : List (List ℤ)) (h : Holds w days) where
   add-holds : (new : List ℤ) → Holds (change w (add new)) (queue days (add new))
   unfolding addDay addRefusal firstOf
   add-holds new =
-      let is : addRefusal w new ≡ cond (ltb (w .count) 70) (cond (day .right new) 0 5) 15 = rw (facts-right w (h .right)) in
-      subst₂ (λ r n. Holds (changed r w (added w new) .window) (cond (ltb n 70 && day .right new) (days ++ (new ∷ [])) days)) (sym is)
-      (sym count-is) (go (ltb (w .count) 70) (day .right new) refl refl)
+      let is : addRefusal w new ≡ cond (ltb (w .count) 70) (cond (day 2 .right new) 0 5) 15 = rw (facts-right w (h .right)) in
+      subst₂ (λ r n. Holds (changed r w (added w new) .window) (cond (ltb n 70 && day 2 .right new) (days ++ (new ∷ [])) days)) (sym is)
+      (sym count-is) (go (ltb (w .count) 70) (day 2 .right new) refl refl)
     where
-      go : (room good : Bool) → ltb (w .count) 70 ≡ room → day .right new ≡ good
+      go : (room good : Bool) → ltb (w .count) 70 ≡ room → day 2 .right new ≡ good
           → Holds (changed (cond room (cond good 0 5) 15) w (added w new) .window) (cond (room && good) (days ++ (new ∷ [])) days)
       go false good e f = h
       go true false e f = h

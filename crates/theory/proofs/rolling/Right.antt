@@ -38,8 +38,8 @@ equal-test y z e = subst (λ x. equalZ y x ≡ true) e (and-both (leZ y y) (leZ 
 -- ---- a day and the sums of days
 
 -- a day within the limits has 60 rates
-pub day-whole : (new : List ℤ) → day .right new ≡ true → length new ≡ 60
-day-whole new h = eqb-true (length new) 60 (and-first (eqb (length new) 60) (rightAll dailyRate new) h)
+pub day-whole : (new : List ℤ) → day 2 .right new ≡ true → length new ≡ 60
+day-whole new h = eqb-true (length new) 60 (and-first (eqb (length new) 60) (rightAll (dailyRate 2) new) h)
 
 pub sums-at : (days : List (List ℤ)) (t : ℕ) → t < 60 → getD (sumsOf days) t (pos 0) ≡ s days (suc t)
 unfolding sumsOf
@@ -50,7 +50,7 @@ sums-at days t h = getD-table (λ i. s days (suc i)) 60 t (pos 0) h
 pub record Right (w : RollingWindow) : Type 0 where
   pub count : w .count ≤ 70
   pub start : w .start < 70
-  pub days : rightAll day (daysHeld w) ≡ true
+  pub days : rightAll (day 2) (daysHeld w) ≡ true
   pub sums : (t : ℕ) → t < 60 → getD (w .sums) t (pos 0) ≡ s (daysHeld w) (suc t)
 
 module _ (w : RollingWindow) where
@@ -69,7 +69,7 @@ module _ (w : RollingWindow) where
   right-facts h =
       let c = leb (w .count) 70 in
       let p = ltb (w .start) 70 in
-      let d = rightAll day (daysHeld w) in
+      let d = rightAll (day 2) (daysHeld w) in
       let front = and-first (c && p && d) sumsRight h in
       let place = and-first (c && p) d front in
       record {

@@ -7,10 +7,10 @@ use mathlib.Core.Bool.{Bool, true, false, _&&_, cond}
 use mathlib.Core.List.{List, [], _∷_, _++_}
 use native.Mathlib.Omega.{arith}
 use borrow.Author.Tests.{le-leb, leb-true, ltb-true, ltb-false}
-use lib.Dec.{leb, ltb}
+use lib.Dec.{T, leb, ltb, lit<}
 use lib.ListN.{length, drop-of-length-le}
 use lib.IntN.{ℤ}
-use Rattle.model.specs.Case.{FileCase, withDays}
+use Rattle.model.specs.Case.{FileCase, perStep, withDays}
 use Rattle.model.specs.Limits.{WithinLimits}
 use Rattle.model.specs.Fields.{Check}
 use Rattle.model.specs.Layout.{Present, partsOf, fileOf, caseOf, Agrees}
@@ -30,27 +30,33 @@ use Rattle.theory.proofs.rolling.Right.{right-facts}
 
 module _ (w : RollingWindow) (k : FileCase) (right : windowRight w ≡ true) (accepted : caseRefusal k ≡ 0) where
   abbrev valued : FileCase
-  valued = withDays (daysHeld w) k
+  valued = withDays 2 (daysHeld w) k
 
   -- "then 4 for an empty window, then 6 for its days"
   abbrev daysChecks : List Check
   daysChecks = (ltb 0 (w .count), 4) ∷ (forwardsRight (w .count) (daysHeld w), 6) ∷ []
 
-  parts : 0 < w .count → (p : Present) → Agrees p k → PartsWithin p (partsOf valued)
+  -- the days held stand in the two-byte field, whichever days field the case has
+  parts : 0 < w .count → (p : Present) → Agrees p k → PartsWithin 2 p (partsOf valued)
   parts some p agrees =
       let n = length (daysHeld w) in
       let least = le-leb 1 n (omega (arith, held-count w)) in
       let most = le-leb n 70 (omega (arith, held-count w, right-facts w right .count)) in
-      let days = days-limited .within (daysHeld w) (and-both (leb 1 n) (leb n 70) least most also right-facts w right .days also tt) in
-      let (ufr, (own, others)) = limits-parts p k (case-within k accepted) agrees in
-      (ufr, (days, others))
+      let days = days-limited 2 (lit< tt) .within (daysHeld w) (and-both (leb 1 n) (leb n 70) least most also right-facts w right .days also tt) in
+      let ((ufr, (own, others)), later) = limits-parts p k (case-within k accepted) agrees in
+      ((ufr, ((λ e. days, λ e. absurd (subst T e tt)), others)), (λ e. absurd (subst T (sym e) tt), λ e. refl))
 
   -- ---- the case with the days held
 
-  pub window-within : 0 < w .count → forwardsRight (w .count) (daysHeld w) ≡ true → WithinLimits (withDays (daysHeld w) k)
+  -- one step of two-byte days adds 1 for each day
+  step-is : perStep valued ≡ w .count
+  unfolding perStep
+  step-is = omega (arith, held-count w)
+
+  pub window-within : 0 < w .count → forwardsRight (w .count) (daysHeld w) ≡ true → WithinLimits (withDays 2 (daysHeld w) k)
   window-within some h =
-      let six = subst (λ n. forwardsRight n (daysHeld w) ≡ true) (sym (held-count w)) h in
-      parts-limits (needed k) valued (parts some (needed k) (agrees-needed k)) (forwards-true (daysHeld w) six) .0
+      let six = subst (λ n. forwardsRight n (daysHeld w) ≡ true) (sym step-is) h in
+      parts-limits (needed k) valued refl (parts some (needed k) (agrees-needed k)) (forwards-true (perStep valued) (daysHeld w) six) .0
 
   -- ---- a file with these days
 
@@ -64,7 +70,7 @@ module _ (w : RollingWindow) (k : FileCase) (right : windowRight w ≡ true) (ac
     file = fileOf p valued
 
     file-case : 0 < w .count → caseOf file ≡ valued
-    file-case some = case-read file p valued refl (parts some p agrees) .1
+    file-case some = case-read file p valued refl refl (parts some p agrees) .1
 
     file-refused : refusal file ≡ firstOf daysChecks
     unfolding firstOf
@@ -73,12 +79,12 @@ module _ (w : RollingWindow) (k : FileCase) (right : windowRight w ≡ true) (ac
         go : (some : Bool) → ltb 0 (w .count) ≡ some
             → refusal file ≡ cond some (firstOf ((forwardsRight (w .count) (daysHeld w), 6) ∷ [])) 4
         go true e =
-            case-read file p valued refl (parts (ltb-true 0 (w .count) e) p agrees) .0
-            ∙ ap (λ n. firstOf ((forwardsRight n (daysHeld w), 6) ∷ [])) (held-count w)
+            case-read file p valued refl refl (parts (ltb-true 0 (w .count) e) p agrees) .0
+            ∙ ap (λ n. firstOf ((forwardsRight n (daysHeld w), 6) ∷ [])) step-is
         go false e =
             let none : length (daysHeld w) ≤ 0 = omega (arith, held-count w, ltb-false 0 (w .count) e) in
-            let (ufr, fields) = limits-parts p k (case-within k accepted) agrees in
-            no-days-refused file p valued refl ufr (drop-of-length-le (daysHeld w) {i = 0} none)
+            let ((ufr, fields), later) = limits-parts p k (case-within k accepted) agrees in
+            no-days-refused file p k (ap (λ days. fileOf p (withDays 2 days k)) (drop-of-length-le (daysHeld w) {i = 0} none)) ufr
 
     same-refusal : (factors rates : ℕ) → windowRefusal w k factors rates ≡ valuationRefusal factors rates file
     unfolding valuationRefusal firstOf refusal
@@ -97,7 +103,7 @@ module _ (w : RollingWindow) (k : FileCase) (right : windowRight w ≡ true) (ac
             ap (given 0) (sym (file-case (ltb-true 0 (w .count) (held .1 .0))))
         go (suc r) e = none r valued (caseOf file)
 
-    pub window-values : (factors : List ℕ) (rates : List ℤ) → ValuedAsFile w k (fileOf p (withDays (daysHeld w) k)) factors rates
+    pub window-values : (factors : List ℕ) (rates : List ℤ) → ValuedAsFile w k (fileOf p (withDays 2 (daysHeld w) k)) factors rates
     unfolding windowValuation windowFactorsAfter windowRatesAfter valuationOf Buffers.factorsAfter Buffers.ratesAfter
     window-values factors rates = record {
       answer = same-given answered (λ r k j. refl) (length factors) (length rates);
@@ -126,7 +132,7 @@ module _ (w : RollingWindow) (k : FileCase) (factors rates : ℕ) (none : window
   pub long-rates : 240 ≤ rates
   long-rates = leb-true 240 rates (and-second (leb 240 factors) (leb 240 rates) (passed .1 .0))
 
-  pub within-limits : WithinLimits (withDays (daysHeld w) k)
+  pub within-limits : WithinLimits (withDays 2 (daysHeld w) k)
   unfolding caseRefusal
   within-limits =
       let (own, days) = hold-parts (caseChecks k) lastChecks (passed .1 .1) in

@@ -19,7 +19,7 @@ ratesIn [] = []
 ratesIn (day ∷ days) = day ++ ratesIn days
 
 abbrev pub fieldsIn : FileCase → CaseFields
-fieldsIn k = record { ufr = k .ufr; amounts = k .amounts; shocks = k .shocks; people = k .people }
+fieldsIn k = record { «rate_bytes» = k .rateBytes; ufr = k .ufr; amounts = k .amounts; shocks = k .shocks; people = k .people }
 
 -- each day has 60 rates
 abbrev Whole : List (List ℤ) → Type 0
@@ -49,4 +49,4 @@ days-given days h =
     rw (eq-eqb (length (ratesIn days) % 60) 0 none, count) (days-back days h)
 
 pub case-given : (k : FileCase) → WithinLimits k → given (fieldsIn k) (ratesIn (k .days)) (k .pension) (k .bonds) ≡ k
-case-given k w = ap (λ (days : List (List ℤ)). withDays days k) (days-given (k .days) (λ d l. w .days .each d l .terms))
+case-given k w = ap (λ (days : List (List ℤ)). withDays (k .rateBytes) days k) (days-given (k .days) (λ d l. w .days .each d l .terms))

@@ -2,7 +2,7 @@
 -- bytes are read as the same case; two cases have the same bytes exactly when they are equal; no file of the case is shorter; and 14 is
 -- given exactly where the case is within the limits and the buffer is too short.
 use mathlib.Core.Path.{_≡_, refl, ap, sym, _∙_, subst}
-use mathlib.Core.Bool.{Bool, true, false}
+use mathlib.Core.Bool.{Bool, true, false, cond}
 use mathlib.Core.List.{List, [], _∷_, _++_}
 use Prim.Native.Nat.{ℕ, zero, suc, _+_, _≤_, _<_}
 use native.Mathlib.Omega.{arith}
@@ -11,20 +11,21 @@ use lib.Dec.{T, leb, ltb, eqb, lit<}
 use lib.ListN.{length, getD, length-append}
 use Rattle.model.specs.Constants.{defaultUfr}
 use Rattle.model.specs.Numbers.{bytesOf}
-use Rattle.model.specs.Case.{FileCase}
+use Rattle.model.specs.Case.{FileCase, knownForm, perStep}
 use Rattle.model.specs.Limits.{WithinLimits}
 use Rattle.model.specs.Fields.{Check, Field, numberOf, field, counted, optional}
-use Rattle.model.specs.Layout.{flow, amountsFrom, amountsInOrder, amounts, noAmounts, shocks, people, Present, mapOf, layout, partsOf}
+use Rattle.model.specs.Layout.{flow, amountsFrom, amountsInOrder, amounts, noAmounts, shocks, people, Present, mapOf, firstFields, layout}
+use Rattle.model.specs.Layout.{daysIf, partsOf}
 use Rattle.model.specs.Layout.{fileOf, caseOf, Agrees, Keeps}
 use Rattle.model.specs.inner.Positions.{ufrField, daysField, pensionField, bondsField, amountsField}
 use Rattle.model.specs.Refusals.{firstOf, refusal}
 use Rattle.model.specs.Saving.{allZero, needed, shortest, caseChecks, caseRefusal, saveRefusal}
 use Rattle.theory.proofs.general.Lists.{and-first, and-second, _also_}
 use Rattle.theory.proofs.acceptance.Checks.{numbered, numbered-append, hold-append, hold-parts, none-hold, hold-none, after-none, after-some}
-use Rattle.theory.proofs.acceptance.Checks.{below, first-below}
+use Rattle.theory.proofs.acceptance.Checks.{below-append, below-if, first-below}
 use Rattle.theory.proofs.acceptance.Encoding.{length-bytes}
 use Rattle.theory.proofs.acceptance.Within.{forwards-true, forwards-test, PartsWithin, PartsLimited, layout-limited, parts-limits, limits-parts}
-use Rattle.theory.proofs.acceptance.Acceptance.{sixth, keeps-accepted}
+use Rattle.theory.proofs.acceptance.Acceptance.{sixth, forwards-within, keeps-accepted}
 
 -- ---- the fields that are left out
 
@@ -54,32 +55,42 @@ agrees-needed k = record {
 -- ---- "a case outside the limits gets document 01's number"
 
 module _ (k : FileCase) where
+  -- "3" of the form, then the fields, then 6
+  abbrev formCheck : List Check
+  formCheck = (knownForm (k .rateBytes), 3) ∷ []
+
   abbrev fieldChecks : List Check
-  fieldChecks = layout (needed k) .limits (partsOf k)
+  fieldChecks = layout (k .rateBytes) (needed k) .limits (partsOf k)
 
   -- no check of a case has the number 0
   pub case-numbered : T (numbered (caseChecks k))
   unfolding caseChecks
-  case-numbered = numbered-append fieldChecks (sixth (k .days)) (layout-limited (needed k) .counts (partsOf k)) tt
+  case-numbered = numbered-append fieldChecks (sixth k) (layout-limited (k .rateBytes) (needed k) .counts (partsOf k)) tt
 
   -- a case is accepted exactly when it is within the limits
   pub case-accepted : WithinLimits k → caseRefusal k ≡ 0
   unfolding caseRefusal caseChecks
   case-accepted w =
-      let within : PartsWithin (needed k) (partsOf k) = limits-parts (needed k) k w (agrees-needed k) in
-      let limited : PartsLimited (needed k) (partsOf k) = search in
-      let six = forwards-test (k .days) (w .days .forwards) in
+      let within : PartsWithin (k .rateBytes) (needed k) (partsOf k) = limits-parts (needed k) k w (agrees-needed k) in
+      let limited : PartsLimited (k .rateBytes) (needed k) (partsOf k) = search in
+      let six = forwards-test (perStep k) (k .days) (forwards-within k w) in
       hold-none (caseChecks k)
-      (hold-append fieldChecks (sixth (k .days)) (layout-limited (needed k) .tested (partsOf k) limited) (six also tt))
+      (w .form also hold-append fieldChecks (sixth k) (layout-limited (k .rateBytes) (needed k) .tested (partsOf k) limited) (six also tt))
 
   pub case-within : caseRefusal k ≡ 0 → WithinLimits k
   unfolding caseRefusal caseChecks
   case-within h =
-      let (fields, six) = hold-parts fieldChecks (sixth (k .days)) (none-hold (caseChecks k) case-numbered h) in
-      let (u, (d, (m, (b, (a, s))))) = layout-limited (needed k) .within (partsOf k) fields in
+      let (known, checked) = none-hold (caseChecks k) case-numbered h in
+      let (fields, six) = hold-parts fieldChecks (sixth k) checked in
+      let ((u, (d, (m, (b, (a, s))))), l) = layout-limited (k .rateBytes) (needed k) .within (partsOf k) fields in
       let agrees = agrees-needed k in
-      let within : PartsWithin (needed k) (partsOf k) = ((u, agrees .ufrAbsent), (d, (m, ((b, agrees .bondsAbsent), ((a, agrees .amountsAbsent), s))))) in
-      parts-limits (needed k) k within (forwards-true (k .days) (six .0)) .0
+      let within : PartsWithin (k .rateBytes) (needed k) (partsOf k) =
+      (((u, agrees .ufrAbsent), ((d, none-in 2), (m, ((b, agrees .bondsAbsent), ((a, agrees .amountsAbsent), s))))), (l, none-in 4)) in
+      parts-limits (needed k) k known within (forwards-true (perStep k) (k .days) (six .0)) .0
+    where
+      -- the other days field has no days
+      none-in : (w : ℕ) → eqb (k .rateBytes) w ≡ false → daysIf w k ≡ []
+      none-in w e = ap (λ (b : Bool). cond b (k .days) []) e
 
 -- ---- the saved bytes
 
@@ -113,23 +124,27 @@ optionalBytes p k =
 
 abbrev pub otherBytes : FileCase → ℕ
 otherBytes k =
-    2 + length (daysField .bytes (k .days)) + length (pensionField .bytes (k .pension)) + length (shocks .bytes (k .shocks))
-    + length (people .bytes (k .people))
+    2 + length (daysField 2 (k .rateBytes) .bytes (daysIf 2 k)) + length (pensionField .bytes (k .pension)) + length (shocks .bytes (k .shocks))
+    + length (people .bytes (k .people)) + length (daysField 4 (k .rateBytes) .bytes (daysIf 4 k))
 
 pub file-length : (p : Present) (k : FileCase) → length (fileOf p k) ≡ optionalBytes p k + otherBytes k
 unfolding fileOf
 file-length p k =
+    let w = k .rateBytes in
     let u = ufrField p .bytes (k .ufr) in
-    let d = daysField .bytes (k .days) in
+    let d = daysField 2 w .bytes (daysIf 2 k) in
     let m = pensionField .bytes (k .pension) in
     let b = bondsField p .bytes (k .bonds) in
     let a = amountsField p .bytes (k .amounts) in
     let s = shocks .bytes (k .shocks) in
     let h = people .bytes (k .people) in
+    let l = daysField 4 w .bytes (daysIf 4 k) in
+    let first = u ++ (d ++ (m ++ (b ++ (a ++ (s ++ h))))) in
     omega (
       arith,
-      length-append (bytesOf 2 (mapOf p)) (u ++ (d ++ (m ++ (b ++ (a ++ (s ++ h)))))),
-      length-bytes 2 (mapOf p),
+      length-append (bytesOf 2 (mapOf w p)) (first ++ l),
+      length-bytes 2 (mapOf w p),
+      length-append first l,
       length-append u (d ++ (m ++ (b ++ (a ++ (s ++ h))))),
       length-append d (m ++ (b ++ (a ++ (s ++ h)))),
       length-append m (b ++ (a ++ (s ++ h))),
@@ -157,17 +172,17 @@ saved-shortest file x =
 under-fourteen : (k : FileCase) → caseRefusal k < 14
 unfolding caseRefusal caseChecks
 under-fourteen k =
-    first-below 14 (caseChecks k) (lit< tt) (go (needed k .ufr) (needed k .bonds) (needed k .amounts))
-  where
-    go : (u b a : Bool) → T (below 14 (layout (record { ufr = u; bonds = b; amounts = a }) .limits (partsOf k) ++ sixth (k .days)))
-    go true true true = tt
-    go true true false = tt
-    go true false true = tt
-    go true false false = tt
-    go false true true = tt
-    go false true false = tt
-    go false false true = tt
-    go false false false = tt
+    let w = k .rateBytes in
+    let p = needed k in
+    first-below 14 (caseChecks k) (lit< tt)
+    (below-append 14 (layout w p .limits (partsOf k)) (sixth k)
+    (below-append 14 (firstFields w p .limits (partsOf k .0)) (daysField 4 w .limits (daysIf 4 k))
+    (below-append 14 (ufrField p .limits (k .ufr)) _ (below-if 14 (p .ufr) _ tt)
+    (below-append 14 (daysField 2 w .limits (daysIf 2 k)) _ (below-if 14 (eqb w 2) _ tt)
+    (below-append 14 (pensionField .limits (k .pension) ++ bondsField p .limits (k .bonds)) _ (below-if 14 (p .bonds) _ tt)
+    (below-append 14 (amountsField p .limits (k .amounts)) _ (below-if 14 (p .amounts) _ tt) tt))))
+    (below-if 14 (eqb w 4) _ tt))
+    tt)
 
 module _ (k : FileCase) (room : ℕ) where
   abbrev roomCheck : List Check

@@ -1,7 +1,7 @@
 -- `save`: a case that is refused, a buffer that is too short, and the bytes of the case.
 use borrow.Author.Needs.{needs}
 use native.Mathlib.Omega.{arith}
-use Rattle.writer.proofs.Answers.{refused, few, right-days, too-short, written}
+use Rattle.writer.proofs.Answers.{refused, few, known, right-days, too-short, written}
 use Rattle.writer.proofs.save.Statement.{statement}
 use Rattle.writer.proofs.save.Tie as tie
 
@@ -26,7 +26,8 @@ returns-2 c =
 put-case-requires : tie.Need-put-case-requires
 put-case-requires c κs =
     let s = c .before .before .before .before in
-    (omega arith, right-days _ _ _ _ _ (s .before .case-check .ensures) (s .if1 .left))
+    let told = s .before .case-check .ensures in
+    (omega arith, known _ _ _ _ _ told (s .if1 .left), right-days _ _ _ _ _ told (s .if1 .left))
 
 same-length : tie.Need-same-length
 same-length c = search needs

@@ -4,11 +4,12 @@ use mathlib.Core.Bool.{cond}
 use native.Mathlib.Omega.{arith}
 use Rattle.model.specs.Numbers.{number}
 use Rattle.model.specs.Layout.{amounts, shocks, people, caseOf}
-use Rattle.model.specs.Refusals.{daysAt}
+use Rattle.model.specs.Refusals.{ufrEnd}
 use Rattle.model.specs.Held.{held, defaultCase}
 use Rattle.model.specs.declared.case.Case.{Case}
 use Rattle.model.specs.inner.Positions.{present, pensionAt, bondsAt, amountsAt, shocksAt, peopleAt}
-use Rattle.casefile.proofs.case.Holds.{days-held, pension-count-held, pension-held, bond-count-held, bonds-held, sums-held}
+use Rattle.scan.proofs.rates.Days.{step-most}
+use Rattle.casefile.proofs.case.Holds.{step-held, pension-count-held, pension-held, bond-count-held, bonds-held, sums-held}
 use borrow.Author.Needs.{needs}
 use Rattle.casefile.proofs.case.case_in.Statement.{statement}
 use Rattle.casefile.proofs.case.case_in.Tie as tie
@@ -35,27 +36,35 @@ amounts-or-requires : tie.Need-amounts-or-requires
 amounts-or-requires c κs = search needs
 
 shocks-in-requires : tie.Need-shocks-in-requires
-shocks-in-requires c κs = search needs
+shocks-in-requires c κs = omega (arith, c .before .before .before .before .before .before .before .before .pre .0 .0 .shocksLow)
 
 people-in-requires : tie.Need-people-in-requires
-people-in-requires c κs = omega (arith, c .before .before .before .before .before .before .before .before .before .pre .0 .peopleLow)
+people-in-requires c κs = omega (arith, c .before .before .before .before .before .before .before .before .before .pre .0 .0 .peopleLow)
+
+units-per-step-requires : tie.Need-units-per-step-requires
+units-per-step-requires c κs = search needs
+
+mul-per-step : tie.Need-mul-per-step
+mul-per-step c =
+    let most = step-most (c .units-per-step .ensures .1) (c .before .before .before .before .before .before .before .before .before .before .before .before .pre .0 .0 .daysFew) in
+    search needs
 
 returns : tie.Need-returns
-unfolding held caseOf defaultCase peopleAt shocksAt amountsAt bondsAt pensionAt daysAt
+unfolding held caseOf defaultCase peopleAt shocksAt amountsAt bondsAt pensionAt ufrEnd
 returns c =
-    let s4 = c .before .before .before in
-    let s8 = s4 .before .before .before .before in
-    let start = s8 .before .before .before .before in
+    let s4 = c .before .before .before .before in
+    let s8 = c .before .before .before .before .before .before .before .before in
+    let start = c .before .before .before .before .before .before .before .before .before .before .before .before in
     let file = start .args .file .now in
     let p = start .args .p in
-    let f = start .pre .0 in
+    let f = start .pre .0 .0 in
     let absent = s8 .before .before .default in
     λ i. record {
       ufr = (s8 .number-or .ensures
           ∙ ap₂ (λ t v. cond t v (absent .result .ufr)) (f .ufr) (s8 .before .number-at .ensures .0)
           ∙ ap (λ (k : Case). cond (present file .ufr) (number file 2 2) (k .ufr)) (absent .ensures)) i;
-      «per_step» = days-held file p f i;
-      sums = sums-held file p f (start .args .s) (start .pre .1) i;
+      «per_step» = step-held file p f (c .units-per-step .result) (c .units-per-step .ensures .0) i;
+      sums = sums-held file p f (start .pre .1) (start .args .s) (start .pre .0 .1) i;
       «pension_count» = pension-count-held file p f i;
       pension = (s4 .before .before .before .pension-in .ensures ∙ pension-held file p f) i;
       «bond_count» = bond-count-held file p f i;
@@ -64,8 +73,8 @@ returns c =
           ∙ ap₂ (λ t v. cond t v (absent .result .amounts)) (f .amounts)
           (s4 .before .amounts-in .ensures ∙ ap (amounts .value file) (f .amountsIs))
           ∙ ap (λ (k : Case). cond (present file .amounts) (amounts .value file (amountsAt file)) (k .amounts)) (absent .ensures)) i;
-      shocks = (c .before .before .shocks-in .ensures ∙ ap (shocks .value file) (f .shocksIs)) i;
-      people = (c .before .people-in .ensures ∙ ap (people .value file) (f .peopleIs)) i;
+      shocks = (c .before .before .before .shocks-in .ensures ∙ ap (shocks .value file) (f .shocksIs)) i;
+      people = (c .before .before .people-in .ensures ∙ ap (people .value file) (f .peopleIs)) i;
     }
 
 pub case-in-spec : {M : Type 1} → statement M
@@ -81,4 +90,6 @@ case-in-spec =
     amounts-or-requires
     shocks-in-requires
     people-in-requires
+    units-per-step-requires
+    mul-per-step
     returns)

@@ -6,6 +6,9 @@ use borrow.Author.Needs.{needs}
 use Rattle.checks.proofs.limits.bits_right.Statement.{statement}
 use Rattle.checks.proofs.limits.bits_right.Tie as tie
 
+exactly-one-requires : tie.Need-exactly-one-requires
+exactly-one-requires c κs = search needs
+
 both-requires : tie.Need-both-requires
 both-requires c κs = search needs
 
@@ -23,17 +26,21 @@ both-requires-4 c κs = search needs
 
 returns : tie.Need-returns
 returns c =
-    let map = c .before .before .before .before .before .args .map in
+    let map = c .before .before .before .before .before .before .args .map in
     let people = c .before .before in
     let shocks = people .before in
+    let pension = shocks .before in
     c .both4 .ensures
     ∙ ap₂ (λ a b. a && b) (people .both3 .ensures
-    ∙ ap (λ a. a && stands 6 map) (shocks .both2 .ensures ∙ ap (λ a. a && stands 5 map) (shocks .before .both .ensures))) (c .before .none-above .ensures)
+    ∙ ap (λ a. a && stands 6 map) (shocks .both2 .ensures
+    ∙ ap (λ a. a && stands 5 map) (pension .both .ensures ∙ ap (λ a. a && stands 2 map) (pension .before .exactly-one .ensures))))
+    (c .before .none-above .ensures)
 
 pub bits-right-spec : {M : Type 1} → statement M
 bits-right-spec =
     tie.close
     (tie.spec
+    exactly-one-requires
     both-requires
     both-requires-2
     both-requires-3

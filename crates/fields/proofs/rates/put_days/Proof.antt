@@ -20,7 +20,9 @@ put-rates-requires : tie.Need-put-rates-requires
 put-rates-requires c κs =
     let s = c .before .before .before in
     let start = s .before .before .before .before in
-    (omega (arith, s .put-bytes .ensures .within, s .put-bytes .kept .0), rates-right (start .args .rates .now) (start .pre .1 .some) (start .pre .1 .right))
+    let days = start .pre .2 in
+    let right = rates-right (start .args .rate-bytes) (start .args .rates .now) (days .some) (days .right) in
+    ((omega (arith, s .put-bytes .ensures .within, s .put-bytes .ensures .place, s .put-bytes .kept .0), start .pre .1), right)
 
 same-length : tie.Need-same-length
 same-length c = search needs
@@ -33,7 +35,7 @@ returns c =
     let start = s1 .before .before in
     let rates = start .args .rates .now in
     let count = as-text {n = 1} (ap (bytesOf 1) (s1 .day-count .ensures)) (omega arith) (s2 .put-bytes .ensures) in
-    let all = as-text {n = 2 * length rates} (sym (rates-bytes rates (start .pre .1 .some))) (omega arith) (s3 .put-rates .ensures) in
+    let all = as-text {n = start .args .rate-bytes * length rates} (sym (rates-bytes (start .args .rate-bytes) rates (start .pre .2 .some))) (omega arith) (s3 .put-rates .ensures) in
     as-text refl (omega arith) (then count all)
 
 pub put-days-spec : {M : Type 1} → statement M

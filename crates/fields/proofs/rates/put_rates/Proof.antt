@@ -1,7 +1,8 @@
 -- `put_rates`: a rate a turn; the bytes stored so far are those of a front of the rates.
 use borrow.Author.Needs.{needs}
-use Prim.Native.Nat.{_≤_, _*_, _-_}
+use Prim.Native.Nat.{_≤_, _+_, _*_, _-_}
 use mathlib.Core.Path.{_≡_, refl}
+use native.Mathlib.Nat.{mul-le-mul-left}
 use native.Mathlib.Omega.{arith}
 use lib.ListN.{length, take, getD}
 use lib.IntN.{pos}
@@ -15,11 +16,11 @@ use Rattle.fields.proofs.rates.put_rates.Statement.{statement}
 use Rattle.fields.proofs.rates.put_rates.Tie as tie
 
 abbrev Inv-loop : tie.InvT-loop
-Inv-loop buf₀ at rates next₀ i₀ buf next i =
-    (i ≤ length rates) × (length buf ≡ length buf₀) × Wrote buf₀ at (bytesAll dailyRate (take i rates)) (2 * i) next buf
+Inv-loop buf₀ at rates w next₀ i₀ buf next i =
+    (i ≤ length rates) × (length buf ≡ length buf₀) × Wrote buf₀ at (bytesAll (dailyRate w) (take i rates)) (w * i) next buf
 
 abbrev μ-loop : tie.MeasureT-loop
-μ-loop buf₀ at rates next₀ i₀ buf next i = length rates - i
+μ-loop buf₀ at rates w next₀ i₀ buf next i = length rates - i
 
 loop-holds : tie.Need-loop-holds Inv-loop μ-loop
 loop-holds c = (search needs, refl, record { within = search needs; place = search needs; held = refl })
@@ -34,8 +35,12 @@ put-rate-requires : tie.Need-put-rate-requires Inv-loop μ-loop
 put-rate-requires c κs =
     let l = c .before .before .before .loop in
     let s = c .before .before .before .before .before in
-    let right = right-at dailyRate (s .args .rates .now) (l .i) (pos 0) (omega arith) (s .pre .1) in
-    (omega (arith, l .inv .2 .within), rw (held-bits (getD (s .args .rates .now) (l .i) (pos 0)) right) right)
+    let w = s .args .rate-bytes in
+    let known = s .pre .0 .1 in
+    let right = right-at (dailyRate w) (s .args .rates .now) (l .i) (pos 0) (omega arith) (s .pre .1) in
+    let more : l .i + 1 ≤ length (s .args .rates .now) = omega arith in
+    let next = mul-le-mul-left w more in
+    (omega (arith, l .inv .2 .place, next), known, rw (held-bits w known (getD (s .args .rates .now) (l .i) (pos 0)) right) right)
 
 add-i : tie.Need-add-i Inv-loop μ-loop
 add-i c = search needs
@@ -49,11 +54,12 @@ loop-again c =
     let l = s .before .before .before .before .loop in
     let start = s .before .before .before .before .before .before in
     let rates = start .args .rates .now in
-    let right = right-at dailyRate rates (l .i) (pos 0) (omega arith) (start .pre .1) in (
+    let w = start .args .rate-bytes in
+    let right = right-at (dailyRate w) rates (l .i) (pos 0) (omega arith) (start .pre .1) in (
       search needs,
       search needs,
-      one-stored dailyRate rates (l .i) (pos 0) (omega arith) (l .inv .2)
-          (rw (held-bits (getD rates (l .i) (pos 0)) right) at (s .put-rate .ensures)),
+      one-stored (dailyRate w) rates (l .i) (pos 0) (omega arith) (l .inv .2)
+          (rw (held-bits w (start .pre .0 .1) (getD rates (l .i) (pos 0)) right) at (s .put-rate .ensures)),
     )
 
 same-length : tie.Need-same-length Inv-loop μ-loop
@@ -62,7 +68,8 @@ same-length c = search needs
 returns : tie.Need-returns Inv-loop μ-loop
 returns c =
     let l = c .before .loop in
-    all-stored dailyRate (c .before .before .before .args .rates .now) (l .i) (omega arith) (l .inv .2)
+    let a = c .before .before .before .args in
+    all-stored (dailyRate (a .rate-bytes)) (a .rates .now) (l .i) (omega arith) (l .inv .2)
 
 pub put-rates-spec : {M : Type 1} → statement M
 put-rates-spec =

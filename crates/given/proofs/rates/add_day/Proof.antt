@@ -10,7 +10,9 @@ use lib.IntN.{ℤ, pos}
 use lib.Seq.{take-all}
 use borrow.Author.Needs.{needs}
 use mir.Syntax.{w32}
+use mir.Val.{toZ, ofZ}
 use mir.ValLaws.{toZ-ofZ}
+use Rattle.model.specs.Case.{unitsPerStep}
 use Rattle.model.specs.Fields.{rightAll}
 use Rattle.model.specs.Layout.{dailyRate}
 use Rattle.model.specs.Numbers.{table}
@@ -18,32 +20,35 @@ use Rattle.theory.proofs.general.Lists.{and-true, table-filled, all-filled}
 use Rattle.scan.specs.inner.Sums.{rateRight, EachAtMost}
 use Rattle.scan.proofs.rates.Days.{entry-kept}
 use Rattle.given.specs.inner.Raised.{raisedOr, withDay}
-use Rattle.given.proofs.rates.Signed.{raised-most, raised-right}
+use Rattle.given.proofs.rates.Signed.{units-most, raised-most, raised-right}
 use Rattle.given.proofs.rates.Days.{one-tested}
 use Rattle.given.proofs.rates.add_day.Statement.{statement}
 use Rattle.given.proofs.rates.add_day.Tie as tie
 
 abbrev Inv-loop : tie.InvT-loop
-Inv-loop day within₀ sums₀ t₀ within sums t =
-    (t ≤ 60) × (length day ≡ 60) × (length sums ≡ 60) × (length sums₀ ≡ 60) × EachAtMost 7590000 sums₀
-    × (within ≡ (within₀ && rightAll dailyRate (take t day)))
-    × (sums ≡ table (λ i. getD sums₀ i 0 + raisedOr (getD day i (pos 0))) t ++ drop t sums₀)
+Inv-loop w day units within₀ sums₀ t₀ within sums t =
+    (t ≤ 60) × (length day ≡ 60) × (length sums ≡ 60) × (length sums₀ ≡ 60) × EachAtMost 759000000 sums₀
+    × (within ≡ (within₀ && rightAll (dailyRate w) (take t day)))
+    × (sums ≡ table (λ i. getD sums₀ i 0 + raisedOr (unitsPerStep w) (getD day i (pos 0))) t ++ drop t sums₀)
 
 abbrev μ-loop : tie.MeasureT-loop
-μ-loop day within₀ sums₀ t₀ within sums t = 60 - t
+μ-loop w day units within₀ sums₀ t₀ within sums t = 60 - t
+
+units-per-step-requires : tie.Need-units-per-step-requires Inv-loop μ-loop
+units-per-step-requires c κs = search needs
 
 loop-holds : tie.Need-loop-holds Inv-loop μ-loop
 unfolding table
-loop-holds c = (omega arith, search needs, search needs, search needs, c .before .pre, sym (and-true _), refl)
+loop-holds c = (omega arith, search needs, search needs, search needs, c .before .before .pre, sym (and-true _), refl)
 
-mul-raised : tie.Need-mul-raised Inv-loop μ-loop
-mul-raised c = search needs
+mul-raised-rate : tie.Need-mul-raised-rate Inv-loop μ-loop
+mul-raised-rate c = search needs
 
-array-copy-out-raised : tie.Need-array-copy-out-raised Inv-loop μ-loop
-array-copy-out-raised c = search needs
+array-copy-out-raised-rate : tie.Need-array-copy-out-raised-rate Inv-loop μ-loop
+array-copy-out-raised-rate c = search needs
 
-raised-requires : tie.Need-raised-requires Inv-loop μ-loop
-raised-requires c κs = search needs
+raised-rate-requires : tie.Need-raised-rate-requires Inv-loop μ-loop
+raised-rate-requires c κs = search needs
 
 mul-sums : tie.Need-mul-sums Inv-loop μ-loop
 mul-sums c = search needs
@@ -57,7 +62,9 @@ add-sums c =
     let (some, long, terms, before, most, tested, summed) = l .inv in
     let known = most .each (l .t) (omega arith) in
     let kept = entry-kept _ _ (l .sums) (l .t) (omega (arith, before)) summed in
-    let small : c .raised .result ≤ 110000 = rw (c .raised .ensures) (raised-most _) in
+    let a = c .before .before .before .before .before .before .args in
+    let most = raised-most (a .rate-bytes) (toZ w32 (ofZ w32 (getD (a .t2) (l .t) (pos 0)))) in
+    let small : c .raised-rate .result ≤ 11000000 = omega (arith, c .raised-rate .ensures, most, units-most (a .rate-bytes)) in
     search needs
 
 array-write-sums : tie.Need-array-write-sums Inv-loop μ-loop
@@ -79,19 +86,21 @@ loop-again : tie.Need-loop-again Inv-loop μ-loop
 loop-again c =
     let at = c .before .before .before .before .before in
     let l = at .loop in
-    let a = at .before .before .args in
+    let a = at .before .before .before .args in
+    let w = a .rate-bytes in
+    let units = at .before .before .units-per-step .ensures .0 in
     let (some, long, terms, before, most, tested, summed) = l .inv in
     let rate = getD (a .t2) (l .t) (pos 0) in
-    let read = toZ-ofZ w32 rate record { sfits = c .before .before .before .raised-arg .given } in
-    let raised = c .before .before .raised .ensures ∙ ap raisedOr read in
+    let read = toZ-ofZ w32 rate record { sfits = c .before .before .before .raised-rate-arg .given } in
+    let raised = c .before .before .raised-rate .ensures ∙ ap (raisedOr (unitsPerStep w)) read in
     let kept = entry-kept _ (a .held .sums) (l .sums) (l .t) (omega (arith, before)) summed in
-    let right = c .before .rate-right .ensures ∙ ap rateRight raised ∙ raised-right rate in (
+    let right = c .before .rate-right .ensures ∙ ap₂ rateRight units raised ∙ raised-right w rate in (
       omega arith,
       long,
       length-set (l .sums) (l .t) _ ∙ terms,
       before,
       most,
-      c .both .ensures ∙ ap (λ (b : Bool). l .within && b) right ∙ one-tested (a .held .within) (l .within) (a .t2) (l .t) (omega (arith, long)) tested,
+      c .both .ensures ∙ ap (λ (b : Bool). l .within && b) right ∙ one-tested w (a .held .within) (l .within) (a .t2) (l .t) (omega (arith, long)) tested,
       table-filled _ (a .held .sums) (l .sums) (l .t) _ (omega (arith, before)) (ap₂ (λ (x y : ℕ). x + y) kept raised) summed,
     )
 
@@ -99,12 +108,13 @@ returns : tie.Need-returns Inv-loop μ-loop
 unfolding withDay
 returns c =
     let l = c .before .loop in
-    let a = c .before .before .before .args in
+    let a = c .before .before .before .before .args in
+    let w = a .rate-bytes in
     let (some, long, terms, before, most, tested, summed) = l .inv in
     let n : l .t ≡ 60 = omega arith in
-    let sum : ℕ → ℕ = λ i. getD (a .held .sums) i 0 + raisedOr (getD (a .t2) i (pos 0)) in
+    let sum : ℕ → ℕ = λ i. getD (a .held .sums) i 0 + raisedOr (unitsPerStep w) (getD (a .t2) i (pos 0)) in
     ap₂ (λ (b : Bool) (sums : List ℕ). record { within = b; sums = sums })
-    (tested ∙ ap (λ (v : List ℤ). a .held .within && rightAll dailyRate v) (take-all (l .t) (a .t2) (omega (arith, long))))
+    (tested ∙ ap (λ (v : List ℤ). a .held .within && rightAll (dailyRate w) v) (take-all (l .t) (a .t2) (omega (arith, long))))
     (all-filled (a .held .sums) (l .sums) (table sum (l .t)) (l .t) (n ∙ sym before) summed ∙ rw n)
 
 pub add-day-spec : {M : Type 1} → statement M
@@ -113,10 +123,11 @@ add-day-spec =
     (tie.spec
     Inv-loop
     μ-loop
+    units-per-step-requires
     loop-holds
-    mul-raised
-    array-copy-out-raised
-    raised-requires
+    mul-raised-rate
+    array-copy-out-raised-rate
+    raised-rate-requires
     mul-sums
     array-read-sums
     add-sums

@@ -3,20 +3,21 @@ use Prim.Native.Nat.{_-_, _≤_}
 use mathlib.Core.Path.{_≡_, _∙_}
 use native.Mathlib.Omega.{arith}
 use borrow.Author.Needs.{needs}
+use lib.ListN.{length}
 use Rattle.model.specs.Saving.{daysIn}
 use Rattle.given.specs.inner.Raised.{summed}
-use Rattle.given.proofs.rates.Days.{days-count, none-summed, summed-most, next-summed}
+use Rattle.given.proofs.rates.Days.{days-count, none-summed, units-days, summed-most, next-summed}
 use Rattle.given.proofs.rates.sum_rates.Statement.{statement}
 use Rattle.given.proofs.rates.sum_rates.Tie as tie
 
 abbrev Inv-loop : tie.InvT-loop
-Inv-loop rates days r₀ d₀ r d = (d ≤ days) × (r ≡ summed (daysIn d rates))
+Inv-loop rates w days r₀ d₀ r d = (d ≤ days) × (r ≡ summed w (daysIn d rates))
 
 abbrev μ-loop : tie.MeasureT-loop
-μ-loop rates days r₀ d₀ r d = days - d
+μ-loop rates w days r₀ d₀ r d = days - d
 
 loop-holds : tie.Need-loop-holds Inv-loop μ-loop
-loop-holds c = (search needs, none-summed)
+loop-holds c = (search needs, none-summed _)
 
 day-at-requires : tie.Need-day-at-requires Inv-loop μ-loop
 day-at-requires c κs = search needs
@@ -26,7 +27,9 @@ add-day-requires c κs =
     let l = c .before .before .loop in
     let a = c .before .before .before .args in
     let few = c .before .before .before .pre .0 in
-    rw (l .inv .1) (summed-most (daysIn (l .d) (a .rates .now)) 7590000 (omega (arith, days-count (l .d) (a .rates .now))))
+    let w = a .rate-bytes in
+    let most = units-days w (length (daysIn (l .d) (a .rates .now))) (omega (arith, days-count (l .d) (a .rates .now))) in
+    rw (l .inv .1) (summed-most w (daysIn (l .d) (a .rates .now)) 759000000 (omega (arith, most)))
 
 add-d : tie.Need-add-d Inv-loop μ-loop
 add-d c = search needs
@@ -41,7 +44,7 @@ loop-again c =
     let rates = at .before .args .rates .now in
     let room = at .before .pre .1 in (
       omega arith,
-      next-summed rates (l .d) (omega (arith, room)) (l .inv .1) (c .before .day-at .ensures) (c .add-day .ensures),
+      next-summed (at .before .args .rate-bytes) rates (l .d) (omega (arith, room)) (l .inv .1) (c .before .day-at .ensures) (c .add-day .ensures),
     )
 
 returns : tie.Need-returns Inv-loop μ-loop

@@ -36,7 +36,7 @@ cast-rates c =
     let l = c .before .before .loop in
     let s = c .before .before .before in
     let rate = getD (s .args .t3) (l .t) (pos 0) in
-    let right = right-at dailyRate (s .args .t3) (l .t) (pos 0) (omega (arith, l .inv .2)) (s .pre .2) in
+    let right = right-at (dailyRate 2) (s .args .t3) (l .t) (pos 0) (omega (arith, l .inv .2)) (s .pre .2) in
     cast-fits w32 w16 rate record { sfits = c .rates .given } (rate-fits rate right)
 
 mul-t12 : tie.Need-mul-t12 Inv-loop μ-loop
@@ -64,7 +64,7 @@ loop-again c =
     let a = s .args in
     let (some, same, long, written) = l .inv in
     let rate = getD (a .t3) (l .t) (pos 0) in
-    let right = right-at dailyRate (a .t3) (l .t) (pos 0) (omega (arith, long)) (s .pre .2) in
+    let right = right-at (dailyRate 2) (a .t3) (l .t) (pos 0) (omega (arith, long)) (s .pre .2) in
     let read = cast-read w32 w16 rate record { sfits = c .rates .given } (rate-fits rate right) in
     let at = 60 * a .at in (
       omega arith,

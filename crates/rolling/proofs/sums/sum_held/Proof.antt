@@ -10,7 +10,7 @@ use Rattle.rolling.proofs.sums.sum_held.Statement.{statement}
 use Rattle.rolling.proofs.sums.sum_held.Tie as tie
 
 abbrev Inv-loop : tie.InvT-loop
-Inv-loop rates start count r₀ i₀ r i = (i ≤ count) × (r ≡ summed (heldIn rates start i))
+Inv-loop rates start count r₀ i₀ r i = (i ≤ count) × (r ≡ summed 2 (heldIn rates start i))
 
 abbrev μ-loop : tie.MeasureT-loop
 μ-loop rates start count r₀ i₀ r i = count - i
@@ -28,7 +28,7 @@ add-day-requires : tie.Need-add-day-requires Inv-loop μ-loop
 add-day-requires c κs =
     let l = c .before .before .before .loop in
     let s = c .before .before .before .before in
-    rw (l .inv .1) (held-most (s .args .rates .now) (s .args .start) (l .i) 7590000 (omega (arith, s .pre .1)))
+    rw (l .inv .1) (held-most (s .args .rates .now) (s .args .start) (l .i) 759000000 (omega (arith, s .pre .1)))
 
 add-i : tie.Need-add-i Inv-loop μ-loop
 add-i c = search needs

@@ -19,7 +19,7 @@ use Rattle.rolling.proofs.sums.sums_without.Tie as tie
 abbrev Inv-loop : tie.InvT-loop
 Inv-loop day out₀ t₀ out t =
     (t ≤ 60) × (length out ≡ 60) × (length out₀ ≡ 60) × EachAtLeast day out₀
-    × (out ≡ table (λ i. getD out₀ i 0 - raisedOr (getD day i (pos 0))) t ++ drop t out₀)
+    × (out ≡ table (λ i. getD out₀ i 0 - raisedOr 1 (getD day i (pos 0))) t ++ drop t out₀)
 
 abbrev μ-loop : tie.MeasureT-loop
 μ-loop day out₀ t₀ out t = 60 - t
@@ -50,7 +50,7 @@ sub-out c =
     let (some, terms, before, least, rest) = l .inv in
     let rate = getD (a .t2) (l .t) (pos 0) in
     let read = toZ-ofZ w32 rate record { sfits = c .before .raised-arg .given } in
-    let raised = c .raised .ensures ∙ ap raisedOr read in
+    let raised = c .raised .ensures ∙ ap (raisedOr 1) read in
     let kept = entry-kept _ (a .sums) (l .out) (l .t) (omega (arith, before)) rest in
     omega (arith, least .each (l .t) (omega arith), raised, kept)
 
@@ -71,7 +71,7 @@ loop-again c =
     let (some, terms, before, least, rest) = l .inv in
     let rate = getD (a .t2) (l .t) (pos 0) in
     let read = toZ-ofZ w32 rate record { sfits = c .before .raised-arg .given } in
-    let raised = c .raised .ensures ∙ ap raisedOr read in
+    let raised = c .raised .ensures ∙ ap (raisedOr 1) read in
     let kept = entry-kept _ (a .sums) (l .out) (l .t) (omega (arith, before)) rest in (
       omega arith,
       length-set (l .out) (l .t) _ ∙ terms,

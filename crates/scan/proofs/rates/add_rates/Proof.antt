@@ -3,22 +3,23 @@
 use mathlib.Core.Path.{_≡_, refl, ap, ap₂, sym, _∙_}
 use mathlib.Core.Bool.{_&&_}
 use mathlib.Core.List.{_++_}
-use Prim.Native.Nat.{ℕ, _+_, _-_, _≤_}
+use Prim.Native.Nat.{ℕ, _+_, _*_, _-_, _≤_}
 use native.Mathlib.Numerals.{add-one}
 use native.Mathlib.Omega.{arith}
 use lib.ListN.{getD, drop}
 use borrow.Author.Needs.{needs}
-use Rattle.model.specs.Numbers.{every, table}
+use Rattle.model.specs.Numbers.{number, every, table}
 use Rattle.theory.proofs.general.Lists.{table-filled, all-filled}
-use Rattle.scan.specs.inner.Sums.{rateRight, rateOn, EachAtMost}
+use Rattle.scan.specs.inner.Sums.{rateRight, rateOn, rateRightOn, EachAtMost}
+use Rattle.scan.proofs.rates.Integers.{right-two}
 use Rattle.scan.proofs.rates.Days.{entry-kept, set-most}
 use Rattle.scan.proofs.rates.add_rates.Statement.{statement}
 use Rattle.scan.proofs.rates.add_rates.Tie as tie
 
 abbrev Inv-loop : tie.InvT-loop
 Inv-loop bytes at sums₀ within₀ t₀ sums within t =
-    (t ≤ 60) × (within ≡ every (λ i. rateRight (rateOn bytes at i)) t)
-    × (sums ≡ table (λ i. getD sums₀ i 0 + rateOn bytes at i) t ++ drop t sums₀)
+    (t ≤ 60) × (within ≡ every (rateRightOn 2 bytes at) t)
+    × (sums ≡ table (λ i. getD sums₀ i 0 + rateOn 2 bytes at i) t ++ drop t sums₀)
     × ((most : ℕ) → EachAtMost most sums₀ → EachAtMost (most + 132767) sums)
 
 abbrev μ-loop : tie.MeasureT-loop
@@ -72,11 +73,11 @@ loop-again c =
     let l = c .before .before .before .before .before .loop in
     let is = c .before .before .before .rate-at .ensures in
     let held = a .sums .now in
-    let sum : ℕ → ℕ = λ i. getD held i 0 + rateOn (a .bytes .now) (a .at) i in
+    let sum : ℕ → ℕ = λ i. getD held i 0 + rateOn 2 (a .bytes .now) (a .at) i in
     let long = entry .pre .1 in
     let old = entry-kept sum held (l .sums) (l .t) (omega arith) (l .inv .2) in (
       search needs,
-      c .both .ensures ∙ ap₂ (λ x y. x && y) (l .inv .1) (c .before .rate-right .ensures ∙ ap rateRight (is .0)) ∙ rw add-one,
+      c .both .ensures ∙ ap₂ (λ x y. x && y) (l .inv .1) (c .before .rate-right .ensures ∙ ap (rateRight 1) (is .0) ∙ right-two (number (a .bytes .now) (a .at + 2 * l .t) 2)) ∙ rw add-one,
       table-filled sum held (l .sums) (l .t) _ (omega arith) (ap₂ (λ x y. x + y) old (is .0)) (l .inv .2),
       λ most h. record {
         each = λ t b. set-most (l .sums) (l .t) _ t (most + 132767) (omega (arith, h .each (l .t) (omega arith))) (l .inv .3 most h .each t b);

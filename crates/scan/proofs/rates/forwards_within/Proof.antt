@@ -13,7 +13,7 @@ use Rattle.scan.proofs.rates.forwards_within.Tie as tie
 
 abbrev Inv-loop : tie.InvT-loop
 Inv-loop n sums within₀ last₀ t₀ within last t =
-    (t ≤ 60) × (within ≡ every (forwardRight sums n) t) × (last ≡ weighted sums t) × (last ≤ 60 * 33855585)
+    (t ≤ 60) × (within ≡ every (forwardRight sums n) t) × (last ≡ weighted sums t) × (last ≤ 60 * 1095216660225)
 
 abbrev μ-loop : tie.MeasureT-loop
 μ-loop n sums within₀ last₀ t₀ within last t = 60 - t
@@ -34,7 +34,7 @@ add-next c = search needs
 mul-next : tie.Need-mul-next Inv-loop μ-loop
 mul-next c =
     let t = c .before .loop .t in
-    let most = weighted-most t _ 33855585 (omega arith) (c .before .before .pre .1 .each t (omega arith)) in
+    let most = weighted-most t _ 1095216660225 (omega arith) (c .before .before .pre .1 .each t (omega arith)) in
     search needs
 
 next-right-requires : tie.Need-next-right-requires Inv-loop μ-loop
@@ -54,7 +54,7 @@ loop-again c =
     let l = c .before .before .before .loop in
     let entry = c .before .before .before .before in
     let a = entry .args in
-    let most = weighted-most (l .t) _ 33855585 (omega arith) (entry .pre .1 .each (l .t) (omega arith)) in (
+    let most = weighted-most (l .t) _ 1095216660225 (omega arith) (entry .pre .1 .each (l .t) (omega arith)) in (
       search needs,
       c .both .ensures ∙ ap (λ b. l .within && b) (c .before .next-right .ensures)
           ∙ one-more (a .t1) (a .per-step) (l .t) (l .last) (l .within) (l .inv .1) (l .inv .2),

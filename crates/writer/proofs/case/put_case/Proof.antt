@@ -1,4 +1,4 @@
--- `put_case`: the map, the UFR, the lists and the other fields are the file of the case.
+-- `put_case`: the map, the UFR, the lists, the other fields and the four-byte days are the file of the case.
 use borrow.Author.Needs.{needs}
 use Rattle.writer.proofs.Parts.{case-written}
 use Rattle.writer.proofs.case.put_case.Statement.{statement}
@@ -19,19 +19,23 @@ put-lists-requires c κs = search needs
 put-others-requires : tie.Need-put-others-requires
 put-others-requires c κs = search needs
 
+put-days-field-requires : tie.Need-put-days-field-requires
+put-days-field-requires c κs = search needs
+
 same-length : tie.Need-same-length
 same-length c = search needs
 
 returns : tie.Need-returns
 returns c =
-    let s5 = c .before .before in
+    let s6 = c .before .before in
+    let s5 = s6 .before .before .before .before in
     let s4 = s5 .before .before .before .before in
     let s3 = s4 .before .before .before .before in
     let s2 = s3 .before .before .before .before in
     let s1 = s2 .before .before in
     let a = s1 .before .before .before .before .args in
     case-written (a .p) (a .f) (a .rates .now) (a .pension .now) (a .bonds .now) (s1 .map-of .ensures) (s2 .put-bytes .ensures)
-    (s3 .put-ufr .ensures) (s4 .put-lists .ensures) (s5 .put-others .ensures)
+    (s3 .put-ufr .ensures) (s4 .put-lists .ensures) (s5 .put-others .ensures) (s6 .put-days-field .ensures)
 
 pub put-case-spec : {M : Type 1} → statement M
 put-case-spec =
@@ -42,5 +46,6 @@ put-case-spec =
     put-ufr-requires
     put-lists-requires
     put-others-requires
+    put-days-field-requires
     same-length
     returns)

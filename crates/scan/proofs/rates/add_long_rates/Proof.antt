@@ -1,0 +1,103 @@
+-- `scan::rates::add_long_rates` meets its contract: after t turns the first t rates of the day are tested, and added to the first t sums.
+-- Assumes nothing.
+use mathlib.Core.Path.{_≡_, refl, ap, ap₂, sym, _∙_}
+use mathlib.Core.Bool.{_&&_}
+use mathlib.Core.List.{_++_}
+use Prim.Native.Nat.{ℕ, _+_, _-_, _≤_}
+use native.Mathlib.Numerals.{add-one}
+use native.Mathlib.Omega.{arith}
+use lib.ListN.{getD, drop}
+use borrow.Author.Needs.{needs}
+use Rattle.model.specs.Numbers.{every, table}
+use Rattle.theory.proofs.general.Lists.{table-filled, all-filled}
+use Rattle.scan.specs.inner.Sums.{rateRight, rateOn, rateRightOn, EachAtMost}
+use Rattle.scan.proofs.rates.Integers.{right-four}
+use Rattle.scan.proofs.rates.Days.{entry-kept, set-most}
+use Rattle.scan.proofs.rates.add_long_rates.Statement.{statement}
+use Rattle.scan.proofs.rates.add_long_rates.Tie as tie
+
+abbrev Inv-loop : tie.InvT-loop
+Inv-loop bytes at sums₀ within₀ t₀ sums within t =
+    (t ≤ 60) × (within ≡ every (rateRightOn 4 bytes at) t)
+    × (sums ≡ table (λ i. getD sums₀ i 0 + rateOn 4 bytes at i) t ++ drop t sums₀)
+    × ((most : ℕ) → EachAtMost most sums₀ → EachAtMost (most + 4294967295) sums)
+
+abbrev μ-loop : tie.MeasureT-loop
+μ-loop bytes at sums₀ within₀ t₀ sums within t = 60 - t
+
+loop-holds : tie.Need-loop-holds Inv-loop μ-loop
+unfolding every table
+loop-holds c = (search needs, refl, refl, λ most h. record { each = λ t l. omega (arith, h .each t l) })
+
+mul-long-rate-at : tie.Need-mul-long-rate-at Inv-loop μ-loop
+mul-long-rate-at c = search needs
+
+add-long-rate-at : tie.Need-add-long-rate-at Inv-loop μ-loop
+add-long-rate-at c = search needs
+
+long-rate-at-requires : tie.Need-long-rate-at-requires Inv-loop μ-loop
+long-rate-at-requires c κs = search needs
+
+mul-sums : tie.Need-mul-sums Inv-loop μ-loop
+mul-sums c = search needs
+
+element-copy-out-sums : tie.Need-element-copy-out-sums Inv-loop μ-loop
+element-copy-out-sums c = search needs
+
+add-sums : tie.Need-add-sums Inv-loop μ-loop
+add-sums c =
+    let l = c .before .before .before .loop in
+    let known = l .inv .3 1090921692930 (c .before .before .before .before .before .pre .2) .each (l .t) (omega arith) in
+    search needs
+
+element-write-sums : tie.Need-element-write-sums Inv-loop μ-loop
+element-write-sums c = search needs
+
+rate-right-requires : tie.Need-rate-right-requires Inv-loop μ-loop
+rate-right-requires c κs = search needs
+
+both-requires : tie.Need-both-requires Inv-loop μ-loop
+both-requires c κs = search needs
+
+add-t : tie.Need-add-t Inv-loop μ-loop
+add-t c = search needs
+
+loop-less : tie.Need-loop-less Inv-loop μ-loop
+loop-less c = search needs
+
+loop-again : tie.Need-loop-again Inv-loop μ-loop
+unfolding every
+loop-again c =
+    let entry = c .before .before .before .before .before .before .before in
+    let a = entry .args in
+    let l = c .before .before .before .before .before .loop in
+    let is = c .before .before .before .long-rate-at .ensures in
+    let held = a .sums .now in
+    let sum : ℕ → ℕ = λ i. getD held i 0 + rateOn 4 (a .bytes .now) (a .at) i in
+    let long = entry .pre .1 in
+    let old = entry-kept sum held (l .sums) (l .t) (omega arith) (l .inv .2) in (
+      search needs,
+      c .both .ensures ∙ ap₂ (λ x y. x && y) (l .inv .1) (c .before .rate-right .ensures ∙ ap (rateRight 100) (is .0) ∙ right-four _ (is .2)) ∙ rw add-one,
+      table-filled sum held (l .sums) (l .t) _ (omega arith) (ap₂ (λ x y. x + y) old (is .0)) (l .inv .2),
+      λ most h. record {
+        each = λ t b. set-most (l .sums) (l .t) _ t (most + 4294967295) (omega (arith, h .each (l .t) (omega arith))) (l .inv .3 most h .each t b);
+      },
+    )
+
+returns : tie.Need-returns Inv-loop μ-loop
+returns c =
+    let l = c .before .loop in
+    let entry = c .before .before .before in
+    let held = entry .args .sums .now in
+    let all : l .t ≡ 60 = omega arith in
+    record {
+      within = l .inv .1 ∙ ap (every _) all;
+      sums = all-filled held (l .sums) (table _ 60) 60 (sym (entry .pre .1)) (rw all at (l .inv .2));
+      most = l .inv .3;
+    }
+
+pub add-long-rates-spec : {M : Type 1} → statement M
+add-long-rates-spec =
+    tie.close
+    (tie.spec Inv-loop μ-loop loop-holds mul-long-rate-at add-long-rate-at long-rate-at-requires mul-sums element-copy-out-sums add-sums
+    element-write-sums rate-right-requires both-requires add-t loop-less loop-again returns)

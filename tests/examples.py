@@ -140,41 +140,45 @@ def second_border(rounded):
 
 # ---------------------------------------------------------------- random cases
 
-def random_days(rng, n):
-    """n days that pass refusals 5 and 6.
+def random_days(rng, n, units=1):
+    """n days that pass refusals 5 and 6; so many units of a rate are a step.
 
-    Each term draws a growth in steps; the rate is the floor of their mean, which moves the growth
+    Each term draws a growth in units; the rate is the floor of their mean, which moves the growth
     that refusal 6 sees by less than the term, so by less than 60.
     """
+    least, most = -1_000 * units, 10_000 * units
+
     def day():
         rates, total = [], 0
         for t in range(1, 61):
             if t % 15 == 1:
-                low, high = sorted(rng.randint(-1_940, 11_940) for _ in range(2))
+                low, high = sorted(rng.randint(-1_940 * units, 11_940 * units) for _ in range(2))
             drawn = rng.randint(low, high)
-            if not -1_000 <= (total + drawn) // t <= 10_000:
-                drawn = rng.randint(-1_000, 10_000)
+            if not least <= (total + drawn) // t <= most:
+                drawn = rng.randint(least, most)
             total += drawn
-            rates.append(min(max(total // t, -1_000), 10_000))
+            rates.append(min(max(total // t, least), most))
         return rates
     return [day() for _ in range(n)]
 
 
-def random_case(rng, days=None):
+def random_case(rng, days=None, rate_bytes=2):
     """A case within all limits; often with an end of a limit in it, and often near a border."""
+    units = reference.UNITS[rate_bytes]
+
     def one(low, high):
         return rng.choice([low, high, rng.randint(low, high), rng.randint(low, high)])
     flows = lambda count: [rng.randint(0, largest) for _ in range(count)]
     while True:
         largest, richest = 10 ** rng.randint(2, 8), 10 ** rng.randint(2, 11)
         amounts = [rng.choice([0, richest, rng.randint(0, richest)]) for _ in AMOUNTS]
-        case = Case(ufr=one(0, 5_000), days=random_days(rng, days or rng.choice([1, 1, 2, 2, 3, 3, 3, 7])),
+        case = Case(ufr=one(0, 5_000), days=random_days(rng, days or rng.choice([1, 1, 2, 2, 3, 3, 3, 7]), units),
                     pension=flows(one(1, 120)), bonds=flows(rng.choice([0, 0, rng.randint(1, 60)])),
                     amounts=dict(zip(AMOUNTS, amounts)),
                     shocks={name: one(0, SHOCK_LIMITS[name]) for name in SHOCKS},
-                    heads=one(1, 1_000_000), pension_age=one(0, 1_200), mean_age=one(0, 1_200))
+                    heads=one(1, 1_000_000), pension_age=one(0, 1_200), mean_age=one(0, 1_200), rate_bytes=rate_bytes)
         # Clamped rates may break refusal 6; such a draw is thrown away.
-        if reference.growths_within_limits(case.days):
+        if reference.growths_within_limits(case.days, units):
             return near_border(rng, case) if rng.random() < 0.6 else case
 
 

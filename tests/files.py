@@ -1,5 +1,6 @@
 """Case files for the comparisons: random, damaged, at the ends of the limits, near the borders, with wide brackets."""
 
+import struct
 from dataclasses import replace
 from itertools import combinations
 
@@ -14,6 +15,23 @@ def file_of(rng, case):
 
 def random_files(rng, count):
     return [file_of(rng, examples.random_case(rng)) for _ in range(count)]
+
+
+# ---------------------------------------------------------------- four-byte days
+
+def rewritten(data):
+    """A file with bit 1, "rewritten to bit 7 with every rate times 100": the same other fields, and the days behind them. Its days field
+    must be complete."""
+    bits, count_at = int.from_bytes(data[:2], "big"), 4 if data[1] & 1 else 2
+    rates_end = count_at + 1 + 120 * data[count_at]
+    rates = struct.unpack(f">{60 * data[count_at]}h", data[count_at + 1:rates_end])
+    days = data[count_at:count_at + 1] + struct.pack(f">{len(rates)}i", *(100 * rate for rate in rates))
+    return (bits ^ 0x82).to_bytes(2, "big") + data[2:count_at] + data[rates_end:] + days
+
+
+def rewritten_case(case):
+    """The case of the rewritten file."""
+    return replace(case, days=[[100 * rate for rate in day] for day in case.days], rate_bytes=4)
 
 
 # ---------------------------------------------------------------- damage

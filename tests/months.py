@@ -1,7 +1,8 @@
 """Reference implementation of document 02's request Five, "UFR from ten years of months", over that of document 01 in tests/reference.py.
 
 Written from the papers, in their words, and from the readings of decisions 168 to 170 and 172, which it shares with the definitions; without the
-engine's code. To be run beside the engine. Whole numbers and fractions only; no float occurs.
+engine's code. To be run beside the engine. Whole numbers and fractions only; no float occurs. By another such reading the months keep their
+two bytes, whichever days field the file has.
 """
 
 from fractions import Fraction
@@ -24,7 +25,7 @@ UFR_BIT = 1  # of the map of a case file: "Bit 0, UFR: 2 bytes"
 
 def months_of(history):
     """"numbers of two bytes, two's complement, big-endian like all our bytes", from the first byte on."""
-    return [twos_complement(int.from_bytes(history[at:at + 2], "big")) for at in range(0, len(history), 2)]
+    return [twos_complement(int.from_bytes(history[at:at + 2], "big"), 2) for at in range(0, len(history), 2)]
 
 
 def oldest_first(start, months):

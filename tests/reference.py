@@ -1,7 +1,10 @@
 """Reference implementation of document 01, "The UFR curve and the solvency verdict of one fund", and of document 02's
-requests One, Three and Four.
+requests One, Three, Four and Six.
 
-Written from the papers alone, in their order and their words, to be run beside the engine.
+Written from the papers, in their order and their words, without the engine's code; to be run beside the engine. For Six it
+rests on readings too, which it shares with the definitions: the days field of bit 7 stands behind the people, and its checks
+come in that place; a case that a host hands in says by a number, 2 or 4, how many bytes its rates have, and any other number
+is refused with 3 ahead of the checks of the case.
 Whole numbers and fractions only; no float occurs.
 Command line: python3 tests/reference.py FILE   (- reads standard input)
 """
@@ -22,15 +25,18 @@ SHOCKS = ("up_shift down_shift mature_fall emerging_fall private_fall property_f
 SHOCK_LIMITS = dict(zip(SHOCKS, [1_000, 1_000] + [1_000] * 8 + [10_000, 500]))
 DEFAULT_UFR = 4_200  # "A file without this field has a UFR of 4,200."
 STEPS = 100_000  # "A rate step is 0.00001", so 1 is 100,000 steps.
-REQUIRED_BITS = 0b0110_0110  # "Bits 1, 2, 5 and 6 must stand; bits 7 to 15 must not."
-FORBIDDEN_BITS = 0xFF80
+REQUIRED_BITS = 0b0110_0100  # "Bits 1, 2, 5 and 6 must stand", without bit 1, which bit 7 may take the place of
+FORBIDDEN_BITS = 0xFF00  # "bits 7 to 15 must not", without bit 7
+# The two days fields, by the bytes of a rate.
+DAYS_BITS = {2: 1 << 1, 4: 1 << 7}  # "Bit 7 announces a days field of the same form whose rates are four bytes"
+UNITS = {2: 1, 4: 100}  # how many units of a rate are a step: its unit is 0.00001, or "steps of 0.0000001"
 VERDICTS = DEKKINGSTEKORT, RESERVETEKORT, VRIJ_VERMOGEN, ONBESLIST = (
     "DEKKINGSTEKORT", "RESERVETEKORT", "VRIJ VERMOGEN", "ONBESLIST")
 
 
 @dataclass
 class Case:
-    """What an accepted file says; rates and UFR in steps, money in euros, ages in months."""
+    """What an accepted file says; the UFR in steps, rates in units of their days field, money in euros, ages in months."""
     ufr: int
     days: list  # n lists of 60 signed rates
     pension: list
@@ -40,6 +46,12 @@ class Case:
     heads: int
     pension_age: int
     mean_age: int
+    rate_bytes: int = 2  # of a rate: the days field is that of bit 1, or with 4 that of bit 7
+
+    @property
+    def per_step(self):
+        """What a step adds to a sum over the days: "n x shift", or "100 x n x shift"."""
+        return UNITS[self.rate_bytes] * len(self.days)
 
 
 @dataclass(frozen=True)
@@ -77,9 +89,10 @@ class Cursor:
         return [self.number(length) for _ in range(count)]
 
 
-def twos_complement(sixteen):
-    """"each 2 bytes two's complement"."""
-    return sixteen - 0x10000 if sixteen >= 0x8000 else sixteen
+def twos_complement(number, length):
+    """"each 2 bytes two's complement", or "four bytes, two's complement"."""
+    all_numbers = 1 << 8 * length
+    return number - all_numbers if 2 * number >= all_numbers else number
 
 
 def sums(days):
@@ -87,10 +100,10 @@ def sums(days):
     return [0] + [sum(day[t - 1] for day in days) for t in range(1, 61)]
 
 
-def growths_within_limits(days):
-    """6: "some t x s(t) - (t - 1) x s(t-1) is below -2,000 x n or above 12,000 x n"."""
-    n, s = len(days), sums(days)
-    return all(-2_000 * n <= t * s[t] - (t - 1) * s[t - 1] <= 12_000 * n for t in range(1, 61))
+def growths_within_limits(days, units=1):
+    """6: "some t x s(t) - (t - 1) x s(t-1) is below -2,000 x n or above 12,000 x n"; "multiplied by 100" for four bytes."""
+    per_step, s = units * len(days), sums(days)
+    return all(-2_000 * per_step <= t * s[t] - (t - 1) * s[t - 1] <= 12_000 * per_step for t in range(1, 61))
 
 
 # The limits, of a file that is read and of a case that is handed in.
@@ -103,12 +116,13 @@ def check_day_count(n):
     refuse_unless(1 <= n <= 70, 4)
 
 
-def rates_within_limits(rates):
-    return all(-1_000 <= rate <= 10_000 for rate in rates)
+def rates_within_limits(rates, units=1):
+    """"-1,000 to 10,000 steps"; of four bytes "limits -100,000 to 1,000,000"."""
+    return all(-1_000 * units <= rate <= 10_000 * units for rate in rates)
 
 
-def check_rates(rates):
-    refuse_unless(rates_within_limits(rates), 5)
+def check_rates(rates, units=1):
+    refuse_unless(rates_within_limits(rates, units), 5)
 
 
 def check_flow_count(count, most):
@@ -131,8 +145,8 @@ def check_people(heads, pension_age, mean_age):
     refuse_unless(1 <= heads <= 1_000_000 and pension_age <= 1_200 and mean_age <= 1_200, 12)
 
 
-def check_growths(days):
-    refuse_unless(growths_within_limits(days), 6)
+def check_growths(days, units=1):
+    refuse_unless(growths_within_limits(days, units), 6)
 
 
 def in_days(rates):
@@ -146,12 +160,21 @@ def read_ufr(cursor):
     return ufr
 
 
-def read_days(cursor):
+def rate_bytes_in(bits):
+    """How many bytes a rate has by the map: "Exactly one of bits 1 and 7 stands, otherwise it's 3"."""
+    standing = [rate_bytes for rate_bytes, bit in DAYS_BITS.items() if bits & bit]
+    refuse_unless(len(standing) == 1, 3)
+    return standing[0]
+
+
+def read_days(cursor, rate_bytes):
+    """The days, and where their rates stand as (offset, length): "all n x 120 bytes", or "n x 240 bytes"."""
     n = cursor.number(1)
     check_day_count(n)
-    rates = [twos_complement(rate) for rate in cursor.numbers(n * 60, 2)]
-    check_rates(rates)
-    return in_days(rates)
+    offset = cursor.offset
+    rates = [twos_complement(rate, rate_bytes) for rate in cursor.numbers(n * 60, rate_bytes)]
+    check_rates(rates, UNITS[rate_bytes])
+    return in_days(rates), (offset, 60 * rate_bytes * n)
 
 
 def read_flows(cursor, most):
@@ -186,18 +209,21 @@ def read_fields(data):
     cursor = Cursor(data)
     bits = cursor.number(2)
     refuse_unless(bits & REQUIRED_BITS == REQUIRED_BITS and not bits & FORBIDDEN_BITS, 3)
+    rate_bytes = rate_bytes_in(bits)
     stands = lambda bit: bits >> bit & 1
     ufr = read_ufr(cursor) if stands(0) else DEFAULT_UFR
-    rates_offset = cursor.offset + 1  # behind the count byte n
-    days = read_days(cursor)
+    if stands(1):
+        days, part = read_days(cursor, rate_bytes)
     pension = read_flows(cursor, 120)
     bonds = read_flows(cursor, 60) if stands(3) else []
     amounts = read_amounts(cursor) if stands(4) else dict.fromkeys(AMOUNTS, 0)
     shocks = read_shocks(cursor)
     people = read_people(cursor)
+    if stands(7):
+        days, part = read_days(cursor, rate_bytes)
     refuse_unless(cursor.offset == len(data), 2)
-    check_growths(days)
-    return Case(ufr, days, pension, bonds, amounts, shocks, *people), (rates_offset, 120 * len(days))
+    check_growths(days, UNITS[rate_bytes])
+    return Case(ufr, days, pension, bonds, amounts, shocks, *people, rate_bytes), part
 
 
 def read_with_part(data: bytes) -> tuple[Case | Refusal, tuple[int, int]]:
@@ -223,18 +249,21 @@ def encode(case: Case, ufr_present: bool, bonds_present: bool, amounts_present: 
         raise ValueError("a field left out does not have its absent value")
     number = lambda value, length: value.to_bytes(length, "big")
     flows = lambda values: number(len(values), 1) + b"".join(number(flow, 4) for flow in values)
-    out = number(REQUIRED_BITS | ufr_present << 0 | bonds_present << 3 | amounts_present << 4, 2)
+    days = number(len(case.days), 1)
+    days += b"".join(rate.to_bytes(case.rate_bytes, "big", signed=True) for day in case.days for rate in day)
+    out = number(REQUIRED_BITS | DAYS_BITS[case.rate_bytes] | ufr_present << 0 | bonds_present << 3 | amounts_present << 4, 2)
     if ufr_present:
         out += number(case.ufr, 2)
-    out += number(len(case.days), 1)
-    out += b"".join(rate.to_bytes(2, "big", signed=True) for day in case.days for rate in day)
+    if case.rate_bytes == 2:
+        out += days
     out += flows(case.pension)
     if bonds_present:
         out += flows(case.bonds)
     if amounts_present:
         out += b"".join(number(case.amounts[name], 8) for name in AMOUNTS)
     out += b"".join(number(case.shocks[name], 2) for name in SHOCKS)
-    return out + number(case.heads, 4) + number(case.pension_age, 2) + number(case.mean_age, 2)
+    out += number(case.heads, 4) + number(case.pension_age, 2) + number(case.mean_age, 2)
+    return out + days if case.rate_bytes == 4 else out
 
 
 # ---------------------------------------------------------------- saving a case: document 02, One
@@ -251,6 +280,7 @@ class Given:
     heads: int
     pension_age: int
     mean_age: int
+    rate_bytes: int = 2  # how many bytes a rate has: 2 or 4, and no other number is right
 
 
 class Saved(NamedTuple):
@@ -262,22 +292,30 @@ class Saved(NamedTuple):
 def given_of(case: Case) -> Given:
     rates = [rate for day in case.days for rate in day]
     return Given(case.ufr, rates, case.pension, case.bonds, case.amounts, case.shocks, case.heads, case.pension_age,
-                 case.mean_age)
+                 case.mean_age, case.rate_bytes)
 
 
 def case_of(given: Given) -> Case:
     return Case(given.ufr, in_days(given.rates), given.pension, given.bonds, given.amounts, given.shocks, given.heads,
-                given.pension_age, given.mean_age)
+                given.pension_age, given.mean_age, given.rate_bytes)
+
+
+def check_given_days(rates, units):
+    n, left_over = divmod(len(rates), 60)
+    refuse_unless(left_over == 0, 4)  # rates that are no whole days have no n within limits
+    check_day_count(n)
+    check_rates(rates, units)
 
 
 def check_case(given):
     """"a case outside the limits gets document 01's number in its order": "each field in bit order: its count ..., its numbers from
-    the front; ... then 6". Of a case without bytes 1, 2 and 3 cannot be said."""
+    the front; ... then 6". Of a case without bytes 1 and 2 cannot be said; 3 is said of rates of another number of bytes, since
+    that case's map has neither bit."""
+    refuse_unless(given.rate_bytes in UNITS, 3)
+    units = UNITS[given.rate_bytes]
     check_ufr(given.ufr)
-    n, left_over = divmod(len(given.rates), 60)
-    refuse_unless(left_over == 0, 4)  # rates that are no whole days have no n within limits
-    check_day_count(n)
-    check_rates(given.rates)
+    if given.rate_bytes == 2:
+        check_given_days(given.rates, units)
     check_flow_count(len(given.pension), 120)
     check_flows(given.pension)
     if given.bonds:  # "Absent: k = 0."
@@ -286,7 +324,9 @@ def check_case(given):
     check_amounts(given.amounts)
     check_shocks(given.shocks)
     check_people(given.heads, given.pension_age, given.mean_age)
-    check_growths(in_days(given.rates))
+    if given.rate_bytes == 4:
+        check_given_days(given.rates, units)
+    check_growths(in_days(given.rates), units)
 
 
 def case_refusal(given: Given) -> int:
@@ -341,13 +381,13 @@ class ExactCurve:
     """One curve over fractions; shift in steps, 0 for the base curve."""
 
     def __init__(self, case, shift=0):
-        self.n, self.s, self.shift = len(case.days), sums(case.days), shift
+        self.N, self.s, self.shift = STEPS * case.per_step, sums(case.days), shift
         self.ufr_growth = 1 + Fraction(case.ufr, STEPS)
         self.products = [Fraction(1)]  # grows on demand, so that no product is built twice
 
     def mean_rate(self, t):
-        """R(t), "never rounded". The shift is added "to every mean rate at terms 1 to 60"."""
-        return Fraction(self.s[t], STEPS * self.n) + Fraction(self.shift, STEPS)
+        """R(t) = s(t) / N, "never rounded". The shift is added "to every mean rate at terms 1 to 60"."""
+        return Fraction(self.s[t], self.N) + Fraction(self.shift, STEPS)
 
     def growth(self, t):
         """G(t) = (1 + R(t))^t / (1 + R(t-1))^(t-1)."""
@@ -513,10 +553,10 @@ def root(x, end):
 
 
 def points(case, shift=0):
-    """"N = 100,000 x n; P(t) = N + s(t), where a shift adds or takes n x shift"."""
-    n = len(case.days)
-    N = STEPS * n
-    return N, [N + s + n * shift for s in sums(case.days)]  # P[0] is never used
+    """"N = 100,000 x n; P(t) = N + s(t), where a shift adds or takes n x shift"; for four bytes "N is 10,000,000 x n" and "a
+    shift adds or takes 100 x n x shift"."""
+    N = STEPS * case.per_step
+    return N, [N + s + case.per_step * shift for s in sums(case.days)]  # P[0] is never used
 
 
 def growth_over(P, t, j, end):

@@ -1,7 +1,9 @@
 """Reference implementation of document 02's request Two, "A rolling window of days", over that of document 01 in tests/reference.py.
 
-Written from the papers alone, in their words, to be run beside the engine. What a window holds is a plain list of days, oldest first; the
-struct of a host, a ring of slots, is taken apart into that list, and put together from it.
+Written from the papers, in their words, without the engine's code, to be run beside the engine. What a window holds is a plain list of days,
+oldest first; the struct of a host, a ring of slots, is taken apart into that list, and put together from it.
+Of request Six, "The rolling window stays with two-byte days.", it has a reading that the definitions share: a case with four-byte days is
+checked by its own limits, and then the window's two-byte days take the place of its own.
 """
 
 from dataclasses import replace
@@ -126,8 +128,8 @@ def check_valuation(window, given, factors, rates):
 
 
 def case_with(given: Given, days: list) -> Case:
-    """An "accepted case's other fields", with these days."""
-    return replace(case_of(given), days=days)
+    """An "accepted case's other fields", with these days, which have two bytes whatever those of the case have."""
+    return replace(case_of(given), days=days, rate_bytes=2)
 
 
 def value(window: Window, given: Given, factors: list, rates: list) -> Valued:

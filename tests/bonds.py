@@ -11,7 +11,7 @@ import examples
 import files
 import reference
 from examples import c1, flat
-from reference import AMOUNTS, LOWER, SHOCK_LIMITS, SHOCKS, UPPER, Case, Exact, allowed_width
+from reference import AMOUNTS, LOWER, SHOCK_LIMITS, SHOCKS, UNITS, UPPER, Case, Exact, allowed_width
 
 COUNTS = (0, 1, 20, 21, 60)  # none, the fewest, both sides of term 20, the most
 FLOW = 100_000_000
@@ -21,33 +21,34 @@ ENOUGH = 1_000_000  # a step of rates moves the worth of such a flow by more tha
 
 # ---------------------------------------------------------------- cases
 
-def some_days(rng, pool):
+def some_days(rng, pool, units=1):
     """Flat or bent; one day, two, 70 or a number between."""
     n = rng.choice([1, 1, 2, 70, rng.randint(2, 69)])
     if rng.random() < 0.4:
-        return flat(rng.choice([-1_000, 0, 10_000, rng.randint(-1_000, 10_000)])) * n
+        return flat(rng.choice([-1_000 * units, 0, 10_000 * units, rng.randint(-1_000 * units, 10_000 * units)])) * n
     few = rng.sample(pool, rng.randint(1, 3))
     return [rng.choice(few) for _ in range(n)]
 
 
-def bond_case(rng, pool, k):
+def bond_case(rng, pool, k, rate_bytes=2):
     """A case with k bond flows; many of its flows are 0 or as large as can be."""
     one = lambda low, high: rng.choice([low, high, rng.randint(low, high), rng.randint(low, high)])
     flows = lambda count, most: [rng.choice([0, most, rng.randint(0, most)]) for _ in range(count)]
     richest = 10 ** rng.randint(2, 11)
-    return Case(ufr=rng.choice([0, 4_200, 5_000, rng.randint(0, 5_000)]), days=some_days(rng, pool),
+    return Case(ufr=rng.choice([0, 4_200, 5_000, rng.randint(0, 5_000)]), days=some_days(rng, pool, UNITS[rate_bytes]),
                 pension=flows(rng.choice([1, 3, 20, 21, 60, 61, 120]), 10 ** rng.randint(0, 8)),
                 bonds=flows(k, rng.choice([FLOW, FLOW, 10 ** rng.randint(0, 8)])),
                 amounts={name: rng.choice([0, rng.randint(0, richest)]) for name in AMOUNTS},
                 shocks={name: one(0, SHOCK_LIMITS[name]) for name in SHOCKS},
-                heads=one(1, 1_000_000), pension_age=one(0, 1_200), mean_age=one(0, 1_200))
+                heads=one(1, 1_000_000), pension_age=one(0, 1_200), mean_age=one(0, 1_200), rate_bytes=rate_bytes)
 
 
-def bond_cases(rng, count):
+def bond_cases(rng, count, rate_bytes=2):
     """So many cases by the number of bond flows. Among the longest is the largest bond factor, of one day and of 70."""
-    pool = files.day_pool(rng, 100)
-    deepest = [replace(examples.deepest(), days=flat(-1_000) * n) for n in (1, 70)]
-    return {k: (deepest if k == 60 else []) + [bond_case(rng, pool, k) for _ in range(count - 2 * (k == 60))] for k in COUNTS}
+    pool = files.day_pool(rng, 100, UNITS[rate_bytes])
+    deepest = [replace(examples.deepest(), days=flat(-1_000 * UNITS[rate_bytes]) * n, rate_bytes=rate_bytes) for n in (1, 70)]
+    made = lambda k, few: [bond_case(rng, pool, k, rate_bytes) for _ in range(few)]
+    return {k: deepest + made(k, count - 2) if k == 60 else made(k, count) for k in COUNTS}
 
 
 # ---------------------------------------------------------------- B on the moved curves
@@ -64,14 +65,16 @@ def alone(case, curve):
     """
     shift = f"{curve}_shift"
     pension = [0] if curve == "up" else [FLOW] * 120
-    return c1(ufr=0, days=case.days, pension=pension, bonds=case.bonds, shocks=c1().shocks | {shift: case.shocks[shift]})
+    return c1(ufr=0, days=case.days, rate_bytes=case.rate_bytes, pension=pension, bonds=case.bonds,
+              shocks=c1().shocks | {shift: case.shocks[shift]})
 
 
 def with_moved_rates(case, curve):
     """The case on that curve; None where a rate or a growth would be out of limits."""
-    shift = reference.shifts(case)[curve]
+    units = UNITS[case.rate_bytes]
+    shift = units * reference.shifts(case)[curve]
     days = [[rate + shift for rate in day] for day in case.days]
-    within = all(map(reference.rates_within_limits, days)) and reference.growths_within_limits(days)
+    within = all(reference.rates_within_limits(day, units) for day in days) and reference.growths_within_limits(days, units)
     return replace(case, days=days) if within else None
 
 

@@ -2,8 +2,8 @@
 
 Listings of thousands of files, and of the refused ones all three answers; factors and zero rates at all 120 terms;
 demand 3 of the engine's own brackets against the exact figures over fractions; bonds on all three curves, likewise; the
-programs that ./value runs, on inputs of odd kinds. Ends with 1 on any difference, or if a refusal from 1 to 12, a verdict or a way to
-find B was not seen.
+programs that ./value runs, on inputs of odd kinds. Three quarters of the files have two-byte days, the others four-byte ones, of which
+tests/compare_rates.py has more. Ends with 1 on any difference, or if a refusal from 1 to 12, a verdict or a way to find B was not seen.
 """
 
 import os
@@ -21,7 +21,7 @@ import histories
 import months
 import programs
 import reference
-from reference import MONEY, STEPS, Exact, allowed_width, demand3, encode
+from reference import MONEY, STEPS, UNITS, Exact, allowed_width, demand3, encode
 
 SEED = 2013
 
@@ -46,18 +46,25 @@ class Comparison:
 
 # ---------------------------------------------------------------- listings
 
-def kinds(rng, quick):
-    """Files by kind."""
-    some = lambda count: count // 10 if quick else count
+def kinds_of(rng, some, rate_bytes):
+    """Files by kind, with so many bytes a rate."""
     in_bytes = lambda cases: [files.file_of(rng, case) for case in cases]
-    yield "random", files.random_files(rng, some(3_000))
-    yield "ends of the limits", in_bytes([*files.ends(), *(files.extreme_case(rng) for _ in range(some(1_000)))])
-    yield "near the borders", in_bytes(files.border_cases(rng, some(2_000)))
+    yield "random", files.random_files(rng, some(3_000), rate_bytes)
+    extreme = [files.extreme_case(rng, rate_bytes=rate_bytes) for _ in range(some(1_000))]
+    yield "ends of the limits", in_bytes([*files.ends(rate_bytes), *files.largest_products(rate_bytes), *extreme])
+    yield "near the borders", in_bytes(files.border_cases(rng, some(2_000), rate_bytes))
     yield "wide brackets", in_bytes(case for aim in files.WIDTHS for _ in range(some(20))
-                                    for case in files.climbed(rng, aim, 60))
-    yield "70 days, 120 and 60 flows", in_bytes(files.full_case(rng) for _ in range(some(100)))
-    damaged = [bad for data in (files.all_fields(), files.all_fields(3)) for bad in files.damaged_once(data)]
+                                    for case in files.climbed(rng, aim, 60, rate_bytes))
+    yield "70 days, 120 and 60 flows", in_bytes(files.full_case(rng, rate_bytes) for _ in range(some(100)))
+    damaged = [bad for days in (1, 3) for bad in files.damaged_once(files.all_fields(days, rate_bytes))]
     yield "damaged", damaged + [data[:-1] for data in damaged] + [data + b"\0" for data in damaged]
+
+
+def kinds(rng, quick):
+    """Those of both days fields; a third as many with four bytes."""
+    for rate_bytes, share in ((2, 1), (4, 3)):
+        some = lambda count: count // share // (10 if quick else 1)
+        yield from ((f"{kind}, {rate_bytes} bytes a rate", batch) for kind, batch in kinds_of(rng, some, rate_bytes))
 
 
 def told_by(listing):
@@ -79,8 +86,10 @@ def compare_listings(comparison, kind, batch):
 
 def curve_files(rng, count):
     """Files for a comparison of the buffers, one of them refused."""
-    cases = [examples.bent(), *files.ends(), files.full_case(rng), *files.on_steps(rng)]
-    cases += [make(rng) for make in (examples.random_case, files.extreme_case) for _ in range(count // 2)]
+    cases = [examples.bent()]
+    for rate_bytes in UNITS:
+        cases += [*files.ends(rate_bytes), files.full_case(rng, rate_bytes), *files.on_steps(rng, rate_bytes)]
+        cases += [make(rng, rate_bytes=rate_bytes) for make in (examples.random_case, files.extreme_case) for _ in range(count // 4)]
     return [files.file_of(rng, case) for case in cases] + [b""]
 
 
@@ -94,11 +103,12 @@ def compare_curves(comparison, batch):
 def exact_cases(rng, count):
     """Mostly of few days, since exact fractions of many are long; a twelfth is as large as can be."""
     few = lambda: rng.choice([1, 1, 1, 2, 2, 3])
+    form = lambda: rng.choice([2, 2, 2, 4])  # bytes of a rate
     cases = [examples.bent(), examples.up(), examples.down()]
-    cases += [examples.random_case(rng, few()) for _ in range(count // 2)]
-    cases += [files.extreme_case(rng, few()) for _ in range(count // 8)]
-    cases += files.border_cases(rng, count // 4)
-    return cases + [files.full_case(rng) for _ in range(count // 12)]
+    cases += [examples.random_case(rng, few(), form()) for _ in range(count // 2)]
+    cases += [files.extreme_case(rng, few(), form()) for _ in range(count // 8)]
+    cases += files.border_cases(rng, count // 6) + files.border_cases(rng, count // 12, 4)
+    return cases + [files.full_case(rng, form()) for _ in range(count // 12)]
 
 
 def brackets(numbers):
@@ -142,7 +152,8 @@ def compare_bonds(comparison, rng, cases, each):
     """Listings of all cases, which come by their number of bond flows; exact B of so many of each. Gives the ways to find B
     that were not seen."""
     for k, of_k in cases.items():
-        compare_listings(comparison, f"{k} bond flows", [files.file_of(rng, case) for case in of_k])
+        finer = ", 4 bytes a rate" if of_k[0].rate_bytes == 4 else ""
+        compare_listings(comparison, f"{k} bond flows{finer}", [files.file_of(rng, case) for case in of_k])
     return compare_exact_bonds(comparison, rng, [case for of_k in cases.values()
                                                  for case in list(filter(bonds.tells, of_k))[:each]])
 
@@ -195,10 +206,11 @@ def failing(name):
 
 
 def compare_program(comparison, rng, quick):
-    batch = files.random_files(rng, 20 if quick else 100) + files.damaged_once(files.all_fields())
-    batch += [encode(files.full_case(rng), True, True, True), *files.long_files(rng)]
+    batch = files.damaged_once(files.all_fields()) + [*files.long_files(rng)]
+    for rate_bytes in UNITS:
+        batch += files.random_files(rng, 10 if quick else 50, rate_bytes) + [encode(files.full_case(rng, rate_bytes), True, True, True)]
     comparison.same("the program", batch, (printed("valuation", input=data) for data in batch), map(reference.listing, batch))
-    few = batch[:5]
+    few = batch[-5:]
     comparison.same("the program, in pieces", few, map(in_pieces, few), map(reference.listing, few))
     comparison.same("the program, a failing read", [b""], [failing("valuation")], [b""])
 
@@ -212,11 +224,11 @@ def with_months(call):
 
 def compare_months_program(comparison, rng, quick):
     """Each fault alone and right calls; and inputs that end early, or have a length that no file or history needs: nothing is printed."""
-    base, full = histories.bases()
-    calls = [base, full, *histories.one_fault(full), *histories.every_ufr(rng, [base.file])]
+    base, full, *four = histories.bases()
+    calls = [base, full, *four, *histories.one_fault(full), *histories.every_ufr(rng, [base.file, four[0].file])]
     data, expected = map(list, zip(*map(with_months, rng.sample(calls, 40) if quick else calls)))
     whole = programs.framed_months(full.file, full.history, full.start)
-    long = [programs.framed_months(bytes(9_225), full.history, 0), programs.framed_months(full.file, bytes(242), 0)]
+    long = [programs.framed_months(bytes(files.LONGEST[4] + 2), full.history, 0), programs.framed_months(full.file, bytes(242), 0)]
     odd = [*(whole[:end] for end in (0, 3, 4, 5, len(full.file) + 3, len(full.file) + 7, len(whole) - 9, len(whole) - 1)), *long]
     comparison.same("the program with months", data, (printed("monthsvaluation", input=one) for one in data), expected)
     comparison.same("the program with months, odd inputs", odd, (printed("monthsvaluation", input=one) for one in odd), [b""] * len(odd))
@@ -236,6 +248,7 @@ def main(quick):
     compare_curves(comparison, curve_files(rng, 20 if quick else 200))
     compare_exactly(comparison, rng, 72 if quick else 600)
     unseen_ways = compare_bonds(comparison, rng, bonds.bond_cases(rng, 100 if quick else 1_000), 13 if quick else 125)
+    unseen_ways += compare_bonds(comparison, rng, bonds.bond_cases(rng, 50 if quick else 500, 4), 8 if quick else 60)
     compare_program(comparison, rng, quick)
     compare_months_program(comparison, rng, quick)
     unseen = [outcome for outcome in programs.OUTCOMES if not comparison.outcomes[outcome]] + unseen_ways

@@ -1,9 +1,10 @@
 """Runs the engine's `ginghamowl_ufr_of` and `ginghamowl_value_with_months` beside the reference of tests/months.py:
 python3 tests/compare_months.py [--quick]
 
-Each history with its start index is put to both functions. Both lent buffers, and the entries around them, which are not lent, are compared
-whole; the file, the history and the bytes around them are as before. What an accepted call gives is also what the engine gives of the file
-that has the UFR found in its field. Ends with 1 on any difference, or if one of the refusals (REFUSALS) was not seen.
+Each history with its start index is put to both functions, with files of both days fields. Both lent buffers, and the entries around them,
+which are not lent, are compared whole; the file, the history and the bytes around them are as before. What an accepted call gives is also
+what the engine gives of the file that has the UFR found in its field. Ends with 1 on any difference, or if one of the refusals (REFUSALS) was
+not seen.
 """
 
 import random
@@ -20,6 +21,7 @@ from compare_rolling import Counting, answer_difference, expected_answer, into_b
 from histories import Call
 from library import loaded
 from months import HISTORY, MONTHS, Ufr, months_of, with_ufr_field
+from reference import UNITS
 
 SEED = 19
 REFUSALS = [*range(1, 14), 17, 18, 19]
@@ -133,7 +135,8 @@ def compare_rows(comparison, rng, accepted):
     """The rows of which tests/pinned.py makes computed statements."""
     rows = [(history, start) for _, history, start in histories.ufr_rows()]
     comparison.compare_calls("rows of histories", with_files(rng, accepted, rows))
-    comparison.compare_calls("rows of valuations", [call for _, call in (*histories.quick_value_rows(), *histories.value_rows())])
+    makers = histories.quick_value_rows, histories.value_rows, histories.four_value_rows
+    comparison.compare_calls("rows of valuations", [call for rows in makers for _, call in rows()])
 
 
 def compare_histories(comparison, rng, accepted, some):
@@ -154,7 +157,7 @@ def compare_files(comparison, rng, some):
     """Kinds of files."""
     calls = histories.every_ufr(rng, histories.accepted_files(rng, 10))
     comparison.compare_calls("every UFR", rng.sample(calls, some(len(calls))))
-    random_files = (files.file_of(rng, examples.random_case(rng)) for _ in range(some(500)))
+    random_files = (files.file_of(rng, examples.random_case(rng, rate_bytes=rng.choice(list(UNITS)))) for _ in range(some(500)))
     comparison.compare_calls("random files", (
         Call(file, histories.random_history(rng), rng.randrange(MONTHS), (240, 240)) for file in random_files))
     comparison.compare_calls("damaged files", histories.damaged_calls(rng, some(2_000)))

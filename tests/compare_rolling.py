@@ -1,9 +1,9 @@
 """Runs the engine's `ginghamowl_rolling_` functions beside the reference of tests/rolling.py: python3 tests/compare_rolling.py [--quick]
 
 Scripts of additions and drops, with the whole struct compared after each change. Damaged and odd windows: 27 or not, by all three functions
-that take a window. Valuations, with both lent buffers and the entries around them, which are not lent, compared whole; what a window gives
-is also what the engine gives of a file with its days, and of another window that holds the same. Ends with 1 on any difference, or if one
-of the refusals (REFUSALS) was not seen.
+that take a window. Valuations with cases of both days fields, with both lent buffers and the entries around them, which are not lent,
+compared whole; what a window gives is also what the engine gives of a file with its days, and of another window that holds the same. Ends
+with 1 on any difference, or if one of the refusals (REFUSALS) was not seen.
 """
 
 import random
@@ -25,7 +25,7 @@ from reference import MONEY, VERDICTS
 from rolling import EMPTY, RATES, TERMS, Window, days_held
 
 SEED = 27
-REFUSALS = [*range(4, 14), 15, 16, 27]
+REFUSALS = [*range(3, 14), 15, 16, 27]
 FUNCTIONS = "value", "rolling_empty", "rolling_add", "rolling_drop", "rolling_value"
 CHANGES = 200  # of a script
 GUARD = 4  # so many entries on each side of a lent buffer are compared with it
@@ -261,7 +261,7 @@ def compare_rows(comparison, rng):
     comparison.compare_windows("rows of windows", [(windows.SOME, short_call(rng, window)) for _, window in windows.right_rows()])
     changes = [*windows.add_rows(), *windows.full_rows(), *windows.change_rows(), *((*row, None) for row in windows.drop_rows())]
     comparison.compare_scripts("rows of changes", [Script(window, [day]) for _, window, day in changes])
-    comparison.compare_calls("rows of valuations", [call for _, call in windows.value_rows()])
+    comparison.compare_calls("rows of valuations", [call for _, call in (*windows.value_rows(), *windows.four_value_rows())])
 
 
 def compare_changes(comparison, rng, some):
@@ -275,7 +275,8 @@ def compare_changes(comparison, rng, some):
 
 def short_call(rng, window):
     """A valuation of the window with a buffer that is too short, and often with a case that is refused."""
-    given = to_save.SMALL if rng.random() < 0.5 else to_save.several_faults(rng, to_save.SMALL)
+    given = rng.choice([to_save.SMALL, to_save.SMALL_FOUR])
+    given = given if rng.random() < 0.5 else to_save.several_faults(rng, given, to_save.faults_of(given))
     return windows.Call(window, given, rng.choice([(239, 240), (240, 239), (0, 300), (300, 0), (0, 0)]))
 
 
@@ -298,10 +299,10 @@ def compare_order(comparison, rng, some):
     bases = windows.bases(rng)
     comparison.compare_calls("one fault", (call for base in bases for call in windows.one_fault(base)))
     comparison.compare_calls("the order of checks", (call for base in bases for call in windows.order(base)))
-    pairs = [call for base in bases for call in to_save.two_faults(base, windows.FAULTS)]
+    pairs = [call for base in bases for call in to_save.two_faults(base, windows.faults_of(base))]
     comparison.compare_calls("two faults", rng.sample(pairs, some(len(pairs))))
-    comparison.compare_calls("several faults", (
-        to_save.several_faults(rng, rng.choice(bases), windows.FAULTS) for _ in range(some(2_000))))
+    several = lambda base: to_save.several_faults(rng, base, windows.faults_of(base))
+    comparison.compare_calls("several faults", (several(rng.choice(bases)) for _ in range(some(2_000))))
 
 
 def main(engine, quick):

@@ -2,8 +2,8 @@
 
 Each case is saved into a lent buffer of random bytes, which is compared whole afterwards, and with it the bytes on both sides, which are
 not lent, and the lists that were handed in. What is saved of an accepted case is read back: the engine accepts it and finds the rates in
-it, the reference reads the case from it, and of some the engine's valuation is that of the longest file of the case. Ends with 1 on any
-difference, or if one of the refusals 4 to 12 and 14 was not seen.
+it, the reference reads the case from it, and of some the engine's valuation is that of the longest file of the case. The rates have two
+bytes or four, or a number of bytes that is refused. Ends with 1 on any difference, or if one of the refusals 3 to 12 and 14 was not seen.
 """
 
 import glob
@@ -13,6 +13,7 @@ import reprlib
 import struct
 import sys
 from collections import Counter
+from dataclasses import replace
 from ctypes import c_int64, c_uint8, c_uint64
 
 import files
@@ -20,10 +21,10 @@ import programs
 import reference
 import to_save
 from library import HandedIn, loaded
-from reference import SHOCKS, Refusal, Saved, encode
+from reference import SHOCKS, UNITS, Refusal, Saved, encode
 
 SEED = 14
-REFUSALS = [*range(4, 13), 14]
+REFUSALS = [*range(3, 13), 14]
 GUARD = 32  # so many bytes on each side of the lent buffer are compared with it
 ENTRIES = 242  # of a lent buffer for factors or rates: two more than are written
 VALUED = 10  # every so many cases whose file was shortened are valued
@@ -62,7 +63,8 @@ def file_faults(engine, given, data):
     if engine.refusal(data, len(data)) != 0:
         yield "the engine refuses the saved file"
     part = engine.rates_part(data, len(data))
-    if data[part.offset:part.offset + part.length] != struct.pack(f">{len(given.rates)}h", *given.rates):
+    letter = "h" if given.rate_bytes == 2 else "i"
+    if data[part.offset:part.offset + part.length] != struct.pack(f">{len(given.rates)}{letter}", *given.rates):
         yield "the engine finds other rates in the saved file"
     if reference.read(data) != reference.case_of(given):
         yield "the reference reads another case from the saved file"
@@ -137,7 +139,8 @@ def roomy(rng, cases):
 def one_fault(given):
     """Each fault alone, in the shortest buffers, in one a byte too short without the fault, and in longer ones."""
     length = needed(given)
-    return [(fault(given), room) for _, ways in to_save.FAULTS for fault in ways for room in (0, 1, length - 1, length, length + 500)]
+    return [(fault(given), room) for _, ways in to_save.faults_of(given) for fault in ways
+            for room in (0, 1, length - 1, length, length + 500)]
 
 
 def every_room(given):
@@ -168,47 +171,66 @@ def resaved():
     return trials
 
 
-def accepted_kinds(rng, cases, some):
+def accepted_kinds(rng, cases, rate_bytes, some):
     """Cases within the limits."""
-    extreme = [reference.given_of(files.extreme_case(rng, days=rng.randint(1, 70))) for _ in range(some(1_500))]
+    extreme = [reference.given_of(files.extreme_case(rng, rng.randint(1, 70), rate_bytes)) for _ in range(some(1_500))]
     yield "random", roomy(rng, cases)
-    yield "ends of the limits", roomy(rng, [*to_save.ends(), *extreme])
-    yield "files in the tree", resaved()
+    yield "ends of the limits", roomy(rng, [*to_save.ends(rate_bytes), *extreme])
 
 
-def limit_kinds(rng, bases, some):
+def rows(rate_bytes):
+    """The rows of which tests/pinned.py makes computed statements."""
+    if rate_bytes == 2:
+        made = (to_save.limit_rows(), to_save.forward_rows(), to_save.count_rows(), to_save.order_rows(), to_save.omission_rows(),
+                to_save.rate_bytes_rows())
+    else:
+        made = (to_save.end_rows(4), to_save.forward_rows(4), to_save.four_rate_rows(),
+                to_save.order_rows(to_save.SMALL_FOUR, to_save.FOUR_BYTE_FAULTS))
+    return [given for rows in made for _, given in rows]
+
+
+def limit_kinds(rng, bases, rate_bytes, some):
     """Cases at the limits and past them."""
-    makers = to_save.limit_rows, to_save.forward_rows, to_save.count_rows, to_save.order_rows, to_save.omission_rows
-    yield "rows", roomy(rng, [given for rows in makers for _, given in rows()])
+    two_faults = lambda given: to_save.two_faults(given, to_save.faults_of(given))
+    several_faults = lambda given: to_save.several_faults(rng, given, to_save.faults_of(given))
+    yield "rows", roomy(rng, rows(rate_bytes))
     yield "one number", roomy(rng, [one for given in bases for one in to_save.one_number(given)])
     yield "numbers of any size", roomy(rng, [to_save.wild(rng, rng.choice(bases)) for _ in range(some(2_000))])
-    for kind, cases in (("refusal 6", to_save.steep_cases()), ("other lengths", to_save.other_lengths(rng))):
+    for kind, cases in (("refusal 6", to_save.steep_cases(rate_bytes)), ("other lengths", to_save.other_lengths(rng))):
         yield kind, roomy(rng, rng.sample(cases, some(len(cases))))
     yield "one fault", [trial for given in bases[:3] for trial in one_fault(given)]
-    yield "two faults", roomy(rng, [one for given in bases[:4] for one in to_save.two_faults(given)])
-    yield "several faults", roomy(rng, [to_save.several_faults(rng, rng.choice(bases)) for _ in range(some(2_000))])
+    yield "two faults", roomy(rng, [one for given in bases[:4] for one in two_faults(given)])
+    yield "several faults", roomy(rng, [several_faults(rng.choice(bases)) for _ in range(some(2_000))])
 
 
 def form_kinds(rng, bases, full, quick):
     """What is left out, and the length of the buffer."""
     yield "left out or there", roomy(rng, [one for given in bases for one in to_save.omissions(given)])
-    small = [given for _, given in to_save.omission_rows()][:1 if quick else 8]
-    yield "every length of the buffer", [trial for given in [to_save.SMALL, *small] for trial in every_room(given)]
+    small = [replace(given, rate_bytes=full.rate_bytes) for _, given in to_save.omission_rows()][:1 if quick else 8]
+    yield "every length of the buffer", [trial for given in [bases[0], *small] for trial in every_room(given)]
     long = [full] if quick else bases[2:]
     yield "long files", [trial for given in long for trial in some_rooms(rng, given, 10 if quick else 400)]
 
 
-def kinds(rng, quick):
-    """(kind, cases with the lengths of the buffer)."""
+def kinds_of(rng, quick, rate_bytes):
+    """(kind, cases with the lengths of the buffer), with so many bytes a rate."""
     some = lambda count: count // 20 if quick else count
-    pool = files.day_pool(rng, some(400))
-    cases = [to_save.random_case(rng, pool) for _ in range(some(6_000))]
-    rich, full = (reference.given_of(case) for case in (reference.read(files.all_fields(3)), files.full_case(rng)))
-    assert needed(full) == 9_223
-    bases = [to_save.SMALL, rich] if quick else [to_save.SMALL, rich, full, *cases[:5]]
-    yield from accepted_kinds(rng, cases, some)
-    yield from limit_kinds(rng, bases, some)
+    pool = files.day_pool(rng, some(400), UNITS[rate_bytes])
+    cases = [to_save.random_case(rng, pool, rate_bytes) for _ in range(some(6_000))]
+    small = replace(to_save.SMALL, rate_bytes=rate_bytes)
+    rich, full = map(reference.given_of, (reference.read(files.all_fields(3, rate_bytes)), files.full_case(rng, rate_bytes)))
+    assert needed(full) == files.LONGEST[rate_bytes]
+    bases = [small, rich] if quick else [small, rich, full, *cases[:5]]
+    yield from accepted_kinds(rng, cases, rate_bytes, some)
+    yield from limit_kinds(rng, bases, rate_bytes, some)
     yield from form_kinds(rng, bases, full, quick)
+
+
+def kinds(rng, quick):
+    """Those of both days fields."""
+    yield "files in the tree", resaved()
+    for rate_bytes in UNITS:
+        yield from ((f"{kind}, {rate_bytes} bytes a rate", trials) for kind, trials in kinds_of(rng, quick, rate_bytes))
 
 
 def main(engine, quick):

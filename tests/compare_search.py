@@ -166,6 +166,8 @@ def kinds(rng, quick):
     yield "whole steps", in_bytes(whole_steps(rng))
     yield "chosen", in_bytes(case for case, _ in scanned_curves())
     yield "70 days", in_bytes(files.full_case(rng) for _ in range(some(30)))
+    finer = [examples.random_case(rng, rate_bytes=4) for _ in range(some(100))] + [files.full_case(rng, 4)]
+    yield "four bytes a rate", in_bytes([*finer, *files.ends(4), *files.on_steps(rng, 4)])
     yield "damaged", [b"", *rng.sample(files.damaged_once(files.all_fields()), some(100)), files.all_fields() + b"\0"]
 
 

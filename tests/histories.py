@@ -7,6 +7,7 @@ statements about the definitions.
 
 from collections import defaultdict
 from dataclasses import replace
+from itertools import cycle
 from typing import NamedTuple
 
 import examples
@@ -17,7 +18,7 @@ import to_save
 from antt import refusal
 from limits import put
 from months import HISTORY, LEAST_MONTH, MONTHS, MOST_MONTH, MOST_UFR, months_of
-from reference import DEFAULT_UFR, encode
+from reference import DEFAULT_UFR, UNITS, encode
 
 LARGEST = (1 << 64) - 1
 LEAST_SUM, MOST_SUM = MONTHS * LEAST_MONTH, MONTHS * MOST_MONTH
@@ -112,16 +113,19 @@ class Call(NamedTuple):
     lengths: tuple  # of the lent buffers, for factors and for rates
 
 
-def both_forms(case):
+def both_ufrs(case):
     """The file with the case's own UFR, and the one without the field; amounts of 0 are there in the first alone."""
     return [encode(case, True, bool(case.bonds), True),
             encode(replace(case, ufr=DEFAULT_UFR), False, bool(case.bonds), any(case.amounts.values()))]
 
 
 def accepted_files(rng, count):
-    """Both forms of so many cases, all with 120 pension flows: what is past term 20 has the UFR in it."""
-    cases = [replace(examples.random_case(rng), pension=[rng.randint(1, limits.FLOW) for _ in range(120)]) for _ in range(count)]
-    return [file for case in cases for file in both_forms(case)]
+    """Both files of so many cases, whose days have two bytes and four in turn, all with 120 pension flows: what is past term 20 has the UFR
+    in it."""
+    flows = lambda: [rng.randint(1, limits.FLOW) for _ in range(120)]
+    cases = [replace(examples.random_case(rng, rate_bytes=rate_bytes), pension=flows())
+             for _, rate_bytes in zip(range(count), cycle(UNITS))]
+    return [file for case in cases for file in both_ufrs(case)]
 
 
 def every_ufr(rng, accepted):
@@ -131,17 +135,16 @@ def every_ufr(rng, accepted):
 
 
 def refused_files():
-    """The files at each limit and in the order of checks that are refused, by their number."""
+    """The files at each limit and in the order of checks that are refused, by their number; those with four-byte days come last."""
     found = defaultdict(list)
-    for _, _, rows in limits.groups():
-        for _, data in rows:
-            found[refusal(data)].append(data)
+    for data in limits.all_files():
+        found[refusal(data)].append(data)
     return {number: found[number] for number in sorted(found) if number}
 
 
 def damaged_calls(rng, count):
     """Damaged files with any history."""
-    damaged = files.damaged_once(files.all_fields())
+    damaged = [data for rate_bytes in UNITS for data in files.damaged_once(files.all_fields(1, rate_bytes))]
     return [Call(rng.choice(damaged), random_history(rng), any_start(rng), (240, 240)) for _ in range(count)]
 
 
@@ -183,9 +186,10 @@ FAULTS = [  # (refusal, the ways to be refused with it), in the order of checks
 
 
 def bases():
-    """Valuations that are accepted: a small file without a UFR, and one in which every field stands."""
+    """Valuations that are accepted: a small file without a UFR, and one in which every field stands; and one of each with four-byte days."""
     history = history_of([3_100] * MONTHS)
-    return [Call(files.fewest_fields(), history, 0, (240, 240)), Call(files.all_fields(3), history, MONTHS - 1, (241, 300))]
+    return [call for rate_bytes in UNITS for call in (
+        Call(files.fewest_fields(rate_bytes), history, 0, (240, 240)), Call(files.all_fields(3, rate_bytes), history, MONTHS - 1, (241, 300)))]
 
 
 def one_fault(call):
@@ -261,6 +265,16 @@ def quick_value_rows():
     yield "1 before 17", call
     yield "3 before 17", call._replace(file=bytes(2))
     yield "9 before 17", call._replace(file=limits.bits(limits.UFR) + limits.number(MOST_UFR + 1, 2))
+
+
+def four_value_rows():
+    """Files with four-byte days: their last field before the history, and none."""
+    call = Call(limits.TO_DAYS + limits.four(limits.FLAT), FOUND, MONTHS - 1, (240, 240))
+    high, steep = limits.put(limits.FLAT, 0, limits.MOST + 1), limits.steep_days(1, 2, 1_200_001)[0]
+    yield "5 before 17", call._replace(file=limits.TO_DAYS + limits.four(high), start=MONTHS)
+    yield "6 before 17", call._replace(file=limits.TO_DAYS + limits.four(steep), start=MONTHS)
+    yield "17", call._replace(start=MONTHS)
+    yield "none", call
 
 
 def value_rows():

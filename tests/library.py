@@ -28,7 +28,7 @@ class HostPeople(Structure):
 
 
 class HostFields(Structure):
-    _fields_ = [("ufr", c_uint64), ("amounts", HostAmounts), ("shocks", HostShocks), ("people", HostPeople)]
+    _fields_ = [("rate_bytes", c_uint64), ("ufr", c_uint64), ("amounts", HostAmounts), ("shocks", HostShocks), ("people", HostPeople)]
 
 
 class HostSaved(Structure):
@@ -101,7 +101,7 @@ def loaded(*names):
 # ---------------------------------------------------------------- a case that is handed in
 
 def fields_of(given):
-    return HostFields(given.ufr, HostAmounts(**given.amounts), HostShocks(**given.shocks),
+    return HostFields(given.rate_bytes, given.ufr, HostAmounts(**given.amounts), HostShocks(**given.shocks),
                       HostPeople(given.heads, given.pension_age, given.mean_age))
 
 
@@ -127,4 +127,4 @@ def given_from(fields, rates, rates_length, pension, pension_length, bonds, bond
     """The case again, from such arguments."""
     numbers = lambda record: {name: getattr(record, name) for name, _ in record._fields_}
     return Given(fields.ufr, *(list(one or []) for one in (rates, pension, bonds)), numbers(fields.amounts), numbers(fields.shocks),
-                 **numbers(fields.people))
+                 **numbers(fields.people), rate_bytes=fields.rate_bytes)

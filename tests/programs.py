@@ -147,7 +147,7 @@ def hash_of(part):
 def fields(case):
     """The fields of a case in the order of the engine's struct, its arrays filled up with 0."""
     padded = lambda flows, length: flows + [0] * (length - len(flows))
-    return [case.ufr, len(case.days), *reference.points(case)[1][1:], len(case.pension), *padded(case.pension, 120),
+    return [case.ufr, case.per_step, *reference.points(case)[1][1:], len(case.pension), *padded(case.pension, 120),
             len(case.bonds), *padded(case.bonds, 60), *case.amounts.values(), *case.shocks.values(),
             case.heads, case.pension_age, case.mean_age]
 

@@ -20,7 +20,7 @@ import pinned
 import programs
 import reference
 from examples import c1, flat
-from reference import ENDS, ONE, UPPER, Rounded
+from reference import ENDS, ONE, UNITS, UPPER, Rounded
 
 EXACTLY = "exact B on three curves"
 LISTINGS = {k: f"{k} bond flows" for k in bonds.COUNTS}
@@ -121,29 +121,37 @@ def figures_of(case, factors=RIGHT):
 
 def few_days(case):
     """The same, of at most three days unless it is the largest factor."""
-    return case if case == largest() else replace(case, days=case.days[:3])
+    return case if case in (largest(), largest(4)) else replace(case, days=case.days[:3])
 
 
-def largest():
-    return replace(examples.deepest(), days=flat(-1_000) * 70)
+def largest(rate_bytes=2):
+    return replace(examples.deepest(), days=flat(-1_000 * UNITS[rate_bytes]) * 70, rate_bytes=rate_bytes)
 
 
 class Engines(unittest.TestCase):
     CASES = {k: [few_days(case) for case in of_k] for k, of_k in bonds.bond_cases(random.Random(5), 7).items()}
+    FOUR_BYTES = {k: [few_days(case) for case in of_k] for k, of_k in bonds.bond_cases(random.Random(6), 7, 4).items()}
 
-    def compared(self, answers):
+    def compared(self, answers, cases=CASES, kinds=LISTINGS.values()):
         """The kinds that are reported as different, and the ways to find B that were not seen."""
         printed, comparison = io.StringIO(), compare.Comparison()
         with (mock.patch.object(programs, "answers", answers), contextlib.redirect_stdout(printed),
               mock.patch.object(reference, "listing", once)):
-            unseen = compare.compare_bonds(comparison, random.Random(1), self.CASES, 3)
+            unseen = compare.compare_bonds(comparison, random.Random(1), cases, 3)
         counts = re.findall(r"^(.*): \d+ files, (\d+) different$", printed.getvalue(), re.M)
-        self.assertEqual([kind for kind, _ in counts], [*LISTINGS.values(), EXACTLY])
+        self.assertEqual([kind for kind, _ in counts], [*kinds, EXACTLY])
         self.assertEqual(comparison.different, sum(int(count) for _, count in counts))
         return {kind for kind, count in counts if count != "0"}, unseen
 
     def test_right(self):
         self.assertEqual(self.compared(engine(RIGHT)), (set(), []))
+
+    def test_four_bytes(self):
+        """A product of N and a factor is above 2^64 for two days of four-byte rates already."""
+        kinds = [f"{kind}, 4 bytes a rate" for kind in LISTINGS.values()]
+        self.assertEqual(self.compared(engine(RIGHT), self.FOUR_BYTES, kinds), (set(), []))
+        found, _ = self.compared(engine(cut_to_64_bits), self.FOUR_BYTES, kinds)
+        self.assertEqual(found, {*kinds[1:], EXACTLY})
 
     def test_wrong(self):
         for factors, listings, exactly in WRONG:

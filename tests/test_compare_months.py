@@ -259,6 +259,11 @@ def little_endian_field(file, ufr):
     return with_ufr_field(file, int.from_bytes(ufr.to_bytes(2, "little"), "big") % 5_001)
 
 
+def not_with_four_bytes(file, ufr):
+    """A file with four-byte days keeps its own UFR."""
+    return file if file[1] >> 7 else with_ufr_field(file, ufr)
+
+
 def own_ufr_not_checked(file, history, start, factors, rates):
     """The UFR found takes the place of the file's own before that is looked at."""
     answer = months.ufr_of(history, start)
@@ -311,7 +316,8 @@ WRONG = {
     **{check.__name__: checking(check) for check in (before_rounding, also_5100)}, "clamped": working(rounded_mean=clamped),
     **{applies.__name__: Fake(value=early(applies)) for applies in (
         months_before_13, months_before_the_file, months_before_6, months_before_2, file_before_13)},
-    **{file_of.__name__: Fake(value=valued_as(file_of)) for file_of in (field_ignored, own_field_kept, not_inserted, little_endian_field)},
+    **{file_of.__name__: Fake(value=valued_as(file_of)) for file_of in (
+        field_ignored, own_field_kept, not_inserted, little_endian_field, not_with_four_bytes)},
     **{value.__name__: Fake(value=value) for value in (own_ufr_not_checked, touched, filled_on_19, wiped, one_entry_past)},
     **{ufr_of.__name__: Fake(ufr_of=ufr_of) for ufr_of in (summed_to_the_end, told_on_19, default_on_refusal)},
 }
@@ -463,6 +469,7 @@ class Histories(unittest.TestCase):
         self.assertEqual([one.ufr for one in ufrs if not one.refusal], [3_100, 0, 5_000])
         self.assertEqual([self.refusal(call) for _, call in histories.quick_value_rows()], [13, 13, 1, 3, 9])
         self.assertEqual([self.refusal(call) for _, call in histories.value_rows()], [13, 2, 6, 6, 6, 17, 18, 19, 0])
+        self.assertEqual([self.refusal(call) for _, call in histories.four_value_rows()], [5, 6, 17, 0])
 
     def test_files_of_the_rows(self):
         """The UFR decides a figure and, for the file without the field, the verdict; both files name the same one."""
@@ -473,9 +480,9 @@ class Histories(unittest.TestCase):
         self.assertEqual((found.verdict, plain.verdict), (reference.RESERVETEKORT, reference.VRIJ_VERMOGEN))
 
     def test_files(self):
-        """Both forms of each case are accepted, one with the field and one without; every UFR is met."""
+        """Both files of each case are accepted, one with the field and one without, of both days fields; every UFR is met."""
         accepted = histories.accepted_files(random.Random(7), 2)
-        self.assertEqual([(refusal(file), file[1] & 1) for file in accepted], [(0, 1), (0, 0)] * 2)
+        self.assertEqual([(refusal(file), file[1] & 1, file[1] >> 7) for file in accepted], [(0, 1, 0), (0, 0, 0), (0, 1, 1), (0, 0, 1)])
         calls = histories.every_ufr(random.Random(8), accepted)
         found = [months.ufr_of(call.history, call.start) for call in calls]
         self.assertEqual(found, [Ufr(0, ufr) for _ in accepted for ufr in range(0, 5_001, 100)])

@@ -299,6 +299,39 @@ def own_six_unchecked(window, given):
     return own_days_replaced(window, given) if reference.case_refusal(given) == 6 else given
 
 
+def two_bytes_taken(window, given):
+    """The case's own days are checked as if they had two bytes."""
+    return replace(given, rate_bytes=2)
+
+
+def any_number_of_bytes(window, given):
+    return given if given.rate_bytes in reference.UNITS else replace(given, rate_bytes=2)
+
+
+def own_rates_in_steps(window, given):
+    """Four-byte rates are rounded to steps before they are checked."""
+    return replace(given, rates=[rate // 100 for rate in given.rates], rate_bytes=2) if given.rate_bytes == 4 else given
+
+
+def three_after_nine(window, given, factors, rates):
+    """3 for the number of bytes is given after 9."""
+    late = reference.case_refusal(replace(given, rate_bytes=2)) == 9 and rolling.value(window, given, factors, rates).refusal == 3
+    return Valued(9, None, factors, rates) if late else rolling.value(window, given, factors, rates)
+
+
+def working_with(case_with):
+    """Another case is valued."""
+    def value(window, given, factors, rates):
+        with mock.patch.object(rolling, "case_with", case_with):
+            return rolling.value(window, given, factors, rates)
+    return Fake(value=value)
+
+
+def finer_window(given, days):
+    """The window's days are taken for four-byte days where the case has those."""
+    return replace(reference.case_of(given), days=days)
+
+
 def with_days(days_of):
     """An accepted window is valued with other days."""
     def value(window, given, factors, rates):
@@ -365,7 +398,9 @@ WRONG = {
     "mended on a refused drop": Fake(drop=mended_on_27(rolling.drop)),
     **{applies.__name__: Fake(value=early(number, applies)) for number, applies in (
         (13, early_13), (9, early_9), (4, early_4), (6, early_6))},
-    **{change.__name__: Fake(value=with_case(change)) for change in (own_days_replaced, own_six_unchecked)},
+    **{change.__name__: Fake(value=with_case(change)) for change in (
+        own_days_replaced, own_six_unchecked, two_bytes_taken, any_number_of_bytes, own_rates_in_steps)},
+    "three after nine": Fake(value=three_after_nine), "the window's days times 100": working_with(finer_window),
     **{days_of.__name__: Fake(value=with_days(days_of)) for days_of in (own_days, slots_from_0, one_day_less)},
     **{value.__name__: Fake(value=value) for value in (factors_only, six_let_pass, touched, touched_on_13, wiped, one_entry_past)},
     "an empty window from slot 1 on": Fake(empty=EMPTY._replace(start=1)),
@@ -385,7 +420,8 @@ def scripts(rng, pool):
 def calls(rng):
     """Valuations of a few windows, and faults of each check and of every two."""
     base = windows.bases(rng)[0]
-    return [base._replace(lengths=(300, 241)), *windows.right_calls(rng, 2), *windows.one_fault(base), *windows.order(base)]
+    four_bytes = [call for _, call in windows.four_value_rows()]
+    return [base._replace(lengths=(300, 241)), *windows.right_calls(rng, 2), *windows.one_fault(base), *windows.order(base), *four_bytes]
 
 
 @functools.cache
@@ -466,14 +502,17 @@ class Windows(unittest.TestCase):
         return rolling.value(call.window, call.given, *([0] * length for length in call.lengths)).refusal
 
     def test_order(self):
-        numbers = [int(name.split()[0]) for name, _ in windows.FAULTS]
-        self.assertEqual(numbers, [27, 13, 9, 4, 5, 7, 8, 7, 8, 10, 11, 12, 6, 4, 6])
-        for base in windows.bases(random.Random(4)):
+        expected = {2: [27, 13, 3, 9, 4, 5, 7, 8, 7, 8, 10, 11, 12, 6, 4, 6], 4: [27, 13, 3, 9, 7, 8, 7, 8, 10, 11, 12, 4, 5, 6, 4, 6]}
+        bases = windows.bases(random.Random(4))
+        self.assertEqual([base.given.rate_bytes for base in bases], [2, 2, 4])
+        for base in bases:
             self.assertEqual(self.refusal(base), 0)
-            for number, (_, ways) in zip(numbers, windows.FAULTS):
+            faults, numbers = windows.faults_of(base), expected[base.given.rate_bytes]
+            self.assertEqual([int(name.split()[0]) for name, _ in faults], numbers)
+            for number, (_, ways) in zip(numbers, faults):
                 for fault in ways:
                     self.assertEqual(self.refusal(fault(base)), number)
-            self.assertEqual([self.refusal(call) for _, call in to_save.order_rows(base, windows.FAULTS)], numbers[:-1])
+            self.assertEqual([self.refusal(call) for _, call in to_save.order_rows(base, faults)], numbers[:-1])
 
     def test_sizes(self):
         """Those of the structs in C."""
@@ -487,7 +526,8 @@ class Windows(unittest.TestCase):
         self.assertEqual([rolling.add(window, day).refusal for _, window, day in windows.add_rows()], [5, 27, 27])
         self.assertEqual([rolling.add(window, day).refusal for _, window, day in windows.full_rows()], [15, 0])
         self.assertEqual([rolling.drop(window).refusal for _, window in windows.drop_rows()], [16, 27])
-        self.assertEqual([self.refusal(call) for _, call in windows.value_rows()], [27, 13, 9, 4, 5, 7, 8, 7, 8, 10, 11, 12, 6, 4, 6, 0])
+        self.assertEqual([self.refusal(call) for _, call in windows.value_rows()], [27, 13, 3, 9, 4, 5, 7, 8, 7, 8, 10, 11, 12, 6, 4, 6, 0])
+        self.assertEqual([self.refusal(call) for _, call in windows.four_value_rows()], [5, 0, 0, 5, 0, 6, 0, 6, 3, 12, 6, 6])
         self.assertEqual([self.refusal(call) for _, call in windows.quick_value_rows()], [27, 13, 12, 6, 4, 6, 0])
 
     def test_steep(self):

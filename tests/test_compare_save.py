@@ -15,7 +15,7 @@ import files
 import reference
 import to_save
 from compare_save import GUARD, Comparison
-from library import HostPart, HostSaved, HostValuation, given_from
+from library import HostFields, HostPart, HostSaved, HostValuation, given_from
 from reference import Refusal, Saved, encode
 
 
@@ -123,7 +123,85 @@ def sixteen_bits(given, held):
     return reference.save(replace(given, ufr=given.ufr % (1 << 16)), held)
 
 
-WRONG = [writing(reference.shortest, room=1), writing(reference.shortest, room=-1), writing(with_fields(every_field)),
+# Of rates in four bytes.
+
+def two_bytes_kept(given):
+    """Rates of four bytes are rounded to steps, and written as two."""
+    rates = [rate // 100 for rate in given.rates] if given.rate_bytes == 4 else given.rates
+    return reference.shortest(replace(given, rates=rates, rate_bytes=2))
+
+
+def shortest_days(given):
+    """Four-byte days whose rates are whole steps are written as two-byte days, which is shorter."""
+    whole = given.rate_bytes == 4 and not any(rate % 100 for rate in given.rates)
+    return two_bytes_kept(given) if whole else reference.shortest(given)
+
+
+def days_in_front(given):
+    """The four-byte days stand behind the map, or the UFR, as the two-byte ones do."""
+    data = reference.shortest(given)
+    if given.rate_bytes == 2:
+        return data
+    front, length = 4 if data[1] & 1 else 2, 1 + 4 * len(given.rates)
+    return data[:front] + data[-length:] + data[front:-length]
+
+
+def bit_1_kept(given):
+    data = reference.shortest(given)
+    return data if given.rate_bytes == 2 else data[:1] + bytes([data[1] ^ 0x82]) + data[2:]
+
+
+def little_endian_rates(given):
+    data = reference.shortest(given)
+    if given.rate_bytes == 2:
+        return data
+    at = len(data) - 4 * len(given.rates)
+    return data[:at] + b"".join(data[place:place + 4][::-1] for place in range(at, len(data), 4))
+
+
+def taking(change):
+    """Another case is taken for the one handed in, before it is looked at."""
+    return lambda given, held: reference.save(change(given), held)
+
+
+def any_number_of_bytes(given):
+    return given if given.rate_bytes in reference.UNITS else replace(given, rate_bytes=2)
+
+
+def lower_byte(given):
+    return replace(given, rate_bytes=given.rate_bytes % 256)
+
+
+def at_least_two(given):
+    """Any number from 2 to 4 is let pass."""
+    return replace(given, rate_bytes=4) if given.rate_bytes == 3 else given
+
+
+def three_after_nine(given, held):
+    late = reference.case_refusal(given) == 3 and reference.case_refusal(replace(given, rate_bytes=2)) == 9
+    return Saved(9, 0, held) if late else reference.save(given, held)
+
+
+def days_before_the_flows(given, held):
+    """4 and 5 of four-byte days in the place of those of two-byte days."""
+    others = reference.case_refusal(given)
+    alone = reference.case_refusal(replace(to_save.SMALL_FOUR, rates=given.rates))
+    early = given.rate_bytes == 4 and others in (7, 8, 10, 11, 12) and alone in (4, 5)
+    return Saved(alone, 0, held) if early else reference.save(given, held)
+
+
+def limits_of_two_bytes(given, held):
+    """5 and 6 in steps, of four-byte rates too."""
+    if given.rate_bytes == 4 and reference.case_refusal(given) in (0, 6):
+        number = reference.case_refusal(replace(given, rate_bytes=2))
+        return Saved(number, 0, held) if number else reference.save(given, held)
+    return reference.save(given, held)
+
+
+OF_FOUR_BYTES = [*map(writing, (two_bytes_kept, shortest_days, days_in_front, bit_1_kept, little_endian_rates)),
+                 *map(taking, (any_number_of_bytes, lower_byte, at_least_two)), three_after_nine, days_before_the_flows, limits_of_two_bytes]
+
+WRONG = [*OF_FOUR_BYTES, writing(reference.shortest, room=1), writing(reference.shortest, room=-1), writing(with_fields(every_field)),
          writing(no_empty_looking_bonds), writing(reversed_days), writing(little_endian_shocks), wiped, byte_on_refusal, count_on_refusal,
          one_byte_past, early_14, six_before_twelve, rates_by_whole_days, sixteen_bits]
 
@@ -133,14 +211,14 @@ WRONG = [writing(reference.shortest, room=1), writing(reference.shortest, room=-
 def compared(engine):
     """A short comparison, and what it prints."""
     rng, printed = random.Random(1), io.StringIO()
-    rich = reference.given_of(reference.read(files.all_fields(3)))
-    makers = to_save.limit_rows, to_save.count_rows, to_save.order_rows, to_save.omission_rows
     comparison = Comparison(engine, rng)
     with contextlib.redirect_stdout(printed):
-        comparison.compare("rows", compare_save.roomy(rng, [rich, *(given for rows in makers for _, given in rows())]))
-        comparison.compare("rooms", compare_save.some_rooms(rng, to_save.SMALL, 5))
-        comparison.compare("faults", compare_save.one_fault(to_save.SMALL))
-        comparison.compare("numbers", compare_save.roomy(rng, to_save.one_number(to_save.SMALL)))
+        for small in (to_save.SMALL, to_save.SMALL_FOUR):
+            rich = reference.given_of(reference.read(files.all_fields(3, small.rate_bytes)))
+            comparison.compare("rows", compare_save.roomy(rng, [rich, *compare_save.rows(small.rate_bytes)]))
+            comparison.compare("rooms", compare_save.some_rooms(rng, small, 5))
+            comparison.compare("faults", compare_save.one_fault(small))
+            comparison.compare("numbers", compare_save.roomy(rng, to_save.one_number(small)))
     return comparison, printed.getvalue()
 
 
@@ -156,6 +234,11 @@ class Reported(unittest.TestCase):
             comparison, printed = compared(Fake(saving))
             self.assertGreater(comparison.different, 0, saving)
             self.assertIn("DIFFERENT", printed)
+
+    def test_size(self):
+        """That of the struct in C: the number of bytes of a rate, the UFR, 8 amounts, 12 shocks, 3 numbers of people."""
+        self.assertEqual(ctypes.sizeof(HostFields), 8 * 25)
+        self.assertEqual(HostFields.rate_bytes.offset, 0)
 
     def test_changed_list(self):
         class Changing(Fake):

@@ -436,12 +436,25 @@ class SaveRows(unittest.TestCase):
         self.assertEqual(self.refusals(to_save.forward_rows()), [0, 6] * 3)
 
     def test_order(self):
-        numbers = [int(name.split()[0]) for name, _ in to_save.FAULTS]
-        self.assertEqual(numbers, [9, 4, 5, 7, 8, 7, 8, 10, 11, 12, 6])
-        self.assertEqual(self.refusals(to_save.order_rows()), numbers[:-1])
-        for number, (_, ways) in zip(numbers, to_save.FAULTS):
-            for fault in ways:
-                self.assertEqual(case_refusal(fault(to_save.SMALL)), number)
+        for given, expected in ((to_save.SMALL, [3, 9, 4, 5, 7, 8, 7, 8, 10, 11, 12, 6]),
+                                (to_save.SMALL_FOUR, [3, 9, 7, 8, 7, 8, 10, 11, 12, 4, 5, 6])):
+            faults = to_save.faults_of(given)
+            numbers = [int(name.split()[0]) for name, _ in faults]
+            self.assertEqual(numbers, expected)
+            self.assertEqual(self.refusals(to_save.order_rows(given, faults)), numbers[:-1])
+            for number, (_, ways) in zip(numbers, faults):
+                for fault in ways:
+                    self.assertEqual(case_refusal(fault(given)), number)
+
+    def test_four_bytes(self):
+        self.assertEqual(self.refusals(to_save.rate_bytes_rows()), [3] * 4)
+        self.assertEqual(self.refusals(to_save.four_rate_rows()), [5, 0, 6, 5, 5, 6, 6, 5])
+        self.assertEqual(self.refusals(to_save.forward_rows(4)), [0, 6] * 3)
+        self.assertEqual(self.refusals(to_save.end_rows(4)), [0, 0])
+        # days of which some rate is out of limits aside
+        steep = [number for number in self.refusals(("", given) for given in to_save.steep_cases(4)) if number != 5]
+        self.assertGreater(len(steep), 900)
+        self.assertEqual(steep, [0, 6] * (len(steep) // 2))
 
     def test_left_out(self):
         rows = [given for _, given in to_save.omission_rows()]
@@ -991,8 +1004,10 @@ class Examples(unittest.TestCase):
 class LimitRows(unittest.TestCase):
     """tests/limits.py: each limit on both sides, each place of the order."""
 
+    GROUPS = [*limits.groups(), *limits.four_byte_groups()]
+
     def refusals(self, group):
-        return [number_of(data) for name, _, rows in limits.groups() if name == group for _, data in rows]
+        return [number_of(data) for name, _, rows in self.GROUPS if name == group for _, data in rows]
 
     def test_both_sides(self):
         # behind the two or three files of another kind, a number that passes and one that does not take turns
@@ -1001,26 +1016,35 @@ class LimitRows(unittest.TestCase):
         self.assertEqual(self.refusals("rates"), [5, 1, 1, 5] * 4 + [1])
         self.assertEqual(self.refusals("forwards"), [0, 6] * (len(self.refusals("forwards")) // 2))
 
+    def test_four_bytes(self):
+        """A rate that passes 5 is refused by 6, or by nothing."""
+        self.assertEqual(self.refusals("four-map"), [1] + [3] * 13 + [1, 3])
+        self.assertEqual(self.refusals("four-counts"), [1, 4, 1, 1, 4, 4])
+        self.assertEqual(self.refusals("four-rates"), [5, 0, 6, 5, 5, 6, 6, 5] * 2 + [0, 0, 5, 5, 1, 1])
+        self.assertEqual(self.refusals("four-forwards"), [0, 6] * 8)
+        self.assertEqual(self.refusals("four-order"), [3, 9, 7, 8, 7, 8, 10, 11, 12, 12, 12, 4, 5, 2, 6, 2, 0])
+
     def test_every_refusal(self):
-        seen = {number_of(data) for _, _, rows in limits.groups() for _, data in rows}
-        self.assertEqual(seen, set(range(13)))
+        for groups in (limits.groups(), limits.four_byte_groups()):
+            self.assertEqual({number_of(data) for _, _, rows in groups for _, data in rows}, set(range(13)))
 
     def test_quick_rows(self):
-        rows = {name: [row for row, _ in rows] for name, _, rows in limits.groups()}
+        rows = {name: [row for row, _ in rows] for name, _, rows in self.GROUPS}
         for name, quick in limits.QUICK.items():
             self.assertEqual([rows[name].count(row) for row in quick], [1] * len(quick), name)
 
     def test_growth_by_one(self):
         # the files of error 6 have the growth that their row says, and no other at or beyond a limit
-        for row, data in limits.forward_rows():
+        rows = [(2, 1, row) for row in limits.forward_rows()] + [(4, 100, row) for row in limits.four_forward_rows()]
+        for rate_bytes, units, (row, data) in rows:
             words = row.replace(",", "").replace(":", "").split()
             n, term, forward = int(words[0]), int(words[3]), int(words[4])
             days = limits.steep_days(n, term, forward)
             s = reference.sums(days)
             growths = {t: t * s[t] - (t - 1) * s[t - 1] for t in range(1, 61)}
             self.assertEqual(growths.pop(term), forward)
-            self.assertTrue(all(-2_000 * n < growth < 12_000 * n for growth in growths.values()), row)
-            self.assertEqual(data[3:3 + 120 * n], limits.rates(*days)[1:])
+            self.assertTrue(all(-2_000 * n * units < growth < 12_000 * n * units for growth in growths.values()), row)
+            self.assertIn(limits.rates(*days, rate_bytes=rate_bytes), data)
 
 
 if __name__ == "__main__":

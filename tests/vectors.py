@@ -10,6 +10,7 @@ from dataclasses import replace
 import examples
 import files
 import programs
+from antt import refusal
 from examples import c1, flat
 from reference import encode
 
@@ -34,6 +35,12 @@ def limits():
     return [replace(examples.up(), **change) for change in changes]
 
 
+def some_damaged(rng, data, count):
+    """So many damaged files, and one of each refusal."""
+    damaged = files.damaged_once(data)
+    return [*{refusal(bad): bad for bad in damaged}.values(), *rng.sample(damaged, count)]
+
+
 def vector_files():
     rng = random.Random(SEED)
     cases = [examples.bent(), examples.up(), examples.down(), *files.ends(), *limits()]
@@ -42,15 +49,25 @@ def vector_files():
     # bonds past term 20: one flow; the largest factor, of one day and of 70
     cases += [examples.past_20(), *(replace(examples.deepest(), days=flat(-1_000) * n) for n in (1, 70))]
     rich = files.all_fields()
-    damaged = rng.sample(files.damaged_once(rich), 24) + [rich[:-1], rich + b"\0", rich[:1]]
-    return worked() + [files.file_of(rng, case) for case in cases] + damaged + list(files.long_files(rng))[:3]
+    damaged = some_damaged(rng, rich, 14) + [rich[:-1], rich + b"\0", rich[:1]]
+    stored = worked() + [files.file_of(rng, case) for case in cases] + damaged + list(files.long_files(rng))[:3]
+    return stored + four_byte_files(rng)
+
+
+def four_byte_files(rng):
+    """Files with four-byte days: rewritten ones, rates with seven decimals, the ends of the limits, and damage."""
+    cases = [*map(files.rewritten_case, (examples.bent(), examples.up())), files.finer_case(examples.down()), *files.ends(4),
+             replace(files.rewritten_case(examples.deepest()), days=flat(-100_000) * 70), c1(days=flat(1), rate_bytes=4), files.full_case(rng, 4)]
+    cases += [examples.random_case(rng, rate_bytes=4) for _ in range(4)] + [files.extreme_case(rng, rate_bytes=4) for _ in range(4)]
+    rich = files.all_fields(1, 4)
+    return [files.file_of(rng, case) for case in cases] + some_damaged(rng, rich, 6) + [rich[:-1], rich + b"\0"]
 
 
 def search_files():
     """Curves: one whose zero rates are a whole step at every term, a bent, a rising and a steep one, the lowest and the
-    highest. Among them files that are refused."""
+    highest, and one of four-byte days. Among them files that are refused."""
     steep = replace(examples.up(), days=[files.zigzag(20, True)])
-    cases = [c1(days=flat(4_200)), examples.bent(), examples.long(), steep, *files.ends()]
+    cases = [c1(days=flat(4_200)), examples.bent(), examples.long(), steep, *files.ends(), files.finer_case(examples.bent())]
     accepted = [encode(case, True, bool(case.bonds), True) for case in cases]
     return [accepted[0], b"", *accepted[1:4], files.all_fields() + b"\0", *accepted[4:]]
 

@@ -6,7 +6,8 @@ statements about the definitions.
 """
 
 from array import array
-from itertools import product
+from dataclasses import replace
+from itertools import cycle, product
 from typing import NamedTuple
 
 import examples
@@ -15,7 +16,7 @@ import limits
 import reference
 import to_save
 from limits import put
-from reference import Given, rates_within_limits
+from reference import UNITS, Given, rates_within_limits
 from rolling import EMPTY, MOST_DAYS, RATES, TERMS, Window, days_held, placed
 from to_save import LEAST_RATE, MOST_RATE
 
@@ -140,13 +141,15 @@ class Call(NamedTuple):
 
 
 def right_calls(rng, count):
-    """Windows of 1 to 70 days at every start, each with a case that has days of its own. Any days of the pool pass 6 together."""
-    pool = files.day_pool(rng, 200)
+    """Windows of 1 to 70 days at every start, each with a case that has days of its own, in two bytes and in four in turn. Any days of a pool
+    pass 6 together."""
+    pools = {rate_bytes: files.day_pool(rng, 200, units) for rate_bytes, units in UNITS.items()}
     turns = rng.sample(range(MOST_DAYS), MOST_DAYS)
     places = [(start, 1 + (start + turn) % MOST_DAYS) for turn in turns for start in range(MOST_DAYS)]
-    for start, days in places[:count]:
-        window = placed(rng.choices(pool, k=days), start, any_rates(rng))
-        yield Call(window, to_save.random_case(rng, pool), (rng.choice([240, 241, 300]), rng.choice([240, 241, 300])))
+    for (start, days), rate_bytes in zip(places[:count], cycle(pools)):
+        window = placed(rng.choices(pools[2], k=days), start, any_rates(rng))
+        given = to_save.random_case(rng, pools[rate_bytes], rate_bytes)
+        yield Call(window, given, (rng.choice([240, 241, 300]), rng.choice([240, 241, 300])))
 
 
 def steep_days():
@@ -190,33 +193,41 @@ def oldest_past_limit(window):
     return placed([put(first, 0, MOST_RATE + 1), *later], window.start, window.rates)
 
 
-FAULTS = [  # (refusal, the ways to be refused with it), in the order of checks
+OF_THE_WINDOW = [  # before the case's own
     ("27", [sum_off(1), sum_off(TERMS), on_window(oldest_past_limit), *(
         on_window(lambda window, changed=changed: window._replace(**changed)) for changed in (
             {"count": MOST_DAYS + 1}, {"count": LARGEST}, {"start": MOST_DAYS}, {"start": 1 << 63}))]),
     ("13", [lent(239, 240), lent(240, 239), lent(0, 240), lent(240, 0), lent(0, 0)]),
-    *((name, [on_case(fault) for fault in ways]) for name, ways in to_save.FAULTS),
+]
+OF_ITS_DAYS = [  # after the case's own: in steps, whatever the case's own rates have
     ("4 of the window", [filled([])]),
     ("6 of the window", [filled(limits.steep_days(n, term, forward)) for n, term, forward in (
         (1, 2, 12_001), (1, 60, -2_001), (2, 3, 24_001), (70, 20, 70 * 12_000 + 1))]),
 ]
 
 
+def faults_of(call):
+    """(refusal, the ways to be refused with it), in the order of checks, by the days field of the case."""
+    own = [(name, [on_case(fault) for fault in ways]) for name, ways in to_save.faults_of(call.given)]
+    return OF_THE_WINDOW + own + OF_ITS_DAYS
+
+
 def bases(rng):
-    """Valuations that are accepted: a small case, and one in which every field stands; few days, and 70."""
-    rich = reference.given_of(reference.read(files.all_fields(3)))
+    """Valuations that are accepted: a small case, and one in which every field stands, of both days fields; few days, and 70."""
+    rich = {rate_bytes: reference.given_of(reference.read(files.all_fields(3, rate_bytes))) for rate_bytes in UNITS}
     few, many = examples.flat(100, 300, -200), rng.choices(files.day_pool(rng, 20), k=MOST_DAYS)
-    return [Call(placed(few, MOST_DAYS - 2, any_rates(rng)), to_save.SMALL, (240, 240)), Call(placed_anywhere(rng, many), rich, (240, 242))]
+    return [Call(placed(few, MOST_DAYS - 2, any_rates(rng)), to_save.SMALL, (240, 240)),
+            Call(placed_anywhere(rng, many), rich[2], (240, 242)), Call(placed_anywhere(rng, few), rich[4], (241, 240))]
 
 
 def one_fault(call):
     """Each fault alone."""
-    return [fault(call) for _, ways in FAULTS for fault in ways]
+    return [fault(call) for _, ways in faults_of(call) for fault in ways]
 
 
 def order(call):
     """Faults of every two checks, each in its first way."""
-    return to_save.two_faults(call, [(name, ways[:1]) for name, ways in FAULTS])
+    return to_save.two_faults(call, [(name, ways[:1]) for name, ways in faults_of(call)])
 
 
 # ---------------------------------------------------------------- rows
@@ -290,14 +301,29 @@ def change_rows():
 
 def value_rows():
     """Valuations: faults of checks that follow each other, the last fault alone, and none."""
-    call, (last, ways) = Call(FLAT, to_save.SMALL, (240, 240)), FAULTS[-1]
-    yield from to_save.order_rows(call, FAULTS)
+    call, (last, ways) = Call(FLAT, to_save.SMALL, (240, 240)), OF_ITS_DAYS[-1]
+    yield from to_save.order_rows(call, faults_of(call))
     yield last, ways[0](call)
     yield "none", call
 
 
+def four_value_rows():
+    """Valuations with a case whose days have four bytes: its own 5 and 6 by its own step, then those of the window's days."""
+    call = Call(FLAT, to_save.SMALL_FOUR, (240, 240))
+    least, most = to_save.limits_of_rates(4)
+    for rate in (least - 1, least, most, most + 1):
+        yield f"all own rates {rate}", call._replace(given=replace(call.given, rates=[rate] * TERMS))
+    for forward in to_save.around_six(1, 4):
+        yield f"own growth {forward}", call._replace(given=to_save.steep(1, 2, forward, 4))
+    steep = placed(limits.steep_days(1, 2, 12_001), 0, FREE)
+    yield "3 before 9", call._replace(given=replace(call.given, rate_bytes=3, ufr=5_001))
+    yield "12 before 4 of the case", call._replace(given=replace(call.given, heads=0, rates=[]))
+    yield "6 of the case before 4 of the window", Call(EMPTY, to_save.steep(1, 2, 1_200_001, 4), (240, 240))
+    yield "6 of the window", call._replace(window=steep)
+
+
 # Where the case's own checks begin and end. Their order among themselves is that of a case that is saved.
-QUICK = ["27 before 13", "13 before 9", "12 before 6", "6 before 4 of the window", "4 of the window before 6 of the window",
+QUICK = ["27 before 13", "13 before 3", "12 before 6", "6 before 4 of the window", "4 of the window before 6 of the window",
          "6 of the window", "none"]
 
 

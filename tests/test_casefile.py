@@ -2,12 +2,14 @@
 
 import os
 import random
+import struct
 import subprocess
 import sys
 import tempfile
 import tomllib
 import unittest
 from collections import Counter
+from dataclasses import replace
 from importlib.machinery import SourceFileLoader
 from importlib.util import module_from_spec, spec_from_loader
 from pathlib import Path
@@ -21,12 +23,30 @@ import examples
 import reference
 import test_reference
 from casetext import Case, Fault, Reader, explain, from_toml, months, read, refusal, template, to_toml, warnings_of, write
-from casetext.fields import forwards_out_of_limits
+from casetext.fields import DAYS_FIELDS, Forward, forwards_out_of_limits
 
 C1 = reference.encode(examples.c1(), False, False, True)
 UP = reference.encode(examples.up(), True, True, True)
 FUND = (ROOT / "cases" / "fund.case").read_bytes()
 STEEP = C1[:121] + b"\x01\x00" + C1[123:]  # rate 256 at term 60, behind zeros: refused with 6
+TWO, FOUR = DAYS_FIELDS[2], DAYS_FIELDS[4]
+
+
+def in_four_bytes(data, more=lambda place: 0):
+    """A file of two-byte rates with each rate in four bytes instead: 100 times the rate, and some hundredths of a step more."""
+    at = 5 if data[1] & 1 else 3
+    end = at + 120 * data[at - 1]
+    rates = struct.unpack(f">{60 * data[at - 1]}h", data[at:end])
+    finer = [100 * rate + more(place) for place, rate in enumerate(rates)]
+    return bytes([data[0], data[1] ^ 0x82]) + data[2:at - 1] + data[end:] + data[at - 1:at] + struct.pack(f">{len(rates)}i", *finer)
+
+
+def with_rates(data, rates):
+    """A file of one day in four bytes with other rates."""
+    return data[:-240] + struct.pack(">60i", *rates)
+
+
+C1_FOUR, UP_FOUR, FUND_FOUR = in_four_bytes(C1), in_four_bytes(UP, lambda place: 37 * place % 100), in_four_bytes(FUND)
 
 
 def accepted(seed, count):
@@ -45,8 +65,9 @@ class Files(unittest.TestCase):
     def test_damaged_files(self):
         rng = random.Random(17)
         good = [C1, UP, *(data for _, data in accepted(18, 6))]
+        good += [in_four_bytes(data) for data in good]
         seen = Counter()
-        for _ in range(4_000):
+        for _ in range(6_000):
             data = bytearray(rng.choice(good))
             for _ in range(rng.randint(0, 2)):
                 at = rng.choice([rng.randrange(len(data)), rng.randrange(-40, 0), rng.randrange(5)])
@@ -58,6 +79,7 @@ class Files(unittest.TestCase):
             data = bytes(data)
             number = number_of(data)
             seen[number] += 1
+            seen["four bytes"] += number == 0 and data[1] >= 0x80
             self.assertEqual(refusal(data), number, data.hex())
             if number:
                 with self.assertRaises(Fault) as caught:
@@ -65,19 +87,46 @@ class Files(unittest.TestCase):
                 self.assertLessEqual(caught.exception.byte, len(data))
             else:
                 self.assertEqual(write(read(data)), data)
-        self.assertEqual(set(seen), set(range(13)))
-        self.assertGreater(seen[0], 100)
+        self.assertEqual(set(seen), {*range(13), "four bytes"})
+        self.assertGreater(min(seen[0], seen["four bytes"]), 100)
 
     def test_accepted_files(self):
         for case, data in accepted(19, 60):
             held = read(data)
-            self.assertEqual(held.days, case.days)
+            self.assertEqual((held.rate_bytes, held.days), (2, case.days))
             self.assertEqual((held.pension, held.bonds or []), (case.pension, case.bonds))
             self.assertEqual(held.amounts or dict.fromkeys(reference.AMOUNTS, 0), case.amounts)
             self.assertEqual((4_200 if held.ufr is None else held.ufr, held.shocks), (case.ufr, case.shocks))
             self.assertEqual(list(held.people.values()), [case.heads, case.pension_age, case.mean_age])
             self.assertEqual(from_toml(to_toml(held)), held)
             self.assertEqual(write(from_toml(to_toml(held))), data)
+            self.assertNotIn("rate_bytes", to_toml(held))
+
+    def test_accepted_files_of_four_bytes(self):
+        """All of a file but the days as in two bytes; every hundredth of a step of the days there and back."""
+        rng, finest = random.Random(23), set()
+        for case, data in accepted(24, 60):
+            whole, finer = in_four_bytes(data), in_four_bytes(data, lambda place: rng.randint(-99, 99))
+            self.assertEqual(read(whole), replace(read(data), rate_bytes=4, days=[[100 * rate for rate in day] for day in case.days]))
+            for file in (whole, *([finer] if refusal(finer) == 0 else [])):
+                held = read(file)
+                finest |= {rate % 100 for day in held.days for rate in day}
+                self.assertEqual(write(held), file)
+                self.assertEqual(from_toml(to_toml(held)), held)
+                self.assertIn("\nrate_bytes = 4  # rates to 0.00001 %, in the days field of bit 7\n", to_toml(held))
+        self.assertEqual(finest, set(range(100)))
+
+    def test_longest_file(self):
+        largest = read((ROOT / "cases" / "largest.case").read_bytes())
+        for rate_bytes, length in ((2, 9_223), (4, 17_623)):
+            case = replace(largest, rate_bytes=rate_bytes)
+            data = write(case)
+            self.assertEqual((len(data), refusal(data + b"\0"), refusal(data[:-1])), (length, 2, 1))
+            self.assertEqual(write(from_toml(to_toml(read(data)))), data)
+
+    def test_shortest_file_of_four_bytes(self):
+        case = replace(read(C1_FOUR), amounts=None)
+        self.assertEqual((len(write(case)), write(case)[:2], read(write(case))), (280, b"\x00\xe4", case))
 
     def test_decode_of_every_value(self):
         """Each value of a share, an age and a duration, and values of rates, there and back."""
@@ -85,11 +134,12 @@ class Files(unittest.TestCase):
         for value in range(1_001):
             shocks = {name: min(value, 500) if name == "duration" else value for name in case.shocks}
             people = {"heads": 1 + value, "pension_age": value, "mean_age": 1_200 - value}
-            days = [[(7 * value + 11 * term) % 10_001 - 1_000 for term in range(60)]]
-            if value % 20 or forwards_out_of_limits(days):
-                days = [[value] * 60]
-            changed = Case(value, days, [value], None, None, shocks, people)
-            self.assertEqual(from_toml(to_toml(changed)), changed)
+            for rate_bytes, days in ((2, [[(7 * value + 11 * term) % 10_001 - 1_000 for term in range(60)]]),
+                                     (4, [[(7_919 * value + term) % 1_000_001 - 100_000 for term in range(60)]])):
+                if value % 20 or forwards_out_of_limits(days, DAYS_FIELDS[rate_bytes]):
+                    days = [[value] * 60]
+                changed = Case(rate_bytes, value, days, [value], None, None, shocks, people)
+                self.assertEqual(from_toml(to_toml(changed)), changed)
 
     def test_which_byte(self):
         for number, at, wrong, _ in test_reference.Reading.FAULTS:
@@ -107,24 +157,66 @@ class Files(unittest.TestCase):
                 read(data)
             self.assertEqual((caught.exception.number, caught.exception.byte), (number, byte))
 
+    def test_which_byte_in_four(self):
+        """The days come behind the people; then 2, then 6."""
+        count, first = len(UP_FOUR) - 721, len(UP_FOUR) - 720
+        people = count - 8
+        put = lambda data, at, new: data[:at] + new + data[at + len(new):]
+        low, high = struct.pack(">i", -100_001), struct.pack(">i", 1_000_001)
+        steep = struct.pack(">i", 900_000)  # at term 1 of one of three days, before rates near 0.2 %
+        no_heads = put(UP_FOUR, people, bytes(4))
+        for data, number, byte in (
+                (put(UP_FOUR, 1, b"\xff"), 3, 1), (put(UP_FOUR, 1, b"\x7d"), 3, 1), (put(UP_FOUR, 0, b"\x01"), 3, 0),
+                (UP_FOUR[:count], 1, count), (put(UP_FOUR, count, b"\0"), 4, count), (put(UP_FOUR, count, b"\x47"), 4, count),
+                (put(UP_FOUR, count, b"\x04"), 1, len(UP_FOUR)), (put(UP_FOUR, count, b"\x02"), 2, count + 481),
+                (put(UP_FOUR, first, low), 5, first), (put(UP_FOUR, first + 716, high), 5, first + 716),
+                (put(UP_FOUR, first + 4, b"\x80\0\0\0"), 5, first + 4), (put(UP_FOUR, first, low) + b"\0", 5, first),
+                (put(UP_FOUR, first, low)[:-1], 1, len(UP_FOUR) - 1), (put(no_heads, first, low), 12, people),
+                (no_heads[:count], 12, people), (put(no_heads, count, b"\0"), 12, people),
+                (put(UP_FOUR, 2, b"\xff") + b"\0", 9, 2), (put(UP_FOUR, first, steep * 60), 0, None),
+                (put(UP_FOUR, first, steep), 6, first + 4), (put(UP_FOUR, first, steep) + b"\0", 2, len(UP_FOUR))):
+            with self.subTest(number=number, byte=byte):
+                self.assertEqual(refusal(data), number)
+                if number:
+                    with self.assertRaises(Fault) as caught:
+                        read(data)
+                    self.assertEqual(caught.exception.byte, byte)
+        for cut in range(len(C1_FOUR)):
+            self.assertEqual(refusal(C1_FOUR[:cut]), 1)
+
+    def test_limits_in_four_bytes(self):
+        for rates, number in (([-100_000] * 60, 0), ([1_000_000] * 60, 0), ([-100_001] * 60, 5), ([1_000_001] * 60, 5),
+                              ([0] + [600_000] * 59, 0), ([-1] + [600_000] * 59, 6), ([0] + [-100_000] * 59, 0),
+                              ([1] + [-100_000] * 59, 6)):
+            self.assertEqual(refusal(with_rates(C1_FOUR, rates)), number, rates[:2])
+
     def test_forward_rates(self):
         """The shown rate is exact, or never looks like a limit that it exceeds."""
         for days in ([[0] + [6_000] * 59], [[0] + [-1_000] * 59]):  # exactly 12 % and -2 %
-            self.assertEqual(forwards_out_of_limits(days), [])
-        [found] = forwards_out_of_limits([[1] + [-1_000] * 59])
+            self.assertEqual(forwards_out_of_limits(days, TWO), [])
+        [found] = forwards_out_of_limits([[1] + [-1_000] * 59], TWO)
         self.assertIn("from year 1 to year 2 is -2.001 %; it must be -2 % to 12 %", str(found))
-        [found] = forwards_out_of_limits([[0] + [6_001] * 59])
+        [found] = forwards_out_of_limits([[0] + [6_001] * 59], TWO)
         self.assertIn("from year 1 to year 2 is 12.002 %; it must be -2 % to 12 %", str(found))
+        [found] = forwards_out_of_limits([[-1] + [600_000] * 59] * 7, FOUR)
+        self.assertIn("from year 1 to year 2 is 12.00001 %; it must be -2 % to 12 %", str(found))
+        self.assertIn("2 × s(2) - 1 × s(1) is 8,400,007 hundredths of a step; it must be -1,400,000 to 8,400,000, for n = 7", str(found))
         for n in range(1, 71):
             for growth in (12_000 * n + 1, 12_000 * n + n // 2 + 1, -2_000 * n - 1):
-                shown = str(type(found)(7, growth, n)).split(" is ")[1].split(" %")[0]
+                shown = self.shown(Forward(7, growth, n, TWO))
                 self.assertFalse(-2 <= float(shown.removeprefix("about ")) <= 12, (n, growth, shown))
                 self.assertEqual(shown.startswith("about "), 1_000 * growth % n != 0)
+            for growth in (1_200_000 * n + 1, 1_200_000 * n + 101, -200_000 * n - 1):
+                shown = self.shown(Forward(7, growth, n, FOUR))
+                self.assertFalse(-2 <= float(shown.removeprefix("about ")) <= 12, (n, growth, shown))
+
+    def shown(self, forward):
+        return str(forward).split(" is ")[1].split(" %")[0]
 
 
 class Explained(unittest.TestCase):
     def test_every_byte_once(self):
-        for data in (C1, UP, *(data for _, data in accepted(20, 10))):
+        for data in (C1, UP, C1_FOUR, UP_FOUR, *(data for _, data in accepted(20, 10))):
             text, good = explain(data)
             self.assertTrue(good and text.endswith(f"\naccepted: {len(data):,} bytes\n"))
             reader = Reader(data)
@@ -146,6 +238,23 @@ class Explained(unittest.TestCase):
         self.assertIn("refused, 6, at byte 121: the one-year forward rate from year 59 to year 60 is 15.36 %; "
                       "it must be -2 % to 12 %: ", text)
         self.assertIn("60 × s(60) - 59 × s(59) is 15,360 steps; it must be -2,000 to 12,000, for n = 1", text)
+
+    def test_words_of_four_bytes(self):
+        text = explain(UP_FOUR)[0]
+        for words in ("map 0x00fd: UFR, pension flows, bond flows, amounts, shocks, people, days in four bytes\n",
+                      "       1  days in four bytes: 3\n", "     240  day 1, in hundredths of a step: 20600 22537 ", "ufr: 4,321 steps, 4.321 %"):
+            self.assertIn(words, text)
+        for data, sentence in (
+                (with_rates(C1_FOUR, [1_000_001] * 60), "refused, 5, at byte 104: the rate of term 1 of day 1 is 1,000,001 hundredths of "
+                                                        "a step, 10.00001 %; it must be -100,000 to 1,000,000 hundredths of a step"),
+                (b"\x00\xf6" + C1[2:], "refused, 3, at byte 1: bits 1 and 7 of the map, days and days in four bytes, both stand; "
+                                       "exactly one of them must stand"),
+                (b"\x00\x74" + C1[2:], "are both missing; exactly one of them must stand"),
+                (b"\x00\x72" + C1[2:], "bit 2 of the map, pension flows, is missing; bits 2, 5 and 6 must stand"),
+                (b"\x01\x76" + C1[2:], "refused, 3, at byte 0: bit 8 of the map stands; bits 8 to 15 must not")):
+            text, good = explain(data)
+            self.assertFalse(good)
+            self.assertIn(sentence, text)
 
     def test_general_sentences(self):
         """Each refusal has its specific sentence and then the general one of hosts/words.toml."""
@@ -180,6 +289,27 @@ class CommandLine(unittest.TestCase):
         self.assertEqual((status, text.decode(), said), (0, to_toml(read(FUND)), ""))
         self.assertEqual(self.run_tool("encode", "-", given=b"\xef\xbb\xbf" + text), (0, FUND, ""))
         self.assertEqual(self.run_tool("encode", "-", given=text.decode().encode("utf-16")), (0, FUND, ""))
+
+    def test_four_bytes_there_and_back(self):
+        """Only the key asks for four bytes, and without it no rate is rounded."""
+        finer = in_four_bytes(FUND, lambda place: place % 100)
+        status, text, said = self.run_tool("decode", "-", given=finer)
+        self.assertEqual((status, said), (0, ""))
+        self.assertEqual(self.run_tool("encode", "-", given=text), (0, finer, ""))
+        form = b"rate_bytes = 4  # rates to 0.00001 %, in the days field of bit 7\n"
+        self.assertEqual(text.count(form), 1)
+        self.assertEqual(self.run_tool("encode", "-", given=text.replace(form, b"")), (1, b"", (
+            "-: days.rates, term 2 of day 1, is 0.42901, which is no whole number of steps; the nearest are 0.429 % and 0.43 %; "
+            "1,187 other rates have such decimals too; for rates to 0.00001 % write rate_bytes = 4 in [days], and the rates in % or bp\n")))
+
+    def test_the_same_rates_in_either_form(self):
+        """A text says the form: the same rates with and without the key are two files."""
+        text = self.run_tool("decode", "-", given=FUND)[1]
+        self.assertEqual(self.run_tool("encode", "-", given=text.replace(b"[days]", b"[days]\nrate_bytes = 2"))[:2], (0, FUND))
+        status, data, said = self.run_tool("encode", "-", given=text.replace(b"[days]", b"[days]\nrate_bytes = 4"))
+        self.assertEqual((status, data), (0, FUND_FOUR))
+        self.assertEqual(said, "warning: the number of rates in days with a sixth or seventh decimal is 0, below 1; "
+                               "did a spreadsheet cut off the decimals?\n")
 
     def test_the_seen_defect(self):
         """A fall as an actuary says it: bare it is refused, and in thousandths it is warned of."""

@@ -1,9 +1,12 @@
-"""The bytes of a case file: reading them in document 01's order of checks, and writing them."""
+"""The bytes of a case file: reading them in document 01's order of checks, and writing them.
+
+The days stand in one of two fields: with rates of two bytes behind the UFR, or with rates of four behind the people.
+"""
 
 from dataclasses import dataclass
 
-from .fields import (AMOUNT_NUMBERS, FIELDS, FLOW_NUMBER, FORBIDDEN, MOST_BONDS, MOST_DAYS, MOST_PENSION, PEOPLE_NUMBERS,
-                     RATE_NUMBER, REQUIRED, SHOCK_NUMBERS, TERMS, UFR_NUMBER, Case, forwards_out_of_limits)
+from .fields import (AMOUNT_NUMBERS, DAYS_FIELDS, FIELDS, FLOW_NUMBER, FORBIDDEN, MOST_BONDS, MOST_DAYS, MOST_PENSION,
+                     PEOPLE_NUMBERS, REQUIRED, SHOCK_NUMBERS, TERMS, UFR_NUMBER, Case, DaysField, forwards_out_of_limits)
 from .units import COUNT, MONEY, Number, shown
 
 
@@ -28,6 +31,7 @@ class Reader:
 
     def __init__(self, data: bytes) -> None:
         self.data, self.at = data, 0
+        self.rates_at = 0  # the first byte of the rates, once the days are read
         self.parts: list[Part] = []
 
     def need(self, length: int, field: str) -> None:
@@ -36,9 +40,9 @@ class Reader:
             raise Fault(1, len(self.data), f"the file ends here, but its {field} would end with byte {end - 1}; "
                                            "the map, and each field that it announces, must be whole")
 
-    def take(self, length: int) -> int:
+    def take(self, length: int, signed: bool = False) -> int:
         self.at += length
-        return int.from_bytes(self.data[self.at - length:self.at], "big")
+        return int.from_bytes(self.data[self.at - length:self.at], "big", signed=signed)
 
     def note(self, byte: int, says: str) -> None:
         self.parts.append(Part(byte, self.at - byte, says))
@@ -50,9 +54,12 @@ class Reader:
         for bit in range(16):
             byte = 1 if bit < 8 else 0  # big-endian: the low bits stand in the second byte
             if bit in REQUIRED and bit not in standing:
-                raise Fault(3, byte, f"bit {bit} of the map, {FIELDS[bit]}, is missing; bits 1, 2, 5 and 6 must stand")
+                raise Fault(3, byte, f"bit {bit} of the map, {FIELDS[bit]}, is missing; bits 2, 5 and 6 must stand")
             if bit in FORBIDDEN and bit in standing:
-                raise Fault(3, byte, f"bit {bit} of the map stands; bits 7 to 15 must not")
+                raise Fault(3, byte, f"bit {bit} of the map stands; bits 8 to 15 must not")
+        if (1 in standing) == (7 in standing):
+            which = "both stand" if 1 in standing else "are both missing"
+            raise Fault(3, 1, f"bits 1 and 7 of the map, {FIELDS[1]} and {FIELDS[7]}, {which}; exactly one of them must stand")
         self.note(0, f"map 0x{bits:04x}: {', '.join(FIELDS[bit] for bit in sorted(standing))}")
         return standing
 
@@ -79,20 +86,19 @@ class Reader:
             values[number.name] = value
         return values
 
-    def days(self) -> list[list[int]]:
-        start = self.at
+    def days(self, field: DaysField) -> list[list[int]]:
+        start, number, name = self.at, field.rate, FIELDS[field.bit]
         count = self.count("days", MOST_DAYS, 4)
-        self.need(2 * TERMS * count, "days")
-        self.note(start, f"days: {count}")
-        days = []
+        self.need(number.length * TERMS * count, "days")
+        self.note(start, f"{name}: {count}")
+        self.rates_at, days = self.at, []
         for day in range(1, count + 1):
             byte, rates = self.at, []
             for term in range(1, TERMS + 1):
-                rate = self.take(2)
-                rate -= 0x10000 if rate >= 0x8000 else 0  # two's complement
-                self.judge(f"the rate of term {term} of day {day}", rate, RATE_NUMBER, 5)
+                rate = self.take(number.length, signed=True)
+                self.judge(f"the rate of term {term} of day {day}", rate, number, 5)
                 rates.append(rate)
-            self.note(byte, f"day {day}, in steps: {spaced(rates)}")
+            self.note(byte, f"day {day}, in {number.kind.own}: {spaced(rates)}")
             days.append(rates)
         return days
 
@@ -111,19 +117,24 @@ class Reader:
 
     def whole_case(self) -> Case:
         standing = self.map()
+        rate_bytes = 2 if 1 in standing else 4
+        field = DAYS_FIELDS[rate_bytes]
+        days: list[list[int]] = []
         ufr = self.numbers("UFR", [UFR_NUMBER], 9)["ufr"] if 0 in standing else None
-        rates_at = self.at + 1
-        days = self.days()
+        if 1 in standing:
+            days = self.days(field)
         pension = self.flows("pension flows", MOST_PENSION)
         bonds = self.flows("bond flows", MOST_BONDS) if 3 in standing else None
         amounts = self.numbers("amounts", AMOUNT_NUMBERS, 10) if 4 in standing else None
         shocks = self.numbers("shocks", SHOCK_NUMBERS, 11)
         people = self.numbers("people", PEOPLE_NUMBERS, 12)
+        if 7 in standing:
+            days = self.days(field)
         if self.at != len(self.data):
             raise Fault(2, self.at, f"{len(self.data) - self.at:,} bytes follow the last field; the file must end here")
-        for forward in forwards_out_of_limits(days):  # the first one refuses
-            raise Fault(6, rates_at + 2 * (forward.term - 1), str(forward))
-        return Case(ufr, days, pension, bonds, amounts, shocks, people)
+        for forward in forwards_out_of_limits(days, field):  # the first one refuses
+            raise Fault(6, self.rates_at + rate_bytes * (forward.term - 1), str(forward))
+        return Case(rate_bytes, ufr, days, pension, bonds, amounts, shocks, people)
 
 
 def in_file_and_words(value: int, number: Number) -> str:
@@ -157,30 +168,28 @@ def refusal(data: bytes) -> int:
 
 def write(case: Case) -> bytes:
     """The file of a case; raises Fault where the file would be refused. Each number fits its bytes."""
-    out = bytearray()
+    fields = {0: None if case.ufr is None else number_bytes([case.ufr], UFR_NUMBER), 2: flow_bytes(case.pension),
+              3: None if case.bonds is None else flow_bytes(case.bonds), 4: record_bytes(case.amounts, AMOUNT_NUMBERS),
+              5: record_bytes(case.shocks, SHOCK_NUMBERS), 6: record_bytes(case.people, PEOPLE_NUMBERS),
+              case.days_field.bit: days_bytes(case.days, case.days_field)}
+    held = {bit: field for bit, field in sorted(fields.items()) if field is not None}
+    data = sum(1 << bit for bit in held).to_bytes(2, "big") + b"".join(held.values())
+    read(data)
+    return data
 
-    def put(value: int, length: int, signed: bool = False) -> None:
-        out.extend(value.to_bytes(length, "big", signed=signed))
 
-    def put_flows(flows: list[int]) -> None:
-        put(len(flows), 1)
-        for flow in flows:
-            put(flow, FLOW_NUMBER.length)
+def number_bytes(values: list[int], number: Number) -> bytes:
+    return b"".join(value.to_bytes(number.length, "big", signed=number.least < 0) for value in values)
 
-    fields = [case.ufr, case.days, case.pension, case.bonds, case.amounts, case.shocks, case.people]
-    put(sum(1 << bit for bit, held in enumerate(fields) if held is not None), 2)
-    if case.ufr is not None:
-        put(case.ufr, UFR_NUMBER.length)
-    put(len(case.days), 1)
-    for day in case.days:
-        for rate in day:
-            put(rate, RATE_NUMBER.length, signed=True)
-    put_flows(case.pension)
-    if case.bonds is not None:
-        put_flows(case.bonds)
-    for numbers, values in ((AMOUNT_NUMBERS, case.amounts), (SHOCK_NUMBERS, case.shocks), (PEOPLE_NUMBERS, case.people)):
-        if values is not None:
-            for number in numbers:
-                put(values[number.name], number.length)
-    read(bytes(out))
-    return bytes(out)
+
+def days_bytes(days: list[list[int]], field: DaysField) -> bytes:
+    return len(days).to_bytes(1, "big") + b"".join(number_bytes(day, field.rate) for day in days)
+
+
+def flow_bytes(flows: list[int]) -> bytes:
+    return len(flows).to_bytes(1, "big") + number_bytes(flows, FLOW_NUMBER)
+
+
+def record_bytes(values: dict[str, int] | None, numbers: list[Number]) -> bytes | None:
+    """A field of numbers with names; None where it is absent."""
+    return None if values is None else b"".join(number_bytes([values[number.name]], number) for number in numbers)

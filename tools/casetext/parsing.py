@@ -6,10 +6,10 @@ import tomllib
 from dataclasses import dataclass
 from pathlib import Path
 
-from .fields import (AMOUNT_NUMBERS, DEFAULT_UFR, FLOW_NUMBER, MOST_BONDS, MOST_DAYS, MOST_PENSION, PEOPLE_NUMBERS,
-                     RATE_NUMBER, SHOCK_NUMBERS, TERMS, UFR_NUMBER, Case, forwards_out_of_limits)
+from .fields import (AMOUNT_NUMBERS, DAYS_FIELDS, DEFAULT_UFR, FLOW_NUMBER, MOST_BONDS, MOST_DAYS, MOST_PENSION,
+                     PEOPLE_NUMBERS, SHOCK_NUMBERS, TERMS, UFR_NUMBER, Case, DaysField, forwards_out_of_limits)
 from .sheets import Cell, Layout, days_in, flows_in, read_sheet
-from .units import COUNT, MONEY, RATE, Bad, Number, Unit, is_bare, printable, shown, whole
+from .units import COUNT, MONEY, RATE, Bad, Kind, NotWhole, Number, Unit, is_bare, printable, shown, whole
 
 MOST_SHOWN = 40  # faults in a message; the list has all
 LARGEST_TEXT = 300_000  # characters; the largest case takes less than 100,000
@@ -20,14 +20,15 @@ DECIMAL = re.compile(r"(?<![\w.])[0-9]+\.[0-9]+(?![\w.])")
 # The keys of each table; "" is the top.
 KEYS = {
     "": ["ufr"],
-    "days": ["unit", "rates", "csv", "lines", "header", "labels"],
+    "days": ["rate_bytes", "unit", "rates", "csv", "lines", "header", "labels"],
     "flows": ["pension", "pension_csv", "bonds", "bonds_csv"],
     "amounts": [number.name for number in AMOUNT_NUMBERS],
     "shocks": [number.name for number in SHOCK_NUMBERS],
     "people": [number.name for number in PEOPLE_NUMBERS],
 }
 TABLES = [name for name in KEYS if name]
-UNIT_ADVICE = 'unit = "%", "bp" or "steps"'
+FORM_ADVICE = "write 4 for rates to 0.00001 %, or 2 for rates to 0.001 %, as without the key"
+FINER_ADVICE = "for rates to 0.00001 % write rate_bytes = 4 in [days], and the rates in % or bp"
 
 
 class Wrong(Exception):
@@ -126,10 +127,35 @@ def quantity(value: object, number: Number, default: Unit | None = None) -> int:
     raise Bad(f"is {in_sentence(value)}; {number.advice}")
 
 
+def unit_advice(kind: Kind) -> str:
+    """How to name the unit of rates: unit = "%", "bp" or "steps"."""
+    *others, last = [f'"{unit.name}"' for unit in kind.units]
+    return f"unit = {', '.join(others)} or {last}"
+
+
+def too_fine(text: str, unit: Unit | None) -> str | None:
+    """What is wrong with a rate that two bytes do not hold and four bytes do; None of any other."""
+    try:
+        whole(text, DAYS_FIELDS[2].rate, unit)
+    except NotWhole as fault:
+        return str(fault) if (DAYS_FIELDS[4].per_step * fault.value).denominator == 1 else None
+    except Bad:
+        return None
+    return None
+
+
 def without_unit(rates: list[Cell]) -> str:
     """One sentence for all rates that have no unit."""
     others = f", and so are {len(rates) - 1:,} other rates" if len(rates) > 1 else ""
     return f"{rates[0].place} is {printable(rates[0].text)} without a unit{others}"
+
+
+def all_too_fine(faults: dict[Cell, str]) -> str:
+    """One sentence for all rates that are too fine for two bytes, with the fault of the first."""
+    cell, fault = next(iter(faults.items()))
+    more = len(faults) - 1
+    others = f"; {more:,} other {'rate has' if more == 1 else 'rates have'} such decimals too" if more else ""
+    return f"{cell.place} {fault}{others}"
 
 
 class Text:
@@ -155,7 +181,8 @@ class Text:
                                    + (f"; did you mean {meant}?" if meant else ""))
 
     def case(self) -> Case:
-        case = Case(self.ufr(), self.days(), self.flows("pension", MOST_PENSION), self.flows("bonds", MOST_BONDS),
+        ufr, rate_bytes = self.ufr(), self.rate_bytes()
+        case = Case(rate_bytes, ufr, self.days(rate_bytes), self.flows("pension", MOST_PENSION), self.flows("bonds", MOST_BONDS),
                     self.numbers("amounts", AMOUNT_NUMBERS) if self.has_amounts else None,
                     self.numbers("shocks", SHOCK_NUMBERS), self.numbers("people", PEOPLE_NUMBERS))
         if self.faults:
@@ -225,28 +252,38 @@ class Text:
 
     # ------------------------------------------------------------ days
 
-    def days(self) -> list[list[int]]:
-        table = self.tables["days"]
-        unit, unit_is_good = self.unit(table.get("unit"))
+    def rate_bytes(self) -> int:
+        """The bytes of a rate, or 0 with a fault. Never found by looking at the rates: a sheet whose decimals were cut off must not
+        pass for one that has no more."""
+        said = self.tables["days"].get("rate_bytes", 2)
+        if type(said) is int and said in DAYS_FIELDS:
+            return said
+        self.faults.append(f"days.rate_bytes is {in_sentence(said)}; {FORM_ADVICE}")
+        return 0
+
+    def days(self, rate_bytes: int) -> list[list[int]]:
+        table, field = self.tables["days"], DAYS_FIELDS[rate_bytes or 2]
+        unit, is_good = self.unit(table.get("unit"), field.rate.kind)
+        is_good = is_good and rate_bytes != 0
         if "rates" in table and "csv" in table:
             self.faults.append("days.rates and days.csv are both there; write one of them")
             return []
         if "csv" in table:
-            cells = self.sheet_of_days(table, unit, unit_is_good)
+            cells = self.sheet_of_days(table, field, unit, is_good)
         elif "rates" in table:
             cells = self.inline_days(table)
         else:
             self.faults.append("days.rates is missing, and so is days.csv; write one of them")
             return []
-        return self.rates(cells, unit) if unit_is_good else []
+        return self.rates(cells, field, unit) if is_good else []
 
-    def unit(self, word: object) -> tuple[Unit | None, bool]:
+    def unit(self, word: object, kind: Kind) -> tuple[Unit | None, bool]:
         """The unit of bare rates, if any, and whether the key is right."""
-        found = RATE.unit(word) if isinstance(word, str) else None
+        found = kind.unit(word) if isinstance(word, str) else None
         if word is None or found:
             return found, True
         said = "empty" if word == "" else f'"{printable(word)}"' if isinstance(word, str) else "no text"
-        self.faults.append(f'days.unit is {said}; write {UNIT_ADVICE}, or delete it where each rate carries its own')
+        self.faults.append(f"days.unit is {said}; write {unit_advice(kind)}, or delete it where each rate carries its own")
         return None, False
 
     def inline_days(self, table: dict) -> list[list[Cell]]:
@@ -271,17 +308,17 @@ class Text:
         text = rate if isinstance(rate, str) else bare_text(rate)
         return Cell("no number" if text is None else text, place)
 
-    def sheet_of_days(self, table: dict, unit: Unit | None, unit_is_good: bool) -> list[list[Cell]]:
+    def sheet_of_days(self, table: dict, field: DaysField, unit: Unit | None, is_good: bool) -> list[list[Cell]]:
         def could_be_rates(cells: list[str]) -> bool:
             try:
-                return bool([whole(cell, RATE_NUMBER, unit) for cell in cells])
+                return bool([whole(cell, field.rate, unit) for cell in cells])
             except Bad:
                 return False
 
         layout = self.layout(table)
         try:
             sheet = read_sheet(table["csv"], self.folder)
-            if not layout or not unit_is_good:
+            if not layout or not is_good:
                 return []
             return [[Cell(cell.text, f"days.csv, {cell.place}") for cell in day]
                     for day in days_in(sheet, layout, could_be_rates)]
@@ -299,15 +336,18 @@ class Text:
                 self.faults.append(f"days.{key} must be true or false")
         return Layout(*(table.get(key) for key in ("lines", "header", "labels"))) if len(self.faults) == before else None
 
-    def rates(self, days: list[list[Cell]], unit: Unit | None) -> list[list[int]]:
-        """The rates; those without a unit, where the table has none either, are one fault."""
+    def rates(self, days: list[list[Cell]], field: DaysField, unit: Unit | None) -> list[list[int]]:
+        """The rates; those without a unit, where the table has none either, are one fault, and so are those too fine for two bytes."""
         before = len(self.faults)
         bare = [cell for day in days for cell in day if not unit and is_bare(cell.text)]
         if bare:
-            self.faults.append(f'{without_unit(bare)}; write {UNIT_ADVICE} in [days], or each rate with its own, '
-                               f'such as "{RATE_NUMBER.example}"')
-        rates = [[0 if not unit and is_bare(cell.text) else self.value(cell.place, cell.text, RATE_NUMBER, unit)
-                  for cell in day] for day in days]
+            self.faults.append(f'{without_unit(bare)}; write {unit_advice(field.rate.kind)} in [days], or each rate with its own, '
+                               f'such as "{field.rate.example}"')
+        fine = {} if field.per_step > 1 else {cell: fault for day in days for cell in day if (fault := too_fine(cell.text, unit))}
+        if fine:
+            self.faults.append(f"{all_too_fine(fine)}; {FINER_ADVICE}")
+        told = {*bare, *fine}
+        rates = [[0 if cell in told else self.value(cell.place, cell.text, field.rate, unit) for cell in day] for day in days]
         if len(self.faults) == before:
-            self.faults += [f"days: refused, 6: {forward}" for forward in forwards_out_of_limits(rates)]
+            self.faults += [f"days: refused, 6: {forward}" for forward in forwards_out_of_limits(rates, field)]
         return rates

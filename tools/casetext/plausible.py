@@ -5,7 +5,7 @@ from fractions import Fraction
 from typing import Callable
 
 from .fields import PEOPLE_NUMBERS, SHOCK_NUMBERS, Case
-from .units import MONEY, RATE, Kind, shown, six_decimals
+from .units import MONEY, RATE, Kind, mean_percent, shown, six_decimals
 
 
 @dataclass(frozen=True)
@@ -34,7 +34,13 @@ def amount(case: Case, name: str) -> int:
 
 
 def mean_rates(case: Case) -> list[Fraction]:
-    return [Fraction(sum(rates), len(case.days)) for rates in zip(*case.days)]
+    """In steps."""
+    return [Fraction(sum(rates), case.days_field.per_step * len(case.days)) for rates in zip(*case.days)]
+
+
+def finer_rates(case: Case) -> int | None:
+    """How many rates of four bytes are no whole steps."""
+    return None if case.rate_bytes == 2 else sum(rate % case.days_field.per_step != 0 for day in case.days for rate in day)
 
 
 def bonds(case: Case) -> int:
@@ -95,10 +101,6 @@ def plain(kind: Kind) -> Callable[[int | Fraction], str]:
     return lambda value: shown(int(value), kind)
 
 
-def mean_percent(value: int | Fraction) -> str:
-    return f"{six_decimals(Fraction(value, 1_000))} %"
-
-
 def times_pensions(value: int | Fraction) -> str:
     return f"{six_decimals(Fraction(value))} times the sum of flows.pension"
 
@@ -147,6 +149,8 @@ TABLE = [
               "were the rates typed in another unit?", most=8_000),
     Threshold("the mean rate of a term in days that is farthest from 0", lambda case: max(map(abs, mean_rates(case))),
               mean_percent, "were fractions typed as percentages, or basis points as steps?", least=300),
+    Threshold("the number of rates in days with a sixth or seventh decimal", finer_rates, str,
+              "did a spreadsheet cut off the decimals?", least=1),
     below("up_shift", 100, SHIFT_SLIP),
     below("down_shift", 100, SHIFT_SLIP),
     below("mature_fall", 50, PERCENT_SLIP, "mature"),

@@ -10,9 +10,11 @@ def to_toml(case: Case) -> str:
     lines = ["# Each number carries its unit; flows and amounts are in euros.", ""]
     if case.ufr is not None:
         lines += [f'ufr = "{shown(case.ufr, RATE)}"', ""]
-    lines += [f"[days]  # zero rates of the terms 1 to {TERMS}, a list for each day", 'unit = "%"', "rates = ["]
+    percent = case.days_field.rate.kind.units[0]
+    lines += [f"[days]  # zero rates of the terms 1 to {TERMS}, a list for each day", *form_lines(case), f'unit = "{percent.name}"',
+              "rates = ["]
     for place, day in enumerate(case.days, 1):
-        lines += [f"  [  # day {place}", *rows([decimal_text(rate, 1_000) for rate in day], "    "), "  ],"]
+        lines += [f"  [  # day {place}", *rows([decimal_text(rate, percent.size) for rate in day], "    "), "  ],"]
     lines += ["]", "", "[flows]  # in euros, from term 1 on"]
     for name, flows in (("pension", case.pension), ("bonds", case.bonds)):
         if flows is not None:
@@ -23,6 +25,11 @@ def to_toml(case: Case) -> str:
             lines += ["", f"[{name}]{'  # in euros' if name == 'amounts' else ''}",
                       *(f"{number.name} = {value_text(values[number.name], number)}" for number in numbers)]
     return "\n".join(lines) + "\n"
+
+
+def form_lines(case: Case) -> list[str]:
+    """What says that the rates have four bytes; two need no line."""
+    return [] if case.rate_bytes == 2 else [f"rate_bytes = {case.rate_bytes}  # rates to 0.00001 %, in the days field of bit 7"]
 
 
 def value_text(value: int, number: Number) -> str:
@@ -53,12 +60,14 @@ def template() -> str:
 
 # Zero rates of the terms 1 to {TERMS}, on 1 to {MOST_DAYS} days; each {RATE_NUMBER.limits}. They stand in a CSV file, or here:
 #   rates = [[0.226, 0.246, ...], ...], a list of {TERMS} for each day.
+# A key for rates of up to seven decimals, as 0.0022613 is, which is 0.22613 %:
+#   rate_bytes = 4: rates to 0.00001 %, in four bytes each; without it they are to 0.001 %, in two bytes each
 # Terms and dates are recognised as labels. Three keys for a sheet with other labels, or that could be read in two ways:
 #   lines = "days" or "terms": what a line of the sheet is
 #   header = true or false: whether its first line is a header
 #   labels = true or false: whether its first column is labels
 [days]
-unit = ""  # of rates that carry none: "%", "bp" or "steps"; optional where each rate carries its own
+unit = ""  # of rates that carry none: "%", "bp", or "steps" of 0.001 % in two bytes; optional where each rate carries its own
 csv = ""  # the name of the CSV file, beside this file
 
 # Flows from term 1 on, in whole euros; each {FLOW_NUMBER.limits}. Here, or in a CSV file:

@@ -11,6 +11,14 @@ class Bad(ValueError):
     """What is wrong with a number: the end of a sentence that starts with its key."""
 
 
+class NotWhole(Bad):
+    """A number within its limits that is no whole number of the file's own unit."""
+
+    def __init__(self, sentence: str, value: Fraction) -> None:
+        super().__init__(sentence)
+        self.value = value  # in the file's own unit
+
+
 @dataclass(frozen=True)
 class Unit:
     """A unit, its spellings (the first is shown), and how many of the file's own unit it is."""
@@ -42,8 +50,11 @@ class Kind:
 PERCENT_WORDS = "%", "percent"
 YEAR_WORDS, MONTH_WORDS = ("years", "year"), ("months", "month")
 
-RATE = Kind("steps", (Unit(PERCENT_WORDS, 1_000, True), Unit(("bp", "bps", "basis points", "basis point"), 10),
-                      Unit(("steps", "step"), 1)))
+BP_WORDS = "bp", "bps", "basis points", "basis point"
+
+RATE = Kind("steps", (Unit(PERCENT_WORDS, 1_000, True), Unit(BP_WORDS, 10), Unit(("steps", "step"), 1)))
+# No text has steps here: document 02 also calls a hundredth of a step a step, so that they could be read in two ways.
+FINE_RATE = Kind("hundredths of a step", (Unit(PERCENT_WORDS, 100_000, True), Unit(BP_WORDS, 1_000)))
 SHARE = Kind("thousandths", (Unit(PERCENT_WORDS, 10, True), Unit(("thousandths", "thousandth"), 1)))
 AGE = Kind("months", (Unit(YEAR_WORDS, 12, True), Unit(MONTH_WORDS, 1)))
 DURATION = Kind("tenths of a year", (Unit(YEAR_WORDS, 10, True),))
@@ -60,6 +71,7 @@ class Number:
     kind: Kind
     example: str
     length: int = 2
+    limits_tell: bool = False  # whether a mark is a decimal mark where the number without it is out of limits
 
     @property
     def advice(self) -> str:
@@ -85,10 +97,21 @@ def decimal_text(value: int, size: int) -> str:
     return ("-" if value < 0 else "") + str(whole) + ("." + decimals if decimals else "")
 
 
+def in_decimals(value: Fraction, size: int) -> str:
+    """A fraction in decimals of 1 ÷ size, a power of ten, marked where that is not exact."""
+    units = round(size * value)
+    return ("" if units == size * value else "about ") + decimal_text(units, size)
+
+
 def six_decimals(value: Fraction) -> str:
-    """A fraction to six decimals, marked where that is not exact."""
-    millionths = round(1_000_000 * value)
-    return ("" if millionths == 1_000_000 * value else "about ") + decimal_text(millionths, 1_000_000)
+    return in_decimals(value, 1_000_000)
+
+
+def mean_percent(steps: int | Fraction) -> str:
+    """A mean rate in percent, to six decimals, or to eight where six would show a whole step that it is not."""
+    percent = Fraction(steps, 1_000)
+    looks_whole = round(1_000_000 * percent) % 1_000 == 0
+    return f"{in_decimals(percent, 100_000_000 if looks_whole else 1_000_000)} %"
 
 
 def in_unit(value: int, unit: Unit) -> str:
@@ -148,6 +171,12 @@ def is_bare(text: str) -> bool:
     return bool(BARE.fullmatch(text.strip()))
 
 
+def is_decimal(digits: str, unit: Unit, number: Number) -> bool:
+    """Whether a lone mark in the digits can only be a decimal mark. Of a rate, 1.000 bp could be 1,000 bp, and 22.613 bp not."""
+    without = int(re.sub("[.,]", "", digits))
+    return unit.marks_are_decimal or number.limits_tell and unit.size * without > number.most
+
+
 def measure(text: str, number: Number, default: Unit | None) -> tuple[Fraction, Unit]:
     """A text's number in the file's own unit, and the unit that it was written in."""
     plain, kind = text.strip(), number.kind
@@ -166,7 +195,7 @@ def measure(text: str, number: Number, default: Unit | None) -> tuple[Fraction, 
     if written[3] and default and unit != default:
         raise Bad(f'is "{printable(text)}", but the unit of its table is {default.name}')
     try:
-        size = magnitude(written[2], unit.marks_are_decimal)
+        size = magnitude(written[2], is_decimal(written[2], unit, number))
     except Bad as bad:
         raise Bad(f'is "{printable(text)}", which {bad}') from None
     if size is None:
@@ -184,6 +213,6 @@ def whole(text: str, number: Number, default: Unit | None = None) -> int:
         raise Bad(f"is {said}; it must be {in_unit(number.least, unit)} to {in_unit(number.most, unit)}")
     if value.denominator != 1:
         below = value.numerator // value.denominator
-        raise Bad(f"is {said}, which is no whole number of {number.kind.own}; "
-                  f"the nearest are {in_unit(below, unit)} and {in_unit(below + 1, unit)}")
+        raise NotWhole(f"is {said}, which is no whole number of {number.kind.own}; "
+                       f"the nearest are {in_unit(below, unit)} and {in_unit(below + 1, unit)}", value)
     return int(value)

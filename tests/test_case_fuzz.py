@@ -6,6 +6,7 @@ import sys
 import tempfile
 import unittest
 from collections import Counter
+from dataclasses import replace
 from itertools import product
 from pathlib import Path
 
@@ -14,15 +15,17 @@ sys.path[:0] = [str(ROOT / "tools")]
 from casetext import Fault, Wrong, explain, from_toml, months, read, template, to_toml, warnings_of, write
 
 UP = read((ROOT / "cases" / "up.case").read_bytes())
+FOUR = replace(UP, rate_bytes=4, days=[[100 * rate + 37 * term % 100 for term, rate in enumerate(day)] for day in UP.days])
 DAYS = (ROOT / "cases" / "fund-days.csv").read_text("utf-8")
 FUND = (ROOT / "cases" / "fund.toml").read_text("utf-8")
+FUND_FOUR = FUND.replace('unit = "%"', 'rate_bytes = 4\nunit = "%"')
 MONTHS = (ROOT / "cases" / "fund-months.csv").read_text("utf-8")
 FLOWS = ["term;flow\n1;31.415.927\n2;27182818\n3;€ 16.180.339,00\n", "1;2;3\n31.415.927;27182818;€ 16.180.339,00\n",
          "jaar,1,2\nflow,31415927,27182818\n"]
 PIECES = ["", "0", "1", "-1", "25", "4.2", "1.000", "1,000", "1.000.000", "nan", "inf", "1e999999999", "0x" + "f" * 50, "9" * 60,
           "true", "[]", "{}", "[[", '"', "'", '"""', "\\", "\\u0000", "#", "=", ",", ";", "\t", "\n", "\r", "\x00", "\x1b", "\ufeff",
           "é", "€", "%", " %", '"25 %"', '"25"', '"1 step"', '"66 years 3 months"', '"5 euros"', "2025-01-02", "[days]",
-          "[flows]", "unit", "csv", "header = true\n", "labels = true\n", 'lines = "terms"\n', 'unit = "bp"\n', "1;2;3\n",
+          "[flows]", "rate_bytes = 4\n", "rate_bytes = 2\n", "0.22613", "22.613", "unit", "csv", "header = true\n", "labels = true\n", 'lines = "terms"\n', 'unit = "bp"\n', "1;2;3\n",
           ";".join(map(str, range(1, 61))) + "\n", "term", "\u2212", "\u0663", "½", "\u2028"]
 
 
@@ -58,7 +61,7 @@ class Fuzz(unittest.TestCase):
         self.assertEqual(from_toml(to_toml(case)), case)
         self.assertEqual(read(write(case)), case)
         self.assertTrue(all(warning.isprintable() for warning in warnings_of(case)))
-        return "case"
+        return "case" if case.rate_bytes == 2 else "case of four bytes"
 
     def judge_faults(self, faults):
         self.assertTrue(faults)
@@ -81,11 +84,11 @@ class Fuzz(unittest.TestCase):
         with tempfile.TemporaryDirectory() as name:
             folder = Path(name)
             (folder / "fund-days.csv").write_text(DAYS, "utf-8")
-            texts = [FUND, FUND, to_toml(UP), template()]
-            for _ in range(3_000):
+            texts = [FUND, FUND_FOUR, to_toml(UP), to_toml(FOUR), template()]
+            for _ in range(3_500):
                 seen[self.judge(changed(rng, rng.choice(texts)), folder)] += 1
         self.assertGreater(seen["wrong"], 1_000)
-        self.assertGreater(seen["case"], 100)
+        self.assertGreater(min(seen["case"], seen["case of four bytes"]), 100)
 
     def test_sheets(self):
         rng, seen = random.Random(32), Counter()

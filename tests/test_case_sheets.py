@@ -21,6 +21,9 @@ PERCENT = [[f"{rate / 1_000:.3f}" for rate in day] for day in CASE.days]
 COMMA = [[cell.replace(".", ",") for cell in day] for day in PERCENT]
 BP = [[f"{rate / 10:.1f}" for rate in day] for day in CASE.days]
 STEPS = [[str(rate) for rate in day] for day in CASE.days]
+FINE_DAYS = [[100 * rate + 7 * term % 100 for term, rate in enumerate(day, 1)] for day in CASE.days]
+FINE_PERCENT = [[f"{rate / 100_000:.5f}" for rate in day] for day in FINE_DAYS]
+FINE_BP = [[f"{rate / 1_000:.3f}" for rate in day] for day in FINE_DAYS]
 
 
 def columns(days):
@@ -79,6 +82,48 @@ class Days(Sheets):
         self.good(columns(STEPS), 'unit = "steps"', between="\t")
         self.good(PERCENT[:1], days=CASE.days[:1])
         self.good(columns(PERCENT[:1]), days=CASE.days[:1])
+
+    def test_four_bytes(self):
+        """Sheets of rates with seven decimals, in each layout."""
+        comma = [[cell.replace(".", ",") for cell in day] for day in FINE_PERCENT]
+        for unit, cells in (("%", FINE_PERCENT), ("%", comma), ("bp", FINE_BP)):
+            keys = f'rate_bytes = 4\nunit = "{unit}"'
+            for lines in (cells, columns(cells), labelled(DATES, cells), labelled(["datum", *DATES], [TERMS, *cells]),
+                          labelled(["", *TERMS], [DATES, *columns(cells)])):
+                self.good(lines, keys, FINE_DAYS)
+                self.assertEqual(from_toml(self.text(keys), self.folder).rate_bytes, 4)
+            self.good([[f"{cell} {unit}" for cell in day] for day in cells], "rate_bytes = 4", FINE_DAYS)
+        self.good(FINE_BP, 'rate_bytes = 4\nunit = "bp"', FINE_DAYS, between=",")
+        self.good(columns(FINE_PERCENT), 'rate_bytes = 4\nunit = "%"', FINE_DAYS, between=",")
+        self.good(PERCENT, 'rate_bytes = 4\nunit = "%"', [[100 * rate for rate in day] for day in CASE.days])
+        self.bad(STEPS, 'is "206 steps"; write it in % or bp', "rate_bytes = 4", count=180, end=" steps\n", between=" steps;")
+
+    def test_more_decimals_than_two_bytes_hold(self):
+        """The line and the cell of the first, in one fault for all; no rate is rounded, and the sheet does not choose the form."""
+        advice = "for rates to 0.00001 % write rate_bytes = 4 in [days], and the rates in % or bp"
+        for unit, cells in (("%", FINE_PERCENT), ("bp", FINE_BP)):
+            for keys in (f'unit = "{unit}"', f'rate_bytes = 2\nunit = "{unit}"'):
+                self.bad(cells, f"days.csv, line 1, cell 1 of sheet.csv, is {cells[0][0]}, which is no whole number of steps; the nearest "
+                                "are ", keys)
+                self.bad(cells, f"; 179 other rates have such decimals too; {advice}", keys)
+        one = [day[:] for day in PERCENT]
+        one[2][6] = "0.35907"
+        self.bad(labelled(DATES, one), "days.csv, line 3, cell 8 of sheet.csv, is 0.35907, which is no whole number of steps; the nearest "
+                                       f"are 0.359 % and 0.36 %; {advice}")
+        one[2][6] = "0.359075"
+        self.bad(one, "days.csv, line 3, cell 7 of sheet.csv, is 0.359075, which is no whole number of hundredths of a step; the nearest are "
+                      "0.35907 % and 0.35908 %", 'rate_bytes = 4\nunit = "%"')
+
+    def test_thousands_of_bp(self):
+        """1.000 bp could be 10 %; any other rate with three decimals cannot be one of thousands."""
+        one = [day[:] for day in FINE_BP]
+        one[1][3] = "1.000"
+        self.bad(one, 'line 2, cell 4 of sheet.csv, is "1.000", which could be read in two ways', 'rate_bytes = 4\nunit = "bp"')
+        for cell in ("1.0", "1,00", "0.999", "1.001"):
+            one[1][3] = cell
+            days = [day[:] for day in FINE_DAYS]
+            days[1][3] = round(1_000 * float(cell.replace(",", ".")))
+            self.good(one, 'rate_bytes = 4\nunit = "bp"', days)
 
     def test_as_spreadsheets_write(self):
         self.good(COMMA, end=";;\r\n\r\n;;\r\n")

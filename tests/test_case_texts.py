@@ -3,6 +3,7 @@
 import re
 import sys
 import unittest
+from dataclasses import replace
 from pathlib import Path
 
 ROOT = Path(__file__).resolve().parents[1]
@@ -13,11 +14,12 @@ from casetext.parsing import KEYS, MOST_SHOWN
 FUND = (ROOT / "cases" / "fund.case").read_bytes()
 UP = (ROOT / "cases" / "up.case").read_bytes()
 TEXT = to_toml(read(UP))
+FOUR = replace(read(UP), rate_bytes=4, days=[[100 * rate + 13 for rate in day] for day in read(UP).days])
+FOUR_TEXT = to_toml(FOUR)
 
 
 class Texts(unittest.TestCase):
-    def changed(self, *pairs):
-        text = TEXT
+    def changed(self, *pairs, text=TEXT):
         for old, new in pairs:
             self.assertEqual(text.count(old), 1, old)
             text = text.replace(old, new)
@@ -39,6 +41,84 @@ class Texts(unittest.TestCase):
                      'mean_age = "45 years 11 months"', "heads = 4180", "[amounts]  # in euros", "cash = 4850000"):
             self.assertIn(line + "\n", text)
         self.assertNotRegex(text, "steps|thousandths|tenths")
+
+    def test_four_bytes(self):
+        """decode says the form and writes each decimal of a rate; nothing else of the text is another."""
+        days = lambda text: text[text.index("rates = ["):text.index("[flows]")]
+        key = "rate_bytes = 4  # rates to 0.00001 %, in the days field of bit 7\n"
+        self.assertIn("    0.20613, 0.22513, ", FOUR_TEXT)
+        self.assertEqual(FOUR_TEXT.replace(key, "").replace(days(FOUR_TEXT), days(TEXT)), TEXT)
+        self.assertEqual(from_toml(FOUR_TEXT), FOUR)
+        self.assertEqual(from_toml(TEXT.replace("[days]", "[days]\nrate_bytes = 2")), read(UP))
+        in_four = replace(FOUR, days=[[100 * rate for rate in day] for day in read(UP).days])
+        self.assertEqual(from_toml(TEXT.replace("[days]", "[days]\nrate_bytes = 4")), in_four)
+
+    def test_four_bytes_in_other_units(self):
+        start, end = FOUR_TEXT.index('unit = "%"'), FOUR_TEXT.index("[flows]")
+        rates = {"bp": [[f"{rate / 1_000:.3f} bp" for rate in day] for day in FOUR.days],
+                 "percent": [[f"{rate / 100_000:.5f} %" for rate in day] for day in FOUR.days]}
+        for unit, days in rates.items():
+            for keys in ("", f'unit = "{unit}"\n'):
+                self.assertEqual(from_toml(f"{FOUR_TEXT[:start]}{keys}rates = {days}\n{FOUR_TEXT[end:]}"), FOUR)
+        days = str(rates["bp"]).replace(" bp", "").replace("'", "")
+        self.assertEqual(from_toml(f'{FOUR_TEXT[:start]}unit = "bp"\nrates = {days}\n{FOUR_TEXT[end:]}'), FOUR)
+
+    def test_faults_of_four_bytes(self):
+        key, first = "rate_bytes = 4", "0.20613, 0.22513,"
+        advice = "; write 4 for rates to 0.00001 %, or 2 for rates to 0.001 %, as without the key"
+        for old, new, words in (
+                *((key, f"rate_bytes = {value}", f"days.rate_bytes is {said}{advice}") for value, said in (
+                    ("3", "3"), ("0", "0"), ("-4", "-4"), ("7", "7"), ("4.0", "4.0"), ('"4"', '"4"'), ('""', '""'), ("true", "true"),
+                    ("[4]", "no number"), ("0x" + "f" * 9_000, "0x" + "f" * 38 + "..."))),
+                (first, "0.20613, 0.225135,", "days.rates, term 2 of day 1, is 0.225135, which is no whole number of hundredths of a step; "
+                                              "the nearest are 0.22513 % and 0.22514 %"),
+                (first, "0.20613, 10.00001,", "days.rates, term 2 of day 1, is 10.00001; it must be -1 % to 10 %"),
+                (first, '0.20613, "22.513 bp",', 'is "22.513 bp", but the unit of its table is %'),
+                (first, '0.20613, "225.13 steps",', 'is "225.13 steps"; write it in % or bp, such as "0.22613 %"'),
+                ('unit = "%"', 'unit = "steps"', 'days.unit is "steps"; write unit = "%" or "bp", or delete it where each rate'),
+                ('unit = "%"', "", 'is 0.20613 without a unit, and so are 179 other rates; write unit = "%" or "bp" in [days], or each '
+                                   'rate with its own, such as "0.22613 %"')):
+            faults = self.faults(self.changed((old, new), text=FOUR_TEXT))
+            self.assertEqual(len(faults), 1, faults)
+            self.assertIn(words, faults[0])
+
+    def test_more_decimals_than_two_bytes_hold(self):
+        """One fault for all rates that four bytes hold, which says how to have them; those that have still more decimals are told apart."""
+        advice = "; for rates to 0.00001 % write rate_bytes = 4 in [days], and the rates in % or bp"
+        nearest = "which is no whole number of steps; the nearest are 0.225 % and 0.226 %"
+        for rates, told in (("0.2255, 0.2", f"0.2255, {nearest}{advice}"), ("0.22513, 0.2", f"0.22513, {nearest}{advice}"),
+                            ("0.22513, 0.20001", f"0.22513, {nearest}; 1 other rate has such decimals too{advice}"),
+                            ("0.225135, 0.2", f"0.225135, {nearest}"), ("0.2250, 0.20", None)):
+            text = self.changed(("0.206, 0.225, 0.244,", f"0.206, {rates},"))
+            if told:
+                self.assertEqual(self.faults(text), [f"days.rates, term 2 of day 1, is {told}"])
+            else:
+                self.assertEqual(from_toml(text).days[0][:3], [206, 225, 200])
+        faults = self.faults(self.changed(("0.206, 0.225, 0.244,", "0.20651, 0.225135, 11,")))
+        self.assertEqual([fault.split(" is ")[0] for fault in faults], [f"days.rates, term {term} of day 1," for term in (1, 2, 3)])
+        self.assertEqual([advice in fault for fault in faults], [True, False, False])
+        faults = self.faults(FOUR_TEXT.replace("rate_bytes = 4", ""))
+        self.assertEqual(faults, ["days.rates, term 1 of day 1, is 0.20613, which is no whole number of steps; the nearest are 0.206 % "
+                                  f"and 0.207 %; 179 other rates have such decimals too{advice}"])
+        for rate in ("22.513 bp", "225.13 steps", "225,1 steps"):
+            days = [[rate] + ["0.2 %"] * 59]
+            [fault] = self.faults(re.sub(r'unit = "%"\nrates = \[.*?\n\]', f"rates = {days}", TEXT, flags=re.DOTALL))
+            self.assertTrue(fault.startswith(f"days.rates, term 1 of day 1, is {rate}, which is no whole number of steps"), fault)
+            self.assertTrue(fault.endswith(advice), fault)
+
+    def test_only_rates_are_finer(self):
+        """The UFR, the shifts and the spread keep whole steps, also in a text of four bytes."""
+        for old, new in (('ufr = "4.321 %"', 'ufr = "4.32101 %"'), ('up_shift = "0.32 %"', 'up_shift = "0.32001 %"'),
+                         ('down_shift = "0.18 %"', 'down_shift = "0.18001 %"'), ('spread = "2.345 %"', 'spread = "2.34501 %"')):
+            [fault] = self.faults(self.changed((old, new), text=FOUR_TEXT))
+            self.assertIn("which is no whole number of steps", fault)
+            self.assertNotIn("rate_bytes", fault)
+
+    def test_refusal_6_of_four_bytes(self):
+        [fault] = self.faults(re.sub(r"rates = \[.*?\n\]", f"rates = [{[-0.00001] + [6] * 59}]".replace("-1e-05", "-0.00001"),
+                                     FOUR_TEXT, flags=re.DOTALL))
+        self.assertIn("days: refused, 6: the one-year forward rate from year 1 to year 2 is 12.00001 %; it must be -2 % to 12 %", fault)
+        self.assertIn("is 1,200,001 hundredths of a step; it must be -200,000 to 1,200,000, for n = 1", fault)
 
     def test_other_units(self):
         text = self.changed(('"4.321 %"', '"432,1 bp"'), ('"0.32 %"', '"320 steps"'), ('"25.1 %"', '"251 thousandths"'),
@@ -183,6 +263,12 @@ class Texts(unittest.TestCase):
         self.assertEqual(from_toml(text.replace(rates, f"rates = {days}")), case)
         flows = str(["100.000.000 euros"] * 120)
         self.assertEqual(from_toml(re.sub(r"pension = \[[^]]*\]", f"pension = {flows}", text)), case)
+        four = replace(case, rate_bytes=4, days=[[-99_999 + day for term in range(60)] for day in range(70)])
+        self.assertLess(len(to_toml(four)), 100_000)
+        self.assertEqual(from_toml(to_toml(four)), four)
+        rates = re.search(r"rates = \[.*?\n\]", to_toml(four), re.DOTALL)[0]
+        days = str([[f"{rate / 100_000:.5f} %" for rate in day] for day in four.days])
+        self.assertEqual(from_toml(to_toml(four).replace(rates, f"rates = {days}")), four)
 
     def test_long_text(self):
         self.assertIn("characters, more than", self.faults("#" * 300_001)[0])
@@ -209,7 +295,8 @@ class Template(unittest.TestCase):
         for table, keys in KEYS.items():
             for key in keys:
                 self.assertRegex(text, rf"(?m)^[ #]*(.* and )?{key} = ", key)
-        for words in ("Optional; without it the UFR is 4.2 %", "optional; without it there are none",
+        for words in ("rate_bytes = 4: rates to 0.00001 %", "without it they are to 0.001 %, in two bytes each",
+                      "Optional; without it the UFR is 4.2 %", "optional; without it there are none",
                       "without this table all eight are 0", "0 % to 5 %", "-1 % to 10 %", "0 % to 100 %", "0 years to 50 years",
                       "0 years to 100 years", "1 to 1,000,000", "0 euros to 100,000,000,000 euros", "1 to 120 flows",
                       "%, bp or steps", "% or thousandths", "years or months"):
@@ -221,7 +308,8 @@ class Template(unittest.TestCase):
         text = text.replace("pension = []", "pension = [8651000]").replace("bonds = []", "")
         text = text.replace('csv = ""', f"rates = {[[0.226] * 60]}").replace('unit = ""', 'unit = "%"')
         case = from_toml(text)
-        self.assertEqual((case.ufr, case.shocks["mature_fall"], case.people["pension_age"]), (4_200, 250, 795))
+        self.assertEqual(from_toml(text.replace("[days]", "[days]\nrate_bytes = 4")), replace(case, rate_bytes=4, days=[[22_600] * 60]))
+        self.assertEqual((case.rate_bytes, case.ufr, case.shocks["mature_fall"], case.people["pension_age"]), (2, 4_200, 250, 795))
         self.assertIsNone(case.bonds)
 
 

@@ -6,11 +6,12 @@ from fractions import Fraction
 from pathlib import Path
 
 sys.path[:0] = [str(Path(__file__).resolve().parents[1] / "tools")]
-from casetext.fields import AMOUNT_NUMBERS, FLOW_NUMBER, PEOPLE_NUMBERS, RATE_NUMBER, SHOCK_NUMBERS, UFR_NUMBER
-from casetext.units import AGE, COUNT, MONEY, RATE, Bad, in_unit, shown, six_decimals, whole
+from casetext.fields import (AMOUNT_NUMBERS, FINE_RATE_NUMBER, FLOW_NUMBER, PEOPLE_NUMBERS, RATE_NUMBER, SHOCK_NUMBERS,
+                             UFR_NUMBER)
+from casetext.units import AGE, COUNT, FINE_RATE, MONEY, RATE, Bad, NotWhole, in_unit, mean_percent, shown, six_decimals, whole
 
 NUMBERS = {number.name: number for number in [UFR_NUMBER, RATE_NUMBER, FLOW_NUMBER, *AMOUNT_NUMBERS, *SHOCK_NUMBERS,
-                                              *PEOPLE_NUMBERS]}
+                                              *PEOPLE_NUMBERS]} | {"fine rate": FINE_RATE_NUMBER}
 
 
 class Read(unittest.TestCase):
@@ -21,6 +22,12 @@ class Read(unittest.TestCase):
                 ("ufr", 0, ["0 %", "-0 %", "0 bp", "0 steps", "0,000 %"]),
                 ("ufr", 1, ["0.001 %", "0.1 bp", "0.100 bp", "1 step", "1.0 steps"]),
                 ("rate", -350, ["-0.35 %", "-0,350%", "\u22120.35 %", "-35 bp", "-350 steps"]),
+                ("rate", 226, ["22.6 bp", "22.600 bp", "22,60 bp", "226.00 steps", "226.000 steps"]),
+                ("fine rate", 22_613, ["0.22613 %", "0,22613%", " 0.226130 percent", "22.613 bp", "22,613bps", "22.6130 bp"]),
+                ("fine rate", -35_001, ["-0.35001 %", "\u221235.001 bp", "-35,001 basis points"]),
+                ("fine rate", 1, ["0.00001 %", "0.001 bp", "+0,001 bp"]),
+                ("fine rate", 1_000_000, ["10 %", "10.000 %", "1000 bp", "1000.000 bp", "1.000,00 bp"]),
+                ("fine rate", 99_999, ["0.99999 %", "99.999 bp"]),
                 ("up_shift", 710, ["0.71 %", "71 bp", "710 steps"]),
                 ("spread", 1_240, ["1.24 %", "124 bp", "1240 steps"]),
                 ("mature_fall", 250, ["25 %", "25,0 %", "25.000 %", "250 thousandths", "250thousandths", "250,0 thousandths"]),
@@ -43,6 +50,7 @@ class Read(unittest.TestCase):
         self.assertEqual(whole("5 percent", RATE_NUMBER, percent), 5_000)
         with self.assertRaisesRegex(Bad, 'is "5 bp", but the unit of its table is %'):
             whole("5 bp", RATE_NUMBER, percent)
+        self.assertEqual([whole("5", FINE_RATE_NUMBER, unit) for unit in FINE_RATE.units], [500_000, 5_000])
 
     def refused(self, name, text, words):
         with self.assertRaises(Bad) as caught:
@@ -55,10 +63,19 @@ class Read(unittest.TestCase):
         self.refused("duration", "5,3", 'is 5,3 without a unit; write it in years, such as "5.3 years"')
         self.refused("mean_age", "45", 'write it in years or months, such as "45 years 11 months"')
         self.refused("cash", "1100000", 'write whole euros, such as 1100000 or "1100000 euros"')
+        self.refused("fine rate", "0.22613", 'is 0.22613 without a unit; write it in % or bp, such as "0.22613 %"')
+
+    def test_no_steps_of_four_bytes(self):
+        """They could be steps of 0.00001 or of 0.0000001."""
+        for text in ("22613 steps", "226.13 steps", "1 step", "0 steps"):
+            self.refused("fine rate", text, f'is "{text}"; write it in % or bp, such as "0.22613 %"')
+        self.assertIsNone(FINE_RATE.unit("steps"))
 
     def test_two_ways(self):
         for name, texts in (("cash", ["1.000 euros", "1,000 euros", "€ 1.000", "31415.927 euros", "1.0000 euros"]),
                             ("ufr", ["1.000 steps", "1,000 steps", "1.000 bp", "1,250 bp", "12.3456 bp"]),
+                            ("rate", ["1.000 bp", "1,000 bp", "-1.000 bp", "1.000 steps", "9.999 steps", "10,000 steps"]),
+                            ("fine rate", ["1.000 bp", "1,000 bp", "+1.000 bp"]),
                             ("correlation", ["1.000 thousandths", "1,000 thousandths"]), ("mean_age", ["1.000 months"])):
             for text in texts:
                 self.refused(name, text, "could be read in two ways; write the number without separators")
@@ -87,6 +104,22 @@ class Read(unittest.TestCase):
         self.refused("duration", "5.25 years", "no whole number of tenths of a year; the nearest are 5.2 years and 5.3 years")
         self.refused("cash", "1,50 euros", "the nearest are 1 euro and 2 euros")
         self.refused("ufr", "0." + "0" * 30 + "1 %", "the nearest are 0 % and 0.001 %")
+        self.refused("rate", "22.613 bp", "is 22.613 bp, which is no whole number of steps; the nearest are 22.6 bp and 22.7 bp")
+        self.refused("rate", "10.001 steps", "the nearest are 10 steps and 11 steps")
+        self.refused("fine rate", "0.226135 %", "is 0.226135 %, which is no whole number of hundredths of a step; "
+                                                "the nearest are 0.22613 % and 0.22614 %")
+        self.refused("fine rate", "-0.000005 %", "the nearest are -0.00001 % and 0 %")
+        self.refused("fine rate", "22.6135 bp", "the nearest are 22.613 bp and 22.614 bp")
+
+    def test_what_is_not_whole(self):
+        for text, value in (("0.2255 %", Fraction(451, 2)), ("22.613 bp", Fraction(22_613, 100)), ("1.5 steps", Fraction(3, 2))):
+            with self.assertRaises(NotWhole) as caught:
+                whole(text, RATE_NUMBER)
+            self.assertEqual(caught.exception.value, value)
+        for text in ("10.0001 %", "1.000 bp", "0.2255"):  # out of limits, unclear, or without a unit
+            with self.assertRaises(Bad) as caught:
+                whole(text, RATE_NUMBER)
+            self.assertNotIsInstance(caught.exception, NotWhole)
 
     def test_limits(self):
         self.refused("ufr", "5.001 %", "is 5.001 %; it must be 0 % to 5 %")
@@ -97,6 +130,10 @@ class Read(unittest.TestCase):
         self.refused("mean_age", "1201 months", "it must be 0 months to 1200 months")
         self.refused("duration", "53 years", "it must be 0 years to 50 years")
         self.refused("rate", "-1.001 %", "it must be -1 % to 10 %")
+        self.refused("fine rate", "-1.00001 %", "is -1.00001 %; it must be -1 % to 10 %")
+        self.refused("fine rate", "10.00001 %", "is 10.00001 %; it must be -1 % to 10 %")
+        self.refused("fine rate", "1000.001 bp", "is 1000.001 bp; it must be -100 bp to 1000 bp")
+        self.refused("fine rate", "1.000.000 bp", "it must be -100 bp to 1000 bp")
         self.refused("cash", "100000000001 euros", "it must be 0 euros to 100000000000 euros")
         for number in NUMBERS.values():
             for unit in number.kind.units:
@@ -117,6 +154,14 @@ class Read(unittest.TestCase):
     def test_six_decimals(self):
         self.assertEqual([six_decimals(Fraction(*pair)) for pair in ((1, 8), (-1, 3), (12, 1), (-5, 10 ** 7))],
                          ["0.125", "about -0.333333", "12", "about 0"])
+
+    def test_mean_percent(self):
+        """Eight decimals only where six would show a whole step."""
+        self.assertEqual([mean_percent(Fraction(*pair)) for pair in ((8_000, 1), (8_001, 1), (560_001, 70), (1, 3), (22_613, 100))],
+                         ["8 %", "8.001 %", "about 8.000014 %", "about 0.000333 %", "0.22613 %"])
+        for hundredths in (1, -1):
+            near = mean_percent(8_000 + Fraction(hundredths, 7_000))
+            self.assertEqual(near, {1: "about 8.00000014 %", -1: "about 7.99999986 %"}[hundredths])
 
 
 if __name__ == "__main__":

@@ -85,6 +85,39 @@ class Warnings(unittest.TestCase):
         self.warned(replace(FUND, ufr=500))
         self.warned(replace(FUND, ufr=None))
 
+    def in_four_bytes(self, *rates):
+        """A covered fund with flat rates in hundredths of a step."""
+        return replace(self.covered(), rate_bytes=4, days=flat(*rates))
+
+    def test_rates_of_four_bytes(self):
+        """The thresholds are those of two bytes, and equality does not warn; a mean just beyond one is not shown as it."""
+        above = "the lowest mean rate of a term in days is "
+        near_0 = "the mean rate of a term in days that is farthest from 0 is "
+        finer = "the number of rates in days with a sixth or seventh decimal is 0, below 1; did a spreadsheet cut off the decimals?"
+        self.warned(self.in_four_bytes(800_000), finer)
+        self.warned(self.in_four_bytes(*[800_000] * 69, 800_001), above + "about 8.00000014 %, above 8 %")
+        self.warned(self.in_four_bytes(799_999))
+        self.warned(self.in_four_bytes(29_999), near_0 + "0.29999 %, below 0.3 %; were fractions typed")
+        self.warned(self.in_four_bytes(-29_999), near_0 + "0.29999 %")
+        self.warned(self.in_four_bytes(-30_001))
+        self.warned(self.in_four_bytes(300_00), finer)
+        self.warned(self.in_four_bytes(22_613 // 100), near_0 + "0.00226 %, below 0.3 %; were fractions typed as percentages")
+
+    def test_cut_decimals(self):
+        """One rate that is no whole step is enough; rates of two bytes are never judged."""
+        finer = "the number of rates in days with a sixth or seventh decimal is 0, below 1"
+        whole = replace(FUND, rate_bytes=4, days=[[100 * rate for rate in day] for day in FUND.days])
+        self.warned(whole, finer)
+        one = replace(whole, days=[whole.days[0][:-1] + [whole.days[0][-1] + 1], *whole.days[1:]])
+        self.warned(one)
+        self.warned(FUND)
+
+    def test_worth_in_four_bytes(self):
+        """The coverage is that of the same rates in two bytes."""
+        assets = "the worth of all assets at the mean rates is "
+        for bonds, said in ((6_900_000, ()), (6_800_000, (assets + "0.69 times the liabilities, below 0.7 times",))):
+            self.warned(replace(self.in_four_bytes(30_001), bonds=[bonds]), *said)
+
     def covered(self, pension=(10 ** 7,), bonds=(10 ** 7,), heads=100, **amounts):
         """A fund of a few flows at flat rates, whose assets are near its liabilities."""
         return replace(FUND, days=flat(300), pension=list(pension), bonds=list(bonds), people=FUND.people | {"heads": heads},

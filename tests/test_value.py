@@ -24,12 +24,20 @@ ROOT = HERE.parent
 sys.path[:0] = [str(HERE), str(ROOT / "tools")]
 import examples
 import reference
+import casetext
 from casetext import months
 from reference import MONEY
 
 C1 = reference.encode(examples.c1(), False, False, True)
 C1_LISTING = reference.listing(C1)
 VERSION = (ROOT / "VERSION").read_text().strip()
+
+
+def in_four_bytes(data):
+    """The file with each rate in four bytes, 100 times as large: document 02 says that its listing is the same."""
+    case = casetext.read(data)
+    return casetext.write(replace(case, rate_bytes=4, days=[[100 * rate for rate in day] for day in case.days]))
+
 
 # Counts its calls and hands out the files `program` and `months`. A file `edit` has it change a source once; `edits`, `slow` and
 # `fails` have it change one, wait or fail for as long as they are there.
@@ -286,6 +294,14 @@ class Statuses(Checkout):
             self.assertEqual(self.value("-", input=data).stdout, reference.listing(data))
         self.assertEqual(self.value("-", input=C1).returncode, 0)
 
+    def test_four_bytes(self):
+        four, both = in_four_bytes(C1), b"\x00\xf6" + C1[2:]
+        self.assertEqual((self.value("-", input=four).returncode, self.value("-", input=four).stdout), (0, C1_LISTING))
+        for data, number in ((four[:-1], 1), (four + b"\0", 2), (both, 3), (four[:-241] + b"\0" + four[-240:], 4),
+                             (four[:-4] + b"\x00\x0f\x42\x41", 5), (four[:-4] + b"\x00\x00\x4e\x21", 6)):
+            run = self.value("-", input=data)
+            self.assertEqual((run.returncode, run.stdout), (1, b"R %d\n" % number))
+
     def test_no_answer(self):
         self.value(self.c1)
         for words in ((self.folder / "none.case",), (self.folder,), ("",), (), ("--wrong",), ("--json",),
@@ -391,6 +407,18 @@ class Several(Checkout):
             self.assertEqual((row["refusal"], row["verdict"]), ("", verdict))
 
 
+    def test_what_is_handed_in(self):
+        """The first bytes of a file, which decide; the longest that can be accepted is whole among them."""
+        self.program('#!/bin/sh\ncat > "$STAND_IN/input"; echo "R 1"\n')
+        self.write("crates.txt", "another program")
+        largest = in_four_bytes((ROOT / "cases/largest.case").read_bytes())
+        self.assertEqual(len(largest), 17_623)
+        for data in (largest, bytes(17_624), bytes(17_625), bytes(40_000)):
+            (self.folder / "long.case").write_bytes(data)
+            self.value("--csv", self.folder / "long.case")
+            self.assertEqual((self.rt / "input").read_bytes(), data[:17_624])
+
+
 class Texts(Checkout):
     def setUp(self):
         super().setUp()
@@ -412,6 +440,23 @@ class Texts(Checkout):
         self.assertEqual(self.value("--toml", other).stdout, self.listing)
         run = self.value("--toml", "-", input=other.read_bytes(), cwd=self.folder)
         self.assertEqual((run.returncode, run.stdout), (0, self.listing))
+
+    def test_four_bytes(self):
+        """The key in the text; the case that is valued is the file of four bytes, and its listing is the same."""
+        self.edit('unit = "%"', 'rate_bytes = 4\nunit = "%"')
+        run = self.value("--json", self.text)
+        row = json.loads(run.stdout)["valuations"][0]
+        four = in_four_bytes((self.folder / "fund.case").read_bytes())
+        self.assertEqual(row["case_sha256"], hashlib.sha256(four).hexdigest())
+        self.assertEqual(row["warnings"], ["the number of rates in days with a sixth or seventh decimal is 0, below 1; "
+                                           "did a spreadsheet cut off the decimals?"])
+        self.assertEqual((run.returncode, self.value(self.text).stdout), (0, self.listing))
+
+    def test_decimals_that_two_bytes_do_not_hold(self):
+        sheet = self.folder / "fund-days.csv"
+        sheet.write_text(sheet.read_text().replace(";0,429;", ";0,42907;", 1))
+        self.assertNoAnswer(self.value(self.text), "days.csv, line 2, cell 3 of fund-days.csv, is 0,42907, which is no whole number of "
+                            "steps; the nearest are 0.429 % and 0.43 %; for rates to 0.00001 % write rate_bytes = 4 in [days]")
 
     def test_the_slip_that_turned_a_verdict(self):
         """25 for 25 %: without its unit it is an error, and in thousandths it is warned of."""
@@ -483,6 +528,14 @@ class Months(Checkout):
         self.assertNotEqual(self.listing(self.fund), self.value(self.folder / "fund.case").stdout)
         self.assertEqual(self.calls(), 1)
 
+    def test_four_bytes(self):
+        """The UFR found takes the place of that in the file, whatever the days field."""
+        for name, data in (("four.case", (self.folder / "fund.case").read_bytes()),
+                           ("four_no_ufr.case", (self.folder / "no_ufr.case").read_bytes())):
+            (self.folder / name).write_bytes(in_four_bytes(data))
+            run = self.with_months(name)
+            self.assertEqual((run.returncode, run.stdout, run.stderr), (0, self.listing(self.fund), b""))
+
     def test_standard_input(self):
         self.assertEqual(self.with_months("-", input=C1).stdout, self.listing())
         self.assertEqual(self.with_months("c1.case", history="-", input=self.history.read_bytes()).stdout, self.listing())
@@ -492,13 +545,13 @@ class Months(Checkout):
         """The first bytes of both files, which decide, each behind its length, and then the start index."""
         self.program('#!/bin/sh\ncat > "$STAND_IN/input"; echo "R 1"\n', "months")
         self.write("crates.txt", "another program")
-        files = {"short.case": b"ab", "long.case": bytes(9_300)}, {"short.months": b"", "long.months": bytes(300)}
+        files = {"short.case": b"ab", "long.case": bytes(17_700)}, {"short.months": b"", "long.months": bytes(300)}
         for name, data in (files[0] | files[1]).items():
             (self.folder / name).write_bytes(data)
         for case, case_bytes in files[0].items():
             for history, history_bytes in files[1].items():
                 self.with_months(case, history=history, start=258)
-                first, second = case_bytes[:9_224], history_bytes[:241]
+                first, second = case_bytes[:17_624], history_bytes[:241]
                 self.assertEqual((self.rt / "input").read_bytes(), len(first).to_bytes(4, "big") + first
                                  + len(second).to_bytes(4, "big") + second + bytes(6) + b"\1\2")
         self.with_months("short.case", history="a.csv", start=119)

@@ -9,8 +9,9 @@ Command line: python3 tests/cases.py           writes them
     NAME.txt       document 01's listing, which is what ./value prints
     NAME.curve     factors (F term lower upper), zero rates (Z ..), and the place of the rates (P offset length)
 
-fund.toml and fund-days.csv are written by hand, as an office writes them; fund.case is their case. So is fund-months.csv, a history
-of months; fund.months is its ring, and fund-months.txt the listing of fund.case with it. cases/README.md lists all.
+fund.toml and fund-days.csv are written by hand, as an office writes them; fund.case is their case. So are seven.toml and
+seven-days.csv, whose rates have seven decimals and so four bytes, and fund-months.csv, a history of months; fund.months is its
+ring, and fund-months.txt the listing of fund.case with it. cases/README.md lists all.
 The bytes of the others, every listing and every curve come of tests/reference.py alone, the listing with months of tests/months.py;
 the texts and the ring come of tools/casefile.
 """
@@ -31,7 +32,7 @@ sys.path[:0] = [str(ROOT / "tools")]
 import casetext
 
 FOLDER = ROOT / "cases"
-BY_HAND = {"fund.toml", "fund-days.csv", "fund-months.csv"}
+BY_HAND = {"fund.toml", "fund-days.csv", "fund-months.csv", "seven.toml", "seven-days.csv"}
 START = 37  # the place of the oldest month in fund.months
 
 
@@ -74,9 +75,11 @@ def funds():
         case = getattr(examples, name)()
         yield Example(name, reference.encode(case, True, bool(case.bonds), True), title)
     largest = replace(examples.up(), days=flat(*range(70)), pension=[10 ** 8] * 120, bonds=[10 ** 8] * 60)
-    yield Example("largest", reference.encode(largest, True, True, True), "the longest file: 70 days, 120 and 60 flows")
+    yield Example("largest", reference.encode(largest, True, True, True), "the longest file of two-byte rates: 70 days, 120 and 60 flows")
+    longest = replace(largest, days=flat(*range(0, 70 * 101, 101)), rate_bytes=4)
+    yield Example("longest", reference.encode(longest, True, True, True), "the longest file: as many days and flows, with four-byte rates")
     yield Example("shortage", plain(**cash(1_049_999)), "C1 with one euro less than 105 percent of L")
-    data = casetext.write(casetext.from_toml((FOLDER / "fund.toml").read_text("utf-8"), FOLDER))
+    data = casetext.write(by_hand("fund.toml"))
     yield Example("fund", data, "a realistic small fund, written by hand as text; start here")
     fund = reference.read(data)
     undecided = replace(fund, amounts=fund.amounts | {"cash": 19_260_330})
@@ -86,6 +89,21 @@ def funds():
     days[12][29] *= 10
     yield Example("fund_refused", reference.encode(replace(fund, days=days), True, True, True),
                   "the fund with a decimal comma that slipped in one rate")
+    yield seven()
+
+
+def by_hand(name):
+    return casetext.from_toml((FOLDER / name).read_text("utf-8"), FOLDER)
+
+
+def seven():
+    """The fund whose rates have seven decimals, and whose cash is such that these decide."""
+    case = by_hand("seven.toml")
+    data, rounded = casetext.write(case), [[round(rate, -2) // 100 for rate in day] for day in case.days]
+    assert programs.outcome(reference.listing(data)) == "V VRIJ VERMOGEN"
+    assert programs.outcome(reference.listing(casetext.write(replace(case, rate_bytes=2, days=rounded)))) == "V RESERVETEKORT"
+    return Example("seven", data, "rates with seven decimals, in four bytes, written by hand as text; rounded to five decimals they would "
+                                  "give RESERVETEKORT")
 
 
 def refused():
@@ -129,8 +147,8 @@ def texts(example):
 def table(examples):
     """cases/README.md: every example with what it shows and how its listing ends."""
     rows = "".join(f"| {one.name} | {one.title} | {programs.outcome(reference.listing(one.data))} |\n" for one in examples)
-    return ("# Example case files\n\nWritten by tests/cases.py, but for fund.toml, fund-days.csv and fund-months.csv, which are written by hand. Its\n"
-            "first lines say what each kind of file holds.\n\n"
+    return ("# Example case files\n\nWritten by tests/cases.py, but for fund.toml, fund-days.csv, fund-months.csv, seven.toml and seven-days.csv, which are written\n"
+            "by hand. Its first lines say what each kind of file holds.\n\n"
             f"fund.months is the history of months in fund-months.csv, its oldest month at place {START} of the ring. In this folder\n"
             f"`../value --months fund.months --start {START} fund.case` prints fund-months.txt, and so does\n"
             "`../value --months fund-months.csv fund.case`.\n\n| Name | What it is | Its last line |\n|---|---|---|\n" + rows)

@@ -77,7 +77,7 @@ def funds():
     largest = replace(examples.up(), days=flat(*range(70)), pension=[10 ** 8] * 120, bonds=[10 ** 8] * 60)
     yield Example("largest", reference.encode(largest, True, True, True), "the longest file of two-byte rates: 70 days, 120 and 60 flows")
     longest = replace(largest, days=flat(*range(0, 70 * 101, 101)), rate_bytes=4)
-    yield Example("longest", reference.encode(longest, True, True, True), "the longest file: as many days and flows, with four-byte rates")
+    yield Example("longest", reference.encode(longest, True, True, True), "the longest file: 70 days of four-byte rates, 120 and 60 flows")
     yield Example("shortage", plain(**cash(1_049_999)), "C1 with one euro less than 105 percent of L")
     data = casetext.write(by_hand("fund.toml"))
     yield Example("fund", data, "a realistic small fund, written by hand as text; start here")

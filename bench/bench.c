@@ -10,7 +10,8 @@
  * WORK is engine, plain or filter (a valuation), checks (the engine's checks of the file), saving (its case, saved by the engine),
  * or of a rolling window with the file's days: adding (the last of them), dropping (the first), rolling (its valuation with the
  * case) or window (only refusal 27's check of it, by a valuation without buffers); of a history of months, whose UFR is 4,200: ufr
- * (finding it) or months (a valuation of the file with it).
+ * (finding it) or months (a valuation of the file with it). A file with four-byte days goes only with count and stack, and only with
+ * engine, checks, ufr and months: plain C, GMP and Arb read two-byte days, and a window holds them.
  *
  * No time is asserted. The exit status is 1 where any result differs. */
 #define _XOPEN_SOURCE 700 /* clock_gettime and makecontext */
@@ -26,7 +27,7 @@
 
 struct input {
     const char *name;
-    uint8_t bytes[16384];
+    uint8_t bytes[GINGHAMOWL_FILE_BYTES + 1]; /* one byte more than the longest accepted file, so that a longer one is refused */
     size_t length;
 };
 
@@ -66,6 +67,7 @@ static void take_apart(void)
     if (part.length == 0)
         return; /* refused: there is no case */
     read_fund(loaded.bytes, &held.fund);
+    held.fields.rate_bytes = GINGHAMOWL_TWO_BYTES;
     held.fields.ufr = held.fund.ufr;
     memcpy(&held.fields.amounts, held.fund.amount, sizeof held.fields.amounts);
     memcpy(&held.fields.shocks, held.fund.shock, sizeof held.fields.shocks);
@@ -87,6 +89,9 @@ static void take_months(void)
     }
 }
 
+/* Bit 7 of the map announces them; the map's low bits stand in its second byte. */
+static bool has_four_byte_days(void) { return loaded.length >= 2 && loaded.bytes[1] & 0x80; }
+
 static void load(const char *path)
 {
     FILE *file = fopen(path, "rb");
@@ -97,8 +102,23 @@ static void load(const char *path)
     loaded.name = path;
     loaded.length = fread(loaded.bytes, 1, sizeof loaded.bytes, file);
     fclose(file);
-    take_apart();
+    if (!has_four_byte_days())
+        take_apart();
     take_months();
+}
+
+static void require_two_byte_days(void)
+{
+    if (has_four_byte_days()) {
+        fprintf(stderr, "%s: has four-byte days, which only the engine reads\n", loaded.name);
+        exit(2);
+    }
+}
+
+static void load_two_byte_days(const char *path)
+{
+    load(path);
+    require_two_byte_days();
 }
 
 /* ---------------------------------------------------------------- what is timed */
@@ -253,6 +273,16 @@ static const struct work *work_named(const char *name)
             return &counted[i];
     fprintf(stderr, "bench: there is no work %s\n", name);
     exit(2);
+}
+
+/* The work of this name on the loaded file. */
+static const struct work *work_on_loaded(const char *name)
+{
+    const struct work *work = work_named(name);
+    bool reads_either = work->once == engine || work->once == engine_checks || work->once == engine_ufr || work->once == engine_months;
+    if (!reads_either)
+        require_two_byte_days();
+    return work;
 }
 
 static void run(const struct work *work, const struct input *input, long repetitions)
@@ -417,7 +447,7 @@ static int check_all(int count, char **paths, bool times)
 {
     bool all_same = true;
     for (int i = 0; i < count; i++) {
-        load(paths[i]);
+        load_two_byte_days(paths[i]);
         bool same = check(&loaded);
         all_same = all_same && same;
         if (same && times)
@@ -432,7 +462,7 @@ static int check_all(int count, char **paths, bool times)
 static void print_open(int count, char **paths)
 {
     for (int i = 0; i < count; i++) {
-        load(paths[i]);
+        load_two_byte_days(paths[i]);
         filter_left_open = 0;
         filter(&loaded);
         printf("%s: %" PRIu64 " of at most %d\n", short_name(&loaded), filter_left_open, 15 * GINGHAMOWL_ENTRIES);
@@ -441,7 +471,7 @@ static void print_open(int count, char **paths)
 
 static void print_stack(const char *work)
 {
-    work_there = work_named(work);
+    work_there = work_on_loaded(work);
     size_t empty = depth_of(nothing_there);
     printf("%zu\n", depth_of(do_there) - empty);
 }
@@ -451,7 +481,7 @@ int main(int argc, char **argv)
     if (argc >= 3 && (strcmp(argv[1], "time") == 0 || strcmp(argv[1], "check") == 0))
         return check_all(argc - 2, argv + 2, argv[1][0] == 't');
     if (argc == 3 && strcmp(argv[1], "parts") == 0) {
-        load(argv[2]);
+        load_two_byte_days(argv[2]);
         print_parts(&loaded);
         return 0;
     }
@@ -466,7 +496,7 @@ int main(int argc, char **argv)
     }
     if (argc == 5 && strcmp(argv[1], "count") == 0) {
         load(argv[3]);
-        run(work_named(argv[2]), &loaded, atol(argv[4]));
+        run(work_on_loaded(argv[2]), &loaded, atol(argv[4]));
         return 0;
     }
     fprintf(stderr, "usage: bench time FILE.. | check FILE.. | parts FILE | open FILE.. | stack WORK FILE | count WORK FILE R\n");

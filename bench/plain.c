@@ -1,6 +1,6 @@
 /* The rounded working of document 01 in plain C: what one would write without proofs, for speed.
  *
- * It assumes that the file is accepted. The benchmark only times accepted files, so the checks of the
+ * It assumes that the file is accepted and has two-byte days. The benchmark only times such files, so the checks of the
  * thirteen refusals are left out; this favours plain C. Nothing is proved of it. That no product below
  * overflows follows from document 01's limits, and is stated where it is not plain to see. */
 #include "bench.h"

@@ -230,6 +230,24 @@ class Method(unittest.TestCase):
         self.assertFalse(any(data[offset + i] for offset in left_out for i in range(16)))
         self.assertEqual(max(shown) + 16, len(data))
 
+    def test_lengths(self):
+        """The sums that tell the longest and the shortest files, and the files themselves where cases/ has them."""
+        sums = re.findall(r"(\d[\d,]*(?: \+ \d[\d,]*)+) = (\d[\d,]*) bytes", self.TEXT)
+        number = lambda text: int(text.replace(",", ""))
+        for terms, total in sums:
+            self.assertEqual(sum(map(number, terms.split(" + "))), number(total), terms)
+        lengths = [os.path.getsize(os.path.join(ROOT, "cases", name)) for name in ("largest.case", "longest.case")]
+        self.assertEqual([number(total) for _, total in sums], [*lengths, 160, 280])
+
+    def test_four_bytes(self):
+        """The rates that the page writes as bytes."""
+        rows = re.findall(r"`((?:[0-9A-F]{2} ){3}[0-9A-F]{2})` is (-?[\d,]+)(?: hundredths of a step)?, which is (-?[\d.]+) percent", self.TEXT)
+        self.assertEqual(len(rows), 2)
+        for written, rate, percent in rows:
+            value = int.from_bytes(bytes.fromhex(written), "big", signed=True)
+            self.assertEqual(f"{value:,}", rate)
+            self.assertEqual(Fraction(value, 100_000), Fraction(percent))
+
     def test_weights(self):
         rows = re.findall(r"^\| (21|31|41|51) \|(.*)\|$", self.TEXT, re.M)
         self.assertEqual({int(first) + i: int(weight) for first, row in rows for i, weight in enumerate(row.split("|"))},

@@ -93,6 +93,9 @@ class Days(Sheets):
                 self.good(lines, keys, FINE_DAYS)
                 self.assertEqual(from_toml(self.text(keys), self.folder).rate_bytes, 4)
             self.good([[f"{cell} {unit}" for cell in day] for day in cells], "rate_bytes = 4", FINE_DAYS)
+        self.good([TERMS, *FINE_PERCENT], 'rate_bytes = 4\nunit = "%"', FINE_DAYS)
+        for keys in ('unit = "bp"', 'rate_bytes = 4\nunit = "bp"'):  # 1 to 60 bp could be rates
+            self.bad([TERMS, *(FINE_BP if "4" in keys else BP)], "could be read in 2 ways; write header = true or false", keys)
         self.good(FINE_BP, 'rate_bytes = 4\nunit = "bp"', FINE_DAYS, between=",")
         self.good(columns(FINE_PERCENT), 'rate_bytes = 4\nunit = "%"', FINE_DAYS, between=",")
         self.good(PERCENT, 'rate_bytes = 4\nunit = "%"', [[100 * rate for rate in day] for day in CASE.days])

@@ -75,9 +75,11 @@ def funds():
         case = getattr(examples, name)()
         yield Example(name, reference.encode(case, True, bool(case.bonds), True), title)
     largest = replace(examples.up(), days=flat(*range(70)), pension=[10 ** 8] * 120, bonds=[10 ** 8] * 60)
-    yield Example("largest", reference.encode(largest, True, True, True), "the longest file of two-byte rates: 70 days, 120 and 60 flows")
+    yield Example("largest", reference.encode(largest, True, True, True),
+                  "the longest file of two-byte rates: 70 days, 120 and 60 flows")
     longest = replace(largest, days=flat(*range(0, 70 * 101, 101)), rate_bytes=4)
-    yield Example("longest", reference.encode(longest, True, True, True), "the longest file: 70 days of four-byte rates, 120 and 60 flows")
+    yield Example("longest", reference.encode(longest, True, True, True),
+                  "the longest file: 70 days of four-byte rates, 120 and 60 flows")
     yield Example("shortage", plain(**cash(1_049_999)), "C1 with one euro less than 105 percent of L")
     data = casetext.write(by_hand("fund.toml"))
     yield Example("fund", data, "a realistic small fund, written by hand as text; start here")
@@ -102,8 +104,8 @@ def seven():
     data, rounded = casetext.write(case), [[round(rate, -2) // 100 for rate in day] for day in case.days]
     assert programs.outcome(reference.listing(data)) == "V VRIJ VERMOGEN"
     assert programs.outcome(reference.listing(casetext.write(replace(case, rate_bytes=2, days=rounded)))) == "V RESERVETEKORT"
-    return Example("seven", data, "rates with seven decimals, in four bytes, written by hand as text; rounded to five decimals they would "
-                                  "give RESERVETEKORT")
+    return Example("seven", data, "rates with seven decimals, in four bytes, written by hand as text; rounded to five decimals "
+                                  "they would give RESERVETEKORT")
 
 
 def refused():
@@ -147,7 +149,8 @@ def texts(example):
 def table(examples):
     """cases/README.md: every example with what it shows and how its listing ends."""
     rows = "".join(f"| {one.name} | {one.title} | {programs.outcome(reference.listing(one.data))} |\n" for one in examples)
-    return ("# Example case files\n\nWritten by tests/cases.py, but for fund.toml, fund-days.csv, fund-months.csv, seven.toml and seven-days.csv, which are written\n"
+    return ("# Example case files\n\n"
+            "Written by tests/cases.py, but for fund.toml, fund-days.csv, fund-months.csv, seven.toml and seven-days.csv, which are written\n"
             "by hand. Its first lines say what each kind of file holds.\n\n"
             f"fund.months is the history of months in fund-months.csv, its oldest month at place {START} of the ring. In this folder\n"
             f"`../value --months fund.months --start {START} fund.case` prints fund-months.txt, and so does\n"

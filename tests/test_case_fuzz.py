@@ -25,7 +25,8 @@ FLOWS = ["term;flow\n1;31.415.927\n2;27182818\n3;€ 16.180.339,00\n", "1;2;3\n3
 PIECES = ["", "0", "1", "-1", "25", "4.2", "1.000", "1,000", "1.000.000", "nan", "inf", "1e999999999", "0x" + "f" * 50, "9" * 60,
           "true", "[]", "{}", "[[", '"', "'", '"""', "\\", "\\u0000", "#", "=", ",", ";", "\t", "\n", "\r", "\x00", "\x1b", "\ufeff",
           "é", "€", "%", " %", '"25 %"', '"25"', '"1 step"', '"66 years 3 months"', '"5 euros"', "2025-01-02", "[days]",
-          "[flows]", "rate_bytes = 4\n", "rate_bytes = 2\n", "0.22613", "22.613", "unit", "csv", "header = true\n", "labels = true\n", 'lines = "terms"\n', 'unit = "bp"\n', "1;2;3\n",
+          "[flows]", "rate_bytes = 4\n", "rate_bytes = 2\n", "0.22613", "22.613",
+          "unit", "csv", "header = true\n", "labels = true\n", 'lines = "terms"\n', 'unit = "bp"\n', "1;2;3\n",
           ";".join(map(str, range(1, 61))) + "\n", "term", "\u2212", "\u0663", "½", "\u2028"]
 
 

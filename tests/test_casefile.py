@@ -242,7 +242,8 @@ class Explained(unittest.TestCase):
     def test_words_of_four_bytes(self):
         text = explain(UP_FOUR)[0]
         for words in ("map 0x00fd: UFR, pension flows, bond flows, amounts, shocks, people, days in four bytes\n",
-                      "       1  days in four bytes: 3\n", "     240  day 1, in hundredths of a step: 20600 22537 ", "ufr: 4,321 steps, 4.321 %"):
+                      "       1  days in four bytes: 3\n", "     240  day 1, in hundredths of a step: 20600 22537 ",
+                      "ufr: 4,321 steps, 4.321 %"):
             self.assertIn(words, text)
         for data, sentence in (
                 (with_rates(C1_FOUR, [1_000_001] * 60), "refused, 5, at byte 104: the rate of term 1 of day 1 is 1,000,001 hundredths of "

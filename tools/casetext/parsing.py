@@ -337,7 +337,7 @@ class Text:
         return Layout(*(table.get(key) for key in ("lines", "header", "labels"))) if len(self.faults) == before else None
 
     def rates(self, days: list[list[Cell]], field: DaysField, unit: Unit | None) -> list[list[int]]:
-        """The rates; those without a unit, where the table has none either, are one fault, and so are those too fine for two bytes."""
+        """The rates; those without a unit, where the table has none either, are one fault, and so are those that need four bytes."""
         before = len(self.faults)
         bare = [cell for day in days for cell in day if not unit and is_bare(cell.text)]
         if bare:

@@ -9,9 +9,9 @@ Command line: python3 tests/cases.py           writes them
     NAME.txt       document 01's listing, which is what ./value prints
     NAME.curve     factors (F term lower upper), zero rates (Z ..), and the place of the rates (P offset length)
 
-fund.toml and fund-days.csv are written by hand, as an office writes them; fund.case is their case. So are seven.toml and
-seven-days.csv, whose rates have seven decimals and so four bytes, and fund-months.csv, a history of months; fund.months is its
-ring, and fund-months.txt the listing of fund.case with it. cases/README.md lists all.
+fund.toml and fund-days.csv are written by hand, as an office writes them; fund.case is their case. So is fund-months.csv, a history
+of months; fund.months is its ring, and fund-months.txt the listing of fund.case with it. seven.case is the case of seven.toml and
+seven-days.csv, whose made-up rates have seven decimals and so four bytes; no script writes these two. cases/README.md lists all.
 The bytes of the others, every listing and every curve come of tests/reference.py alone, the listing with months of tests/months.py;
 the texts and the ring come of tools/casefile.
 """
@@ -104,7 +104,7 @@ def seven():
     data, rounded = casetext.write(case), [[round(rate, -2) // 100 for rate in day] for day in case.days]
     assert programs.outcome(reference.listing(data)) == "V VRIJ VERMOGEN"
     assert programs.outcome(reference.listing(casetext.write(replace(case, rate_bytes=2, days=rounded)))) == "V RESERVETEKORT"
-    return Example("seven", data, "rates with seven decimals, in four bytes, written by hand as text; rounded to five decimals "
+    return Example("seven", data, "rates with seven decimals, in four bytes, with the days in a sheet; rounded to five decimals "
                                   "they would give RESERVETEKORT")
 
 
@@ -150,8 +150,8 @@ def table(examples):
     """cases/README.md: every example with what it shows and how its listing ends."""
     rows = "".join(f"| {one.name} | {one.title} | {programs.outcome(reference.listing(one.data))} |\n" for one in examples)
     return ("# Example case files\n\n"
-            "Written by tests/cases.py, but for fund.toml, fund-days.csv, fund-months.csv, seven.toml and seven-days.csv, which are written\n"
-            "by hand. Its first lines say what each kind of file holds.\n\n"
+            "Written by tests/cases.py, but for fund.toml, fund-days.csv, fund-months.csv, seven.toml and seven-days.csv, which no script\n"
+            "writes. Its first lines say what each kind of file holds.\n\n"
             f"fund.months is the history of months in fund-months.csv, its oldest month at place {START} of the ring. In this folder\n"
             f"`../value --months fund.months --start {START} fund.case` prints fund-months.txt, and so does\n"
             "`../value --months fund-months.csv fund.case`.\n\n| Name | What it is | Its last line |\n|---|---|---|\n" + rows)

@@ -19,7 +19,7 @@ pub mod Demand3
 pub mod Buffers
 pub mod Rolling
 pub mod Months
-pub mod FourBytes
 pub mod Window
 pub mod Listing
+pub mod FourBytes
 pub mod inner

@@ -20,6 +20,7 @@ use Rattle.model.specs.declared.case.Case.{Case}
 use Rattle.model.specs.declared.figures.Valuation.{Valuation}
 use Rattle.model.specs.declared.figures.Valuation.the-variants.{Valued}
 use Rattle.theory.proofs.general.Lists.{length-table, getD-table}
+use Rattle.theory.proofs.curve.CaseCurves.{curve-within}
 use Rattle.theory.proofs.curve.Agree.{same-unadjusted}
 use Rattle.theory.proofs.money.Worth.{same-worth}
 use Rattle.curve.specs.inner.Shifted.{curveHeld}
@@ -77,7 +78,7 @@ module _ (k : FileCase) (w : WithinLimits k) where
   bonds-at : (m : Move) (e : End) → Rounded.worth e (Rounded.unadjusted (curveHeld (held k) m) e) 1 (k .bonds) ≡ Rounded.B k m e
   bonds-at m e =
       same-worth 60 e (Rounded.unadjusted (curveHeld (held k) m) e) (Rounded.unadjusted (curve k m) e)
-      (λ t i l. same-unadjusted (curveHeld (held k) m) (curve k m) (held-agree k w m) e t l) 1 (k .bonds) (omega arith) (omega (arith, w .mostBonds))
+      (λ t i l. same-unadjusted 1 (curveHeld (held k) m) (curve k m) (held-agree k w m) (curve-within k w m) e t l) 1 (k .bonds) (omega arith) (omega (arith, w .mostBonds))
 
   bonds-are : _≡_ {A = Move → End → ℕ} (bonds (λ m. Rounded.unadjusted (curveHeld (held k) m)) (held k)) (Rounded.B k)
   bonds-are =

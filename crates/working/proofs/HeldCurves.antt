@@ -1,7 +1,9 @@
 -- The three curves that the code makes of a case that it holds are those of the case. Assumes nothing.
 use Prim.Native.Nat.{ℕ, zero, suc, _≤_, _<_}
 use mathlib.Core.Path.{_≡_, refl, sym, _∙_}
+use native.Mathlib.Nat.{one-mul}
 use native.Mathlib.Omega.{arith}
+use lib.Dec.{lit<}
 use lib.ListN.{getD}
 use Rattle.model.specs.Case.{FileCase, perStep}
 use Rattle.model.specs.Limits.{WithinLimits}
@@ -14,7 +16,7 @@ use Rattle.model.specs.inner.CurveWithin.{CurveWithin, BaseWithin}
 use Rattle.theory.proofs.curve.CaseCurves.{N-is, ufr-is, P-zero, P-shifted, per-step-most, curve-within, base-within}
 use Rattle.curve.specs.inner.Shifted.{shiftedSum, shiftedSums, movedSums, curveHeld}
 use Rattle.curve.proofs.Curves.{N-of, ufr-of, P-of}
-use Rattle.theory.proofs.curve.Agree.{Agree, agree-back, same-factors, same-within, same-base}
+use Rattle.theory.proofs.curve.Agree.{Agree, same-factors, same-within, same-base}
 
 -- ---- the curves of a case
 module _ (k : FileCase) (w : WithinLimits k) where
@@ -33,11 +35,13 @@ module _ (k : FileCase) (w : WithinLimits k) where
   shifted-is m zero h = rw (P-zero k w m, held-per-step)
   shifted-is m (suc i) h = rw (P-shifted k w m i h, held-sum i h, held-per-step)
 
-  pub held-agree : (m : Move) → Agree (curveHeld (held k) m) (curve k m)
+  pub held-agree : (m : Move) → Agree 1 (curveHeld (held k) m) (curve k m)
   unfolding shiftedSums held
   held-agree m = record {
-    sameN = N-of (movedSums m (held k)) ∙ sym (N-is k w m);
-    sameP = λ t h. P-of (movedSums m (held k)) t ∙ getD-table (shiftedSum (added (k .shocks) m) (taken (k .shocks) m) (held k)) 61 t 0 (omega arith) ∙ shifted-is m t h;
+    some = lit< tt;
+    sameN = N-of (movedSums m (held k)) ∙ sym (N-is k w m) ∙ sym (one-mul (curve k m .N));
+    sameP = λ t h. P-of (movedSums m (held k)) t ∙ getD-table (shiftedSum (added (k .shocks) m) (taken (k .shocks) m) (held k)) 61 t 0 (omega arith) ∙ shifted-is m t h
+        ∙ sym (one-mul (P (curve k m) t));
     sameUfr = ufr-of (movedSums m (held k)) ∙ sym (ufr-is k w m);
   }
 
@@ -46,10 +50,10 @@ module _ (k : FileCase) (w : WithinLimits k) where
   held-per-step-most = omega (arith, held-per-step, per-step-most k w)
 
   pub held-curve-within : (m : Move) → CurveWithin (curveHeld (held k) m)
-  held-curve-within m = same-within (curve k m) (curveHeld (held k) m) (agree-back _ _ (held-agree m)) (curve-within k w m)
+  held-curve-within m = same-within 1 (curveHeld (held k) m) (curve k m) (held-agree m) (curve-within k w m)
 
   pub held-base-within : BaseWithin (curveHeld (held k) base)
-  held-base-within = same-base (curve k base) (curveHeld (held k) base) (agree-back _ _ (held-agree base)) (base-within k w)
+  held-base-within = same-base 1 (curveHeld (held k) base) (curve k base) (held-agree base) (base-within k w)
 
   pub held-factor : (m : Move) → Rounded.factor (curveHeld (held k) m) ≡ Rounded.factor (curve k m)
-  held-factor m = same-factors (curveHeld (held k) m) (curve k m) (held-agree m)
+  held-factor m = same-factors 1 (curveHeld (held k) m) (curve k m) (held-agree m) (curve-within k w m)

@@ -83,6 +83,9 @@ module _ (file : List ℕ) (h : refusal file ≡ 0) where
   pub within-limits : WithinLimits (caseOf file)
   within-limits = limits .0
 
+  pub agrees-shown : Agrees (presentIn (fileMap file)) (caseOf file)
+  agrees-shown = limits .1
+
   -- its rates are in the file, in either days field
   pub days-reach : daysAt file + 1 + rateBytes file * 60 * dayCount file ≤ length file
   unfolding dayCount

@@ -1,10 +1,10 @@
 -- Integers as differences of two natural numbers, so that `omega` does their arithmetic.
 -- Assumes nothing.
 use Prim.Native.Nat.{ℕ, zero, suc, _+_, _*_, _-_, _≤_, _<_}
-use mathlib.Core.Path.{_≡_, refl, ap, sym, subst}
+use mathlib.Core.Path.{_≡_, refl, ap, sym, _∙_, subst}
 use mathlib.Core.Bool.{Bool, true, false, not, cond}
 use native.Mathlib.Omega.{arith}
-use native.Mathlib.Nat.{not-suc-le-zero}
+use native.Mathlib.Nat.{not-suc-le-zero, mul-le-mul-left}
 use lib.Dec.{T, ltb, leb→le, le→leb, ltb→lt, lt→ltb, nltb→le}
 use lib.IntN.{ℤ, pos, negsuc, negℤ, _+ℤ_, _-ℤ_, _*ℤ_, subℕ}
 use lib.Signed.{leZ, _≤ℤ_, _<ℤ_}
@@ -108,3 +108,85 @@ raised-diff (negsuc n) r m e = let k : Diff (pos r) m (suc n) = subst (λ y. Dif
 pub diff-raised : (z : ℤ) (r m : ℕ) → Diff z r m → pos r ≡ pos m +ℤ z
 diff-raised z r m h =
     one-diff (pos r) (pos m +ℤ z) (m + r) (0 + m) (omega arith) (diff-sum (pos m) z m 0 r m (diff-pos m) h)
+
+-- ---- multiples of an integer
+
+-- an integer as a difference of its own
+abbrev above : ℤ → ℕ
+above (pos n) = n
+above (negsuc n) = 0
+
+abbrev under : ℤ → ℕ
+under (pos n) = 0
+under (negsuc n) = suc n
+
+own-diff : (z : ℤ) → Diff z (above z) (under z)
+own-diff (pos n) = omega arith
+own-diff (negsuc n) = omega arith
+
+pub times-sum : (g : ℕ) (y z : ℤ) → pos g *ℤ (y +ℤ z) ≡ pos g *ℤ y +ℤ pos g *ℤ z
+times-sum g y z =
+    let a = above y in
+    let b = under y in
+    let c = above z in
+    let d = under z in
+    one-diff (pos g *ℤ (y +ℤ z)) (pos g *ℤ y +ℤ pos g *ℤ z) (g * (a + c)) (g * (b + d))
+    (diff-times g (y +ℤ z) (a + c) (b + d) (diff-sum y z a b c d (own-diff y) (own-diff z)))
+    (again (pos g *ℤ y +ℤ pos g *ℤ z) (g * a + g * c) (g * b + g * d) (g * (a + c)) (g * (b + d))
+    (diff-sum (pos g *ℤ y) (pos g *ℤ z) (g * a) (g * b) (g * c) (g * d) (diff-times g y a b (own-diff y)) (diff-times g z c d (own-diff z)))
+    (omega arith))
+
+pub times-minus : (g : ℕ) (y z : ℤ) → pos g *ℤ (y -ℤ z) ≡ pos g *ℤ y -ℤ pos g *ℤ z
+times-minus g y z =
+    let a = above y in
+    let b = under y in
+    let c = above z in
+    let d = under z in
+    one-diff (pos g *ℤ (y -ℤ z)) (pos g *ℤ y -ℤ pos g *ℤ z) (g * (a + d)) (g * (b + c))
+    (diff-times g (y -ℤ z) (a + d) (b + c) (diff-minus y z a b c d (own-diff y) (own-diff z)))
+    (again (pos g *ℤ y -ℤ pos g *ℤ z) (g * a + g * d) (g * b + g * c) (g * (a + d)) (g * (b + c))
+    (diff-minus (pos g *ℤ y) (pos g *ℤ z) (g * a) (g * b) (g * c) (g * d) (diff-times g y a b (own-diff y)) (diff-times g z c d (own-diff z)))
+    (omega arith))
+
+pub times-times : (g t : ℕ) (z : ℤ) → pos t *ℤ (pos g *ℤ z) ≡ pos g *ℤ (pos t *ℤ z)
+times-times g t z =
+    let a = above z in
+    let b = under z in
+    one-diff (pos t *ℤ (pos g *ℤ z)) (pos g *ℤ (pos t *ℤ z)) (t * (g * a)) (t * (g * b))
+    (diff-times t (pos g *ℤ z) (g * a) (g * b) (diff-times g z a b (own-diff z)))
+    (again (pos g *ℤ (pos t *ℤ z)) (g * (t * a)) (g * (t * b)) (t * (g * a)) (t * (g * b))
+    (diff-times g (pos t *ℤ z) (t * a) (t * b) (diff-times t z a b (own-diff z))) (omega arith))
+
+pub times-pos : (g t : ℕ) (z : ℤ) → pos (g * t) *ℤ z ≡ pos g *ℤ (pos t *ℤ z)
+times-pos g t z =
+    let a = above z in
+    let b = under z in
+    one-diff (pos (g * t) *ℤ z) (pos g *ℤ (pos t *ℤ z)) (g * t * a) (g * t * b) (diff-times (g * t) z a b (own-diff z))
+    (again (pos g *ℤ (pos t *ℤ z)) (g * (t * a)) (g * (t * b)) (g * t * a) (g * t * b)
+    (diff-times g (pos t *ℤ z) (t * a) (t * b) (diff-times t z a b (own-diff z))) (omega arith))
+
+pub natural-times : (g : ℕ) (z : ℤ) → natural (pos g *ℤ z) ≡ g * natural z
+natural-times g (pos n) = natural-is (pos g *ℤ pos n) (g * n) (g * 0) (g * n) (diff-times g (pos n) n 0 (diff-pos n)) (omega arith)
+natural-times g (negsuc n) = cut (pos g *ℤ negsuc n) (g * suc n) (again (pos g *ℤ negsuc n) (g * 0) (g * suc n) 0 (g * suc n) (diff-times g (negsuc n) 0 (suc n) (omega arith)) (omega arith)) ∙ zero-out
+  where
+    cut : (z : ℤ) (b : ℕ) → Diff z 0 b → natural z ≡ 0
+    cut (pos m) b h = omega arith
+    cut (negsuc m) b h = refl
+
+    zero-out : 0 ≡ g * 0
+    zero-out = omega arith
+
+-- the order
+pub times-le : (g : ℕ) (y z : ℤ) → y ≤ℤ z → (pos g *ℤ y) ≤ℤ (pos g *ℤ z)
+times-le g y z h =
+    let a = above y in
+    let b = under y in
+    let c = above z in
+    let d = under z in
+    le-diff (pos g *ℤ y) (pos g *ℤ z) (g * a) (g * b) (g * c) (g * d) (diff-times g y a b (own-diff y)) (diff-times g z c d (own-diff z))
+    (omega (arith, mul-le-mul-left g (diff-le {y = y} {z = z} a b c d (own-diff y) (own-diff z) h)))
+
+pub times-neg : (g a : ℕ) → pos g *ℤ negℤ (pos a) ≡ negℤ (pos (g * a))
+times-neg g a =
+    one-diff (pos g *ℤ negℤ (pos a)) (negℤ (pos (g * a))) (g * 0) (g * a) (diff-times g (negℤ (pos a)) 0 a (diff-neg (pos a) a 0 (diff-pos a)))
+    (again (negℤ (pos (g * a))) 0 (g * a) (g * 0) (g * a) (diff-neg (pos (g * a)) (g * a) 0 (diff-pos (g * a))) (omega arith))

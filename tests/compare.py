@@ -53,7 +53,7 @@ def kinds_of(rng, some, rate_bytes):
     extreme = [files.extreme_case(rng, rate_bytes=rate_bytes) for _ in range(some(1_000))]
     yield "ends of the limits", in_bytes([*files.ends(rate_bytes), *files.largest_products(rate_bytes), *extreme])
     yield "near the borders", in_bytes(files.border_cases(rng, some(2_000), rate_bytes))
-    yield "wide brackets", in_bytes(case for aim in files.WIDTHS for _ in range(some(20))
+    yield "wide brackets", in_bytes(case for aim in files.WIDTHS for _ in range(max(1, some(20)))
                                     for case in files.climbed(rng, aim, 60, rate_bytes))
     yield "70 days, 120 and 60 flows", in_bytes(files.full_case(rng, rate_bytes) for _ in range(some(100)))
     damaged = [bad for days in (1, 3) for bad in files.damaged_once(files.all_fields(days, rate_bytes))]

@@ -19,7 +19,7 @@ import limits
 import programs
 import reference
 from compare import Comparison
-from reference import FORBIDDEN_BITS, ONE, REQUIRED_BITS, STEPS, UNITS, Case, Cursor, divide, encode, refuse_unless, sums
+from reference import FORBIDDEN_BITS, REQUIRED_BITS, STEPS, UNITS, Case, Cursor, divide, encode, refuse_unless, sums
 
 REWRITINGS, FINER, EXACTLY, DAMAGED = "rewritings", "seven decimals", "demand 3, exactly", "damaged"
 

@@ -37,10 +37,10 @@ def byte(value):
     return f"0x{value:02x}"
 
 
-def run_at(data, at):
-    """How often the two bytes at a place are there in a row."""
-    pair, count = data[at:at + 2], 0
-    while len(pair) == 2 and data[at + 2 * count:at + 2 * count + 2] == pair:
+def run_at(data, at, width):
+    """How often so many bytes at a place are there in a row."""
+    first, count = data[at:at + width], 0
+    while len(first) == width and data[at + width * count:at + width * (count + 1)] == first:
         count += 1
     return count
 
@@ -53,17 +53,18 @@ def concatenated(pieces):
     return " ++ ".join(parts) or "[]"
 
 
-def file_term(data):
-    """A list of bytes; where two bytes are there several times in a row, as `pairs`."""
+RUNS = {2: "pairs", 4: "quads"}  # by the number of bytes that are repeated
+
+
+def file_term(data, widths=(2,)):
+    """A list of bytes; where two bytes are there several times in a row, as `pairs`, and four, where that is asked for, as `quads`."""
     pieces, at = [], 0
     while at < len(data):
-        count = run_at(data, at)
-        if count >= SHORTEST_RUN:
-            pieces.append(f"pairs {count} {byte(data[at])} {byte(data[at + 1])}")
-            at += 2 * count
-        else:
-            pieces.append([byte(data[at])])
-            at += 1
+        counted = [(width, run_at(data, at, width)) for width in widths]
+        width, count = next(((width, count) for width, count in counted if count >= SHORTEST_RUN), (1, 1))
+        repeated = data[at:at + width]
+        pieces.append([byte(data[at])] if width == 1 else f"{RUNS[width]} {count} {' '.join(map(byte, repeated))}")
+        at += width * count
     return concatenated(pieces)
 
 
@@ -82,7 +83,7 @@ def given_term(case):
     """A case as it is handed in. `fieldsOf`, `amountsOf` and `shocksOf` take the numbers in order."""
     amounts, shocks = (f"{name}Of {' '.join(map(str, values))}" if any(values) else f"no{name.capitalize()}"
                        for name, values in (("amounts", case.amounts.values()), ("shocks", case.shocks.values())))
-    fields = f"fieldsOf {case.ufr} {argument(amounts)} {argument(shocks)} {case.heads} {case.pension_age} {case.mean_age}"
+    fields = f"fieldsOf {case.rate_bytes} {case.ufr} {argument(amounts)} {argument(shocks)} {case.heads} {case.pension_age} {case.mean_age}"
     lists = list_term(case.rates, integer), list_term(case.pension), list_term(case.bonds)
     return " ".join(["given", *map(argument, (fields, *lists))])
 
@@ -123,7 +124,7 @@ def case_term(case):
     """The case as a record, a field by its name."""
     deep = "    "
     days = "\n      ∷ ".join([day_term(day) for day in case.days] + ["[]"])
-    return record([("ufr", case.ufr), ("days", days), ("pension", long_list(case.pension, 12, "      ")),
+    return record([("rateBytes", case.rate_bytes), ("ufr", case.ufr), ("days", days), ("pension", long_list(case.pension, 12, "      ")),
                    ("bonds", long_list(case.bonds, 12, "      ")),
                    ("amounts", record([(a, case.amounts[a]) for a in AMOUNTS], deep)),
                    ("shocks", record([(x, case.shocks[x]) for x in SHOCKS], deep)),

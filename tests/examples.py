@@ -102,6 +102,21 @@ def past_20():
     return c1(bonds=[0] * 20 + [1_000_000], shocks=c1().shocks | {"up_shift": 1_000, "down_shift": 500})
 
 
+def finer():
+    """A fund with one four-byte day, no rate of which is a whole step, with both shifts, and another number in every field."""
+    return replace(up(), days=[[4_321 * t - 12_370 for t in range(1, 61)]], bonds=[9_876_543, 0, 45_678_912], rate_bytes=4)
+
+
+def rounded_off(case):
+    """A case of four-byte days with its rates rounded to the nearest step, in two bytes."""
+    return replace(case, days=[[(rate + 50) // 100 for rate in day] for day in case.days], rate_bytes=2)
+
+
+def before_rewriting():
+    """A small two-byte case whose rates are all unlike, with every optional field."""
+    return c1(ufr=4_321, days=[[7 * t - 100 for t in range(1, 61)]], bonds=[5], amounts=dict.fromkeys(AMOUNTS, 0) | {"currency": 258})
+
+
 def no_flows():
     """C1 with three pension flows and two bond flows of 0: Q is 0 on both sides."""
     return c1(pension=[0, 0, 0], bonds=[0, 0])

@@ -182,10 +182,11 @@ def four_map_rows():
 
 
 def four_rate_rows():
-    for day, term in ((1, 1), (1, 60), (2, 1), (2, 60)):
+    for term in (1, 60):
         for rate in (LEAST - 1, LEAST, MOST, MOST + 1):
-            days = put([FLAT, FLAT], day - 1, put(FLAT, term - 1, rate))
-            yield f"{rate}, day {day}, term {term}", TO_DAYS + four(*days)
+            yield f"{rate}, day 1, term {term}", TO_DAYS + four(put(FLAT, term - 1, rate))
+    for rate in (LEAST - 1, MOST + 1):
+        yield f"{rate}, day 2, term 60", TO_DAYS + four(FLAT, put(FLAT, 59, rate))
     for rate in (LEAST, MOST):
         yield f"{rate}, every term", TO_DAYS + four([rate] * 60)
     for rate in (-(1 << 31), (1 << 31) - 1):
@@ -265,10 +266,9 @@ QUICK = {
     "people": ["all at their limits", f"{HEADS + 1} heads"],
     "forwards": ["1 days, term 2: 12001", "2 days, term 3: 24000"],
     "order": ["3 before 9", "9 before 4", "4 before the missing rates", "12 before 2", "2 before 6"],
-    "four-counts": ["no count", "0", "71"],
-    "four-rates": [f"{LEAST - 1}, day 1, term 1", f"{LEAST}, day 1, term 1", f"{MOST}, day 1, term 1", f"{MOST + 1}, day 1, term 1",
-                   "short, and the first too high"],
-    "four-forwards": ["1 days, term 2: -200000", "1 days, term 2: -200001", "1 days, term 2: 1200000", "1 days, term 2: 1200001"],
+    "four-counts": ["no count", "71"],
+    "four-rates": [f"{LEAST - 1}, day 1, term 1", f"{MOST + 1}, day 1, term 1", "short, and the first too high"],
+    "four-forwards": ["1 days, term 2: -200001", "1 days, term 2: 1200000", "1 days, term 2: 1200001"],
     "four-order": ["3 before 9", "9 before 7", "12 before 4", "5 before 2", "2 before 6"],
 }
 

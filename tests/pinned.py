@@ -1,5 +1,5 @@
 """Writes numbers of tests/reference.py, tests/rolling.py and tests/months.py as computed statements about the definitions, in
-eleven files (PATHS below).
+thirteen files (PATHS below).
 
 Command line: python3 tests/pinned.py           writes the files
               python3 tests/pinned.py --check   ends with 1 if one of them is another
@@ -7,10 +7,12 @@ Command line: python3 tests/pinned.py           writes the files
 
 import os
 import sys
+from dataclasses import replace
 from fractions import Fraction
 from types import SimpleNamespace
 
 import examples
+import files
 import histories
 import limits
 import months
@@ -29,8 +31,8 @@ VERDICTS = {reference.DEKKINGSTEKORT: "Dekkingstekort", reference.RESERVETEKORT:
             reference.VRIJ_VERMOGEN: "VrijVermogen"}  # of the exact working
 
 WRITTEN = """\
--- tests/pinned.py wrote this file, from an implementation in Python that was written from the paper alone (tests/reference.py): change
--- that, not this. Assumes nothing.
+-- tests/pinned.py wrote this file, from an implementation in Python that was written from the papers and, for request Six, from the
+-- readings that its first lines name (tests/reference.py): change that, not this. Assumes nothing.
 """
 
 PINNED_HEAD = """\
@@ -125,6 +127,7 @@ use Rattle.model.proofs.Computing.{text, all}
 use Rattle.model.proofs.Pinned.{bentCurve, upFile, downFile, deepestFile, deepestCase, long}
 use Rattle.model.proofs.SavedCases.{small}
 use Rattle.model.proofs.RollingCases.{flatDays}
+use Rattle.model.proofs.FourByteCases.{finerCase}
 """
 
 SAVED_HEAD = """\
@@ -251,7 +254,67 @@ use Rattle.model.proofs.Computing.{pairs, text, all}
 use Rattle.model.proofs.MonthsCases.{foundHistory, noUfrHistory, ringMonths, plainFile, ownUfrFile}
 """
 
+FOUR_HEAD = """\
+-- Rates in four bytes: refusals of files and of cases, the part that holds the rates, the curves and figures of a fund none of whose rates is
+-- a whole step, what is saved, rewritings, and windows and months with such a case, as computed statements about the definitions. The whole
+-- table of refusals is in the crate `refusals`.
+""" + WRITTEN + """\
+use Prim.Native.Nat.{ℕ, zero, suc}
+use Prim.Native.String.{String}
+use mathlib.Core.Path.{_≡_, refl}
+use mathlib.Core.Bool.{true, false}
+use mathlib.Core.List.{List, [], _∷_, _++_, map}
+use lib.Dec.{lit<}
+use lib.ListN.{replicate, take}
+use lib.IntN.{pos, negℤ}
+use Rattle.arith.specs.Rounding.{low, high}
+use Rattle.model.specs.Case.{FileCase, withDays, perStep}
+use Rattle.model.specs.Layout.{fileOf, caseOf}
+use Rattle.model.specs.Refusals.{forwardsRight, refusal, daysAt, dayCount, ratesPart}
+use Rattle.model.specs.Saving.{given, caseRefusal, shortest, saveRefusal, saveAnswer, savedAfter}
+use Rattle.model.specs.Fraction.{_//_, _≐_}
+use Rattle.model.specs.Curve.{base, up, down, curve, P}
+use Rattle.model.specs.Exact as Exact
+use Rattle.model.specs.Rounded as Rounded
+use Rattle.model.specs.Rolling.{emptyWindow, windowRefusal, windowValuation, windowFactorsAfter}
+use Rattle.model.specs.Months.{withUfrField, monthsCase}
+use Rattle.model.specs.FourBytes.{rewritten, rewrittenFile}
+use Rattle.model.specs.Listing.{ascii, word, listing}
+use Rattle.model.specs.declared.figures.Verdict.the-variants.{Dekkingstekort}
+use Rattle.model.specs.declared.saved.Saved.the-variants.{Written, Refused}
+use Rattle.model.proofs.Computing.{pairs, text, all}
+use Rattle.model.proofs.SavedCases.{amountsOf, shocksOf, fieldsOf, noAmounts, noShocks, small}
+use Rattle.model.proofs.RollingCases.{windowOf, flatDays}
+use Rattle.model.proofs.MonthsCases.{foundHistory}
+"""
+
+FOUR_TABLE_HEAD = """\
+-- Rates in four bytes: the refusals of files at each limit, on both sides, and in each place of the order of checks; those with months; and
+-- the listings of a file, of the same rewritten, and of a fund none of whose rates is a whole step. All of it as computed statements about
+-- the definitions. The days are the last field: a rate that passes 5 is shown by what comes behind it, 0 or 6.
+""" + WRITTEN + """\
+use Prim.Native.Nat.{ℕ}
+use Prim.Native.String.{String}
+use mathlib.Core.Path.{_≡_, refl}
+use mathlib.Core.List.{List, [], _∷_, _++_, map}
+use lib.ListN.{replicate, take}
+use lib.IntN.{pos, negℤ}
+use Rattle.model.specs.Refusals.{refusal, ratesPart}
+use Rattle.model.specs.Saving.{given}
+use Rattle.model.specs.Buffers.{valuationOf}
+use Rattle.model.specs.Rolling.{emptyWindow, windowRefusal, windowRatesAfter}
+use Rattle.model.specs.Months.{monthsRefusal}
+use Rattle.model.specs.FourBytes.{rewrittenFile}
+use Rattle.model.specs.Listing.{listing}
+use Rattle.model.proofs.Computing.{pairs, text, all}
+use Rattle.model.proofs.SavedCases.{fieldsOf, noAmounts, noShocks}
+use Rattle.model.proofs.RollingCases.{windowOf, flatDays}
+use Rattle.model.proofs.MonthsCases.{foundHistory}
+use Rattle.model.proofs.FourByteCases.{quads, finerFile, finerCase, smallFour, oldFile, newFile}
+"""
+
 TITLES = {
+    "finer": "A fund with one four-byte day, no rate of which is a whole step, and another number in every field.",
     "bent": "A bent curve of three days: the rates rise, fall, rise and fall with the term, and the short ones are negative.",
     "up": "A fund with another number in every field, whose bonds are longer than its pensions: the up curve decides S1.",
     "down": "A fund with another number in every field, whose pensions outweigh its bonds: the down curve decides S1. S5 exceeds the credit.",
@@ -493,17 +556,17 @@ def listed(rows):
     return "\n    ∷ ".join([f"{term}  -- {label(what)}" for what, term in rows] + ["[]"])
 
 
-def group_statement(name, what, rows):
+def group_statement(name, what, rows, widths=(2,)):
     """The files of a group, and the list of their refusals."""
-    files = listed([(row, argument(file_term(data))) for row, data in rows])
+    files = listed([(row, argument(file_term(data, widths))) for row, data in rows])
     numbers = short_list([refusal(data) for _, data in rows])
     return (definition(f"{name}Files", "List (List ℕ)", files, what)
             + f"\n{computed(f'{name}-refusals', f'map refusal {name}Files ≡ {numbers}')}")
 
 
-def part_statement(days):
+def part_statement(days, rate_bytes=2):
     """The rates' part of a file that has a UFR, by its content."""
-    data = encode(examples.c1(ufr=4_321, days=days, amounts=dict.fromkeys(reference.AMOUNTS, 0)), True, False, False)
+    data = encode(examples.c1(ufr=4_321, days=days, amounts=dict.fromkeys(AMOUNTS, 0), rate_bytes=rate_bytes), True, False, False)
     offset, length = reference.rates_part(data)
     return (definition("partFile", "List ℕ", file_term(data), "A file with a UFR, and the part of it that holds the rates.")
             + f"\n{computed('rates-part', f'ratesPart partFile ≡ {file_term(data[offset:offset + length])}')}")
@@ -528,12 +591,12 @@ def maker(name, kinds, fields, comment):
 def makers():
     """The records of a case, each number by its name."""
     named = lambda names, letters="abcdefghijkl": list(zip(names, letters))
-    people = record(named(PEOPLE, "def"), "    ")
+    people = record(named(PEOPLE, "efg"), "    ")
     return [maker("amountsOf", ["ℕ"] * 8 + ["Amounts"], named(AMOUNTS), "eight amounts, in document 01's order"),
             maker("shocksOf", ["ℕ"] * 12 + ["Shocks"], named(SHOCKS), "twelve shocks, likewise"),
-            maker("fieldsOf", ["ℕ", "Amounts", "Shocks", "ℕ", "ℕ", "ℕ", "CaseFields"],
-                  [("ufr", "a"), ("amounts", "b"), ("shocks", "c"), ("people", people)],
-                  "UFR, amounts, shocks, head count, pension age and mean age"),
+            maker("fieldsOf", ["ℕ", "ℕ", "Amounts", "Shocks", "ℕ", "ℕ", "ℕ", "CaseFields"],
+                  [("rate_bytes", "a"), ("ufr", "b"), ("amounts", "c"), ("shocks", "d"), ("people", people)],
+                  "the number of bytes of a rate, UFR, amounts, shocks, head count, pension age and mean age"),
             definition("noAmounts", "Amounts", "amountsOf" + " 0" * 8), definition("noShocks", "Shocks", "shocksOf" + " 0" * 12)]
 
 
@@ -750,7 +813,9 @@ def window_argument(window):
 
 
 def case_argument(given):
-    return "small" if given == to_save.SMALL else argument(given_term(given))
+    """By its name, if it has one."""
+    names = [name for name, one in (("small", to_save.SMALL), ("smallFour", to_save.SMALL_FOUR)) if one == given]
+    return names[0] if names else argument(given_term(given))
 
 
 def window_definitions():
@@ -1043,6 +1108,186 @@ def months_refused():
                       untouched_statement("untouched-on-19", rows["19, from another start"])])
 
 
+# ---------------------------------------------------------------- crates/model/proofs/FourByteCases.antt
+
+QUADS = """\
+-- the same four bytes, n times
+abbrev pub quads : ℕ → ℕ → ℕ → ℕ → ℕ → List ℕ
+quads zero a b c d = []
+quads (suc n) a b c d = a ∷ b ∷ c ∷ d ∷ quads n a b c d
+"""
+BOTH = 2, 4  # widths of the runs in the bytes of such files
+
+
+def four_term(data):
+    return file_term(data, BOTH)
+
+
+def finer_statements():
+    """The file and its case, both ways; where its rates stand; its curves, with a shift times 100; its figures, and those of its rates rounded
+    to steps, which are others."""
+    case = examples.finer()
+    data = encode(case, True, True, True)
+    offset, length = reference.rates_part(data)
+    out = read_statements("finer", case, data) + [case_statement("finer")]
+    out.append(computed("finer-part", f"daysAt finerFile ≡ {offset - 1}", f"dayCount finerFile ≡ {len(case.days)}",
+                        f"ratesPart finerFile ≡ {file_term(data[offset:offset + length])}"))
+    return out + four_curves("finer", "finerCase", case) + finer_figures(case) + two_day_statements(case)
+
+
+def four_curves(name, term, case):
+    """N, the UFR and P(t) of the base, the up and the down curve: a shift counts 100 units."""
+    out = []
+    for move, shift in reference.shifts(case).items():
+        on, (N, P) = f"(curve {term} {move})", reference.points(case, shift)
+        out.append(computed(f"{name}-{move}-points", f"{on} .N ≡ {N}", f"{on} .ufr ≡ {case.ufr}", *(f"P {on} {t} ≡ {P[t]}" for t in (1, 20, 60))))
+    return out
+
+
+def finer_figures(case):
+    rounded, exact, other = Rounded(case), Exact(case), Rounded(examples.rounded_off(case))
+    figure = lambda which, of, worked: both_ends(f"Rounded.{which} {of}{' base' if which in 'LB' else ''} {{e}}", getattr(worked, which))
+    assert all(getattr(rounded, name) != getattr(other, name) for name in ("L", "B", "S1", "S")) and rounded.factors[21] != other.factors[21]
+    days = short_list(map(lambda day: argument(list_term(day, integer)), examples.rounded_off(case).days))
+    out = [computed(f"finer-{name}", *figure(name, "finerCase", rounded)) for name in ("L", "B", "S1", "S")]
+    out += [computed(f"finer-factor-{t}", *both_ends(f"Rounded.factor (curve finerCase base) {{e}} {t}", rounded.factors[t])) for t in (1, 21)]
+    out.append(computed_fraction("finer-exact-factor-1", "Exact.factor (curve finerCase base) 1", exact.base.factor(1)))
+    out += [computed_fraction(f"finer-exact-{name}", f"Exact.{name} finerCase base", getattr(exact, name)) for name in "LB"]
+    out.append(verdict_statement("finer", "finerCase", case))
+    out.append(definition("roundedOff", "FileCase", f"withDays 2 ({days}) finerCase", "The same fund with its rates rounded to steps: other figures."))
+    out += [computed(f"roundedOff-{name}", *figure(name, "roundedOff", other)) for name in ("L", "S1")]
+    return out + [computed("roundedOff-factor-21", *both_ends("Rounded.factor (curve roundedOff base) {e} 21", other.factors[21]))]
+
+
+def two_day_statements(case):
+    """What a step adds to a sum, of one day and of two, in both days fields; refusal 6 by it; and the curves of two days."""
+    days = [examples.finer().days[0], [1] * 60]
+    two = replace(case, days=days)
+    steep = limits.steep_days(1, 2, 1_200_001)
+    term = lambda made: short_list(argument(list_term(day, integer)) for day in made)
+    told = lambda made, per_step: f"forwardsRight {per_step} ({term(made)}) ≡ {'true' if per_step_right(made, per_step) else 'false'}"
+    return [definition("twoDays", "FileCase", f"withDays 4 ({term(days)}) finerCase", "The same fund with a second day, a unit at every term."),
+            computed("per-step", f"perStep finerCase ≡ {case.per_step}", f"perStep twoDays ≡ {two.per_step}",
+                     f"perStep roundedOff ≡ {examples.rounded_off(case).per_step}"),
+            computed("forwards-per-step", told(steep, 100), told(steep, 101)), *four_curves("two-days", "twoDays", two)]
+
+
+def per_step_right(days, per_step):
+    """Refusal 6 by what a step adds to a sum."""
+    return reference.growths_within_limits(days, Fraction(per_step, len(days)))
+
+
+def four_case_groups():
+    yield "rate-bytes", "No rate has so many bytes: 3.", to_save.rate_bytes_rows()
+    yield "four-limits", "Every number at its limits; then rates at theirs, and a unit past them.", [*to_save.end_rows(4), *to_save.four_rate_rows()]
+    yield "four-forwards", "Error 6, at its limits times 100 and one past them.", to_save.forward_rows(4)
+    yield "four-case-order", "The order of checks: two faults each.", to_save.order_rows(to_save.SMALL_FOUR, to_save.FOUR_BYTE_FAULTS)
+
+
+def four_short_rows():
+    """Without the optional fields, and with all of them, in four bytes."""
+    rows = list(to_save.omission_rows())
+    return [(what, replace(given, rates=to_save.flat(-50_000, 1), rate_bytes=4)) for what, given in (rows[0], rows[-1])]
+
+
+def four_saved_statements():
+    """The shortest bytes, those of the fund among them, from which its case is read back (finer-case); the answer and the buffer, and 14 after
+    the case's own numbers."""
+    rows, small, steep = four_short_rows(), to_save.SMALL_FOUR, to_save.steep(1, 2, 1_200_001, 4)
+    three = replace(small, rate_bytes=3)
+    length = len(reference.shortest(small))
+    rooms = range(length - 1, length + 1)
+    pattern = (b"\xaa\x55" * length)[:length + 2]
+    refused = lambda name, given: f"saveRefusal {name} 0 ≡ {reference.save(given, b'').refusal}"
+    return [cases_definition("fourShortCases", rows, "The shortest form keeps the days field."),
+            computed("four-shortest", f"map shortest fourShortCases ≡ {short_list(argument(four_term(reference.shortest(given))) for _, given in rows)}"),
+            definition("smallFour", "FileCase", given_term(small), f"A case of {length} bytes."),
+            definition("fourSteep", "FileCase", given_term(steep), "A case that 6 refuses."),
+            definition("threeBytes", "FileCase", given_term(three), "A case that 3 refuses."),
+            computed("four-saved", "shortest finerCase ≡ finerFile"),
+            computed("four-rooms", *(f"saveRefusal smallFour {room} ≡ {reference.save(small, bytes(room)).refusal}" for room in rooms),
+                     refused("fourSteep", steep), refused("threeBytes", three)),
+            computed("four-answers", *(answer_equation("smallFour", small, room) for room in rooms), answer_equation("threeBytes", three, length)),
+            computed("four-saved-after", after_equation("smallFour", small, pattern), after_equation("threeBytes", three, pattern))]
+
+
+def rewriting_statements():
+    """A case and its rewriting have different bytes, which are the file and the rewritten file."""
+    old = examples.before_rewriting()
+    new, old_file = files.rewritten_case(old), encode(old, True, True, True)
+    return [case_definition("oldCase", old, "A case with two-byte days, and the same rewritten."), case_definition("newCase", new, "its rewriting"),
+            definition("oldFile", "List ℕ", file_term(old_file), "their files"), definition("newFile", "List ℕ", file_term(files.rewritten(old_file))),
+            computed("rewritten-case", "rewritten oldCase ≡ newCase"),
+            computed("different-bytes", "shortest oldCase ≡ oldFile", "shortest newCase ≡ newFile"),
+            computed("rewritten-file", "rewrittenFile oldFile ≡ newFile")]
+
+
+def four_window_statements():
+    """Refusals of valuations with a case of four-byte days; and the listing and the first factor of the fund with the window's days, which are
+    two-byte days."""
+    rows = [value_row(*row) for row in windows.quick_four_value_rows()]
+    lines, into, factors, _ = finer_in_window()
+    return [*number_table("four-value", rows, "Its own rates and growths by its own step."),
+            definition("inWindowListing", "List String", strings(lines), "The fund with the days of a window."),
+            computed("in-window-listing", "listing (windowValuation flatDays finerCase 240 240) ≡ text inWindowListing"),
+            computed("in-window-factors", f"take 2 (windowFactorsAfter {into}) ≡ {list_term(factors[:2])}")]
+
+
+def finer_in_window():
+    """Its listing; the arguments of a valuation into buffers all of whose entries are 7, and both buffers afterwards."""
+    given = reference.given_of(examples.finer())
+    case = rolling.case_with(given, rolling.days_held(windows.FLAT))
+    lines = reference.listing(encode(case, *reference.needed_fields(case))).decode().splitlines()
+    valued = rolling.value(windows.FLAT, given, [7] * 240, [7] * 240)
+    return lines, f"flatDays finerCase {argument(list_term([7] * 240))} {argument(integers([7] * 240))}", valued.factors, valued.rates
+
+
+def in_window_rates():
+    """The zero rates of term 1, in steps."""
+    _, into, _, rates = finer_in_window()
+    return computed("in-window-rates", f"take 2 (windowRatesAfter {into}) ≡ {integers(rates[:2])}")
+
+
+def four_month_statements():
+    """The UFR goes behind the map, of a file with a UFR and of one without."""
+    ufr, own = months.rounded_ufr(histories.FOUND), encode(examples.finer(), True, True, True)
+    plain = reference.shortest(to_save.SMALL_FOUR)
+    field = lambda name, data: f"withUfrField {ufr} {name} ≡ {four_term(months.with_ufr_field(data, ufr))}"
+    return [computed("four-ufr-fields", field("finerFile", own), field(argument(four_term(plain)), plain)),
+            computed("four-months-case", f"monthsCase finerFile foundHistory .ufr ≡ {ufr}",
+                     f"monthsCase finerFile foundHistory .rateBytes ≡ {examples.finer().rate_bytes}")]
+
+
+def four_byte_cases():
+    groups = [group_statement(*group, BOTH) for group in limits.quick(limits.four_byte_groups())]
+    cases = [statement for name, what, rows in four_case_groups() for statement in case_group(name, what, list(rows))]
+    return "\n".join([FOUR_HEAD, QUADS, *groups, *finer_statements(), *cases, *four_saved_statements(), *rewriting_statements(),
+                      *four_window_statements(), *four_month_statements()])
+
+
+# ---------------------------------------------------------------- crates/refusals/proofs/FourBytes.antt
+
+def plain_rewriting():
+    """The rewritten file of one without optional fields: three days, and every rate limit in it."""
+    case = replace(examples.before_rewriting(), ufr=reference.DEFAULT_UFR, bonds=[], amounts=dict.fromkeys(AMOUNTS, 0))
+    plain = encode(replace(case, days=[*case.days, [-1_000] * 60, [10_000] * 60]), False, False, False)
+    return computed("plain-rewriting", f"rewrittenFile {argument(four_term(plain))} ≡ {four_term(files.rewritten(plain))}")
+
+
+def four_refused():
+    old = encode(examples.before_rewriting(), True, True, True)
+    named = {"finer": encode(examples.finer(), True, True, True), "old": old, "new": files.rewritten(old)}
+    assert reference.listing(named["old"]) == reference.listing(named["new"])
+    return "\n".join([FOUR_TABLE_HEAD, *(group_statement(*group, BOTH) for group in limits.four_byte_groups()),
+                      part_statement([[1_237 * t - 20_000 for t in range(1, 61)], [300] * 60], 4),
+                      *number_table("four-months", [months_row(*row) for row in histories.four_value_rows()],
+                                    "The order of checks of a valuation with months."),
+                      *number_table("four-windows", [value_row(*row) for row in windows.four_value_rows()],
+                                    "Valuations of a window: the case's own rates and growths by its own step, then those of the window's days."),
+                      in_window_rates(), plain_rewriting(),
+                      *(statement for name, data in named.items() for statement in listing_statement(name, data))])
+
+
 # ---------------------------------------------------------------- crates/refusals/proofs/Accepted.antt
 
 def accepted():
@@ -1057,9 +1302,10 @@ def accepted():
 
 # ---------------------------------------------------------------- crates/pinned/proofs/Files.antt
 
-def rate_statement(rounded, t, of=("low", "high")):
+def rate_statement(name, on, rounded, t, of=("low", "high")):
+    """The zero rate of a term, on the curve that is called so."""
     bracket = dict(zip(("low", "high"), rounded.zero_rates[t]))
-    return computed(f"bent-zero-rate-{t}", *(f"Rounded.zeroRate bentCurve {end} {t} ≡ {integer(bracket[end])}" for end in of))
+    return computed(f"{name}-zero-rate-{t}", *(f"Rounded.zeroRate {on} {end} {t} ≡ {integer(bracket[end])}" for end in of))
 
 
 def listing_statement(name, data):
@@ -1093,23 +1339,26 @@ def window_rates():
     return computed("window-rates", f"take 2 (windowRatesAfter {into}) ≡ {list_term(rates[:2], integer)}")
 
 
-def files():
+def pinned_files():
     bent = Rounded(examples.bent())
     out = [FILES_HEAD]
     for name, case in (("up", examples.up()), ("down", examples.down()), ("deepest", examples.deepest())):
         out += listing_statement(name, encode(case, True, True, True))
     for t in (40, 60, 61, 120):
         out.append(computed(f"bent-factor-{t}", *both_ends(f"Rounded.factor bentCurve {{e}} {t}", bent.factors[t])))
-    out += [rate_statement(bent, 1), rate_statement(bent, 2), rate_statement(bent, 3), rate_statement(bent, 21, ("high",))]
-    return "\n".join(out + shifted_figures() + deepest_figures() + [window_rates()])
+    out += [rate_statement("bent", "bentCurve", bent, t) for t in (1, 2, 3)] + [rate_statement("bent", "bentCurve", bent, 21, ("high",))]
+    # zero rates count steps, of four-byte days too
+    finer = [rate_statement("finer", "(curve finerCase base)", Rounded(examples.finer()), t) for t in (1, 2)]
+    return "\n".join(out + shifted_figures() + deepest_figures() + [window_rates(), *finer])
 
 
 PATHS = {"crates/model/proofs/Pinned.antt": pinned, "crates/model/proofs/Refused.antt": refused_quickly,
          "crates/model/proofs/SavedCases.antt": saved, "crates/model/proofs/SearchCases.antt": search_cases,
          "crates/model/proofs/RollingCases.antt": rolling_cases, "crates/model/proofs/MonthsCases.antt": months_cases,
-         "crates/pinned/proofs/Files.antt": files, "crates/refusals/proofs/Accepted.antt": accepted,
+         "crates/pinned/proofs/Files.antt": pinned_files, "crates/refusals/proofs/Accepted.antt": accepted,
          "crates/refusals/proofs/Refused.antt": refused, "crates/refusals/proofs/Rolling.antt": rolling_refused,
-         "crates/refusals/proofs/Months.antt": months_refused}
+         "crates/refusals/proofs/Months.antt": months_refused, "crates/model/proofs/FourByteCases.antt": four_byte_cases,
+         "crates/refusals/proofs/FourBytes.antt": four_refused}
 
 
 def others():

@@ -16,6 +16,7 @@ import compare_rates
 import examples
 import files
 import limits
+import pinned
 import programs
 import reference
 from compare import Comparison
@@ -442,6 +443,42 @@ class Made(unittest.TestCase):
         for fine, old in zip(case.days, examples.up().days):
             self.assertTrue(all(abs(rate - 100 * before) < 50 for rate, before in zip(fine, old)))
             self.assertGreater(len({rate % 100 for rate in fine}), 30)
+
+
+class Statements(unittest.TestCase):
+    """The statements that tests/pinned.py writes about four-byte days are others for each wrong working, limit and map."""
+
+    OTHERS = [("points", wrong) for wrong in (shift_in_units, shift_of_one_day, N_of_two_bytes, mean_in_steps, rates_in_steps)]
+    OTHERS += [("rate_bytes_in", wrong) for wrong in (any_bit, bit_1_counts)]
+    OTHERS += [("rates_within_limits", limits_by(least, most)) for least, most in (
+        (-100_001, 1_000_000), (-99_999, 1_000_000), (-100_000, 1_000_001), (-100_000, 999_999))]
+    OTHERS += [("growths_within_limits", growths_by(least, most)) for least, most in (
+        (-200_001, 1_200_000), (-199_999, 1_200_000), (-200_000, 1_200_001), (-200_000, 1_199_999))]
+    OTHERS += [("FORBIDDEN_BITS", FORBIDDEN_BITS ^ 1 << bit) for bit in range(8, 16)]
+
+    @staticmethod
+    def written():
+        """None where the numbers contradict one another."""
+        try:
+            return pinned.four_byte_cases(), pinned.four_refused()
+        except AssertionError:
+            return None
+
+    def test_others(self):
+        right = self.written()
+        self.assertIsNotNone(right)
+        for name, other in self.OTHERS:
+            with self.subTest(name, other=other), mock.patch.object(reference, name, other):
+                self.assertNotEqual(self.written(), right)
+
+    def test_seventh_decimal(self):
+        """No rate of the fund is a whole step, and rounding them to steps changes its factors and figures."""
+        case = examples.finer()
+        self.assertTrue(all(rate % 100 for day in case.days for rate in day))
+        fine, rounded = reference.Rounded(case), reference.Rounded(examples.rounded_off(case))
+        for name in ("L", "B", "S1", "S"):
+            self.assertNotEqual(getattr(fine, name), getattr(rounded, name))
+        self.assertTrue(all(fine.factors[t] != rounded.factors[t] for t in range(1, 121)))
 
 
 if __name__ == "__main__":

@@ -1020,7 +1020,7 @@ class LimitRows(unittest.TestCase):
         """A rate that passes 5 is refused by 6, or by nothing."""
         self.assertEqual(self.refusals("four-map"), [1] + [3] * 13 + [1, 3])
         self.assertEqual(self.refusals("four-counts"), [1, 4, 1, 1, 4, 4])
-        self.assertEqual(self.refusals("four-rates"), [5, 0, 6, 5, 5, 6, 6, 5] * 2 + [0, 0, 5, 5, 1, 1])
+        self.assertEqual(self.refusals("four-rates"), [5, 0, 6, 5, 5, 6, 6, 5, 5, 5, 0, 0, 5, 5, 1, 1])
         self.assertEqual(self.refusals("four-forwards"), [0, 6] * 8)
         self.assertEqual(self.refusals("four-order"), [3, 9, 7, 8, 7, 8, 10, 11, 12, 12, 12, 4, 5, 2, 6, 2, 0])
 

@@ -1,7 +1,7 @@
 -- Numbers of case files and cases as computed statements about the definitions: what an edit of a definition is held against. What takes
 -- longer to compute is in the crates `pinned` and `refusals`.
--- tests/pinned.py wrote this file, from an implementation in Python that was written from the paper alone (tests/reference.py): change
--- that, not this. Assumes nothing.
+-- tests/pinned.py wrote this file, from an implementation in Python that was written from the papers and, for request Six, from the
+-- readings that its first lines name (tests/reference.py): change that, not this. Assumes nothing.
 use Prim.Native.Nat.{ℕ}
 use mathlib.Core.Path.{_≡_, refl}
 use mathlib.Core.Bool.{true, false}

@@ -1,7 +1,7 @@
 -- The refusals of files at the limits and in the order of checks: those rows of the table that are quick to compute. The whole table is in
 -- the crate `refusals`.
--- tests/pinned.py wrote this file, from an implementation in Python that was written from the paper alone (tests/reference.py): change
--- that, not this. Assumes nothing.
+-- tests/pinned.py wrote this file, from an implementation in Python that was written from the papers and, for request Six, from the
+-- readings that its first lines name (tests/reference.py): change that, not this. Assumes nothing.
 use Prim.Native.Nat.{ℕ}
 use mathlib.Core.Path.{_≡_, refl}
 use mathlib.Core.List.{List, [], _∷_, _++_, map}

@@ -1,7 +1,7 @@
 -- Rolling windows: which are right, the refusals of a change and of a valuation, the window after a change, and what a valuation leaves in
 -- the lent buffers, as computed statements about the definitions.
--- tests/pinned.py wrote this file, from an implementation in Python that was written from the paper alone (tests/rolling.py): change
--- that, not this. Assumes nothing.
+-- tests/pinned.py wrote this file, from an implementation in Python that was written from the papers and, for request Six, from the
+-- readings that its first lines name (tests/rolling.py): change that, not this. Assumes nothing.
 use Prim.Native.Nat.{ℕ}
 use Prim.Native.String.{String}
 use mathlib.Core.Path.{_≡_, refl}
@@ -184,9 +184,9 @@ queued-days = (refl, refl)
 abbrev pub valueRefusals : List ℕ
 valueRefusals =
     windowRefusal (windowOf 2 0 (replicate 60 (pos 100) ++ replicate 60 (pos 101) ++ replicate 4080 (negℤ (pos 32768))) ((pos 202 ∷ []) ++ replicate 59 (pos 201))) small 239 240  -- 27 before 13
-    ∷ windowRefusal flatDays (given (fieldsOf 5001 noAmounts noShocks 1 0 0) (replicate 60 (pos 0)) (7 ∷ []) []) 239 240  -- 13 before 9
-    ∷ windowRefusal flatDays (given (fieldsOf 4200 noAmounts noShocks 0 0 0) ((pos 0 ∷ []) ++ replicate 59 (pos 6001)) (7 ∷ []) []) 240 240  -- 12 before 6
-    ∷ windowRefusal (windowOf 0 0 (replicate 60 (pos 100) ++ replicate 60 (pos 101) ++ replicate 4080 (negℤ (pos 32768))) (replicate 60 (pos 0))) (given (fieldsOf 4200 noAmounts noShocks 1 0 0) ((pos 0 ∷ []) ++ replicate 59 (pos 6001)) (7 ∷ []) []) 240 240  -- 6 before 4 of the window
+    ∷ windowRefusal flatDays (given (fieldsOf 3 4200 noAmounts noShocks 1 0 0) (replicate 60 (pos 0)) (7 ∷ []) []) 239 240  -- 13 before 3
+    ∷ windowRefusal flatDays (given (fieldsOf 2 4200 noAmounts noShocks 0 0 0) ((pos 0 ∷ []) ++ replicate 59 (pos 6001)) (7 ∷ []) []) 240 240  -- 12 before 6
+    ∷ windowRefusal (windowOf 0 0 (replicate 60 (pos 100) ++ replicate 60 (pos 101) ++ replicate 4080 (negℤ (pos 32768))) (replicate 60 (pos 0))) (given (fieldsOf 2 4200 noAmounts noShocks 1 0 0) ((pos 0 ∷ []) ++ replicate 59 (pos 6001)) (7 ∷ []) []) 240 240  -- 6 before 4 of the window
     ∷ windowRefusal (windowOf 0 0 ((pos 1 ∷ []) ++ replicate 59 (pos 6001) ++ replicate 60 (pos 101) ++ replicate 4080 (negℤ (pos 32768))) (replicate 60 (pos 0))) small 240 240  -- 4 of the window before 6 of the window
     ∷ windowRefusal (windowOf 1 0 ((pos 1 ∷ []) ++ replicate 59 (pos 6001) ++ replicate 60 (pos 101) ++ replicate 4080 (negℤ (pos 32768))) ((pos 1 ∷ []) ++ replicate 59 (pos 6001))) small 240 240  -- 6 of the window
     ∷ windowRefusal flatDays small 240 240  -- none

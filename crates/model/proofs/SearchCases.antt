@@ -1,7 +1,7 @@
 -- The search for a zero rate: the step that is tested next, what a test leaves, and the steps left after each test, as
 -- computed statements about the definitions.
--- tests/pinned.py wrote this file, from an implementation in Python that was written from the paper alone (tests/reference.py): change
--- that, not this. Assumes nothing.
+-- tests/pinned.py wrote this file, from an implementation in Python that was written from the papers and, for request Six, from the
+-- readings that its first lines name (tests/reference.py): change that, not this. Assumes nothing.
 use Prim.Native.Nat.{ℕ, _-_, _*_}
 use mathlib.Core.Path.{_≡_, refl}
 use mathlib.Core.Bool.{Bool, true, false}

@@ -1,6 +1,6 @@
 -- The listings of whole case files, and what takes longer to compute of a curve, as computed statements about the definitions.
--- tests/pinned.py wrote this file, from an implementation in Python that was written from the paper alone (tests/reference.py): change
--- that, not this. Assumes nothing.
+-- tests/pinned.py wrote this file, from an implementation in Python that was written from the papers and, for request Six, from the
+-- readings that its first lines name (tests/reference.py): change that, not this. Assumes nothing.
 use Prim.Native.String.{String}
 use mathlib.Core.Path.{_≡_, refl}
 use mathlib.Core.List.{List, [], _∷_}
@@ -19,6 +19,7 @@ use Rattle.model.proofs.Computing.{text, all}
 use Rattle.model.proofs.Pinned.{bentCurve, upFile, downFile, deepestFile, deepestCase, long}
 use Rattle.model.proofs.SavedCases.{small}
 use Rattle.model.proofs.RollingCases.{flatDays}
+use Rattle.model.proofs.FourByteCases.{finerCase}
 
 abbrev pub upListing : List String
 upListing =
@@ -163,3 +164,13 @@ deepest-down-B = (refl, refl)
 window-rates : take 2 (windowRatesAfter flatDays small (replicate 240 7) (replicate 240 (pos 7))) ≡ (pos 100 ∷ pos 101 ∷ [])
 unfolding all
 window-rates = refl
+
+finer-zero-rate-1 : (Rounded.zeroRate (curve finerCase base) low 1 ≡ negℤ (pos 81))
+    × (Rounded.zeroRate (curve finerCase base) high 1 ≡ negℤ (pos 80))
+unfolding all
+finer-zero-rate-1 = (refl, refl)
+
+finer-zero-rate-2 : (Rounded.zeroRate (curve finerCase base) low 2 ≡ negℤ (pos 38))
+    × (Rounded.zeroRate (curve finerCase base) high 2 ≡ negℤ (pos 37))
+unfolding all
+finer-zero-rate-2 = (refl, refl)

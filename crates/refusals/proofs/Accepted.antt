@@ -1,6 +1,6 @@
 -- Case files that are accepted, and the cases that they hold, as computed statements about the definitions.
--- tests/pinned.py wrote this file, from an implementation in Python that was written from the paper alone (tests/reference.py): change
--- that, not this. Assumes nothing.
+-- tests/pinned.py wrote this file, from an implementation in Python that was written from the papers and, for request Six, from the
+-- readings that its first lines name (tests/reference.py): change that, not this. Assumes nothing.
 use Prim.Native.Nat.{ℕ}
 use mathlib.Core.Path.{_≡_, refl}
 use mathlib.Core.List.{List, [], _∷_, _++_}

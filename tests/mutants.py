@@ -55,7 +55,7 @@ SAME = os.path.join(ROOT, "tests", "mutants_same.txt")
 # The files of definitions that a reader must believe, by crate. Part of `host` is not here: no token of its one definition has a wrong edit.
 DEFINITIONS = {
     "arith": "Rounding Root",
-    "model": "Constants Numbers Case Limits Fields Layout Refusals Saving Fraction Brackets Curve Held Exact Rounded Bisection Margins Demand3 Buffers Rolling Months Window Listing",
+    "model": "Constants Numbers Case Limits Fields Layout Refusals Saving Fraction Brackets Curve Held Exact Rounded Bisection Margins Demand3 Buffers Rolling Months Window Listing FourBytes",
     "casefile": "Answers",
     "window": "Holds Shown",
     "engine": "Guarantee",

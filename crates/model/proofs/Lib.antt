@@ -9,4 +9,5 @@ pub mod SavedCases
 pub mod SearchCases
 pub mod RollingCases
 pub mod MonthsCases
+pub mod FourByteCases
 pub mod Widths

@@ -2,9 +2,9 @@
 requests One, Three, Four and Six.
 
 Written from the papers, in their order and their words, without the engine's code; to be run beside the engine. For Six it
-rests on readings too, which it shares with the definitions: the days field of bit 7 stands behind the people, and its checks
-come in that place; a case that a host hands in says by a number, 2 or 4, how many bytes its rates have, and any other number
-is refused with 3 ahead of the checks of the case.
+rests on readings too (decisions 183 and 184), which it shares with the definitions: the days field of bit 7 stands behind
+the people, and its checks come in that place; a case that a host hands in says by a number, 2 or 4, how many bytes its rates
+have, and any other number is refused with 3 ahead of the checks of the case.
 Whole numbers and fractions only; no float occurs.
 Command line: python3 tests/reference.py FILE   (- reads standard input)
 """

@@ -2,7 +2,7 @@
 
 Written from the papers, in their words, without the engine's code, to be run beside the engine. What a window holds is a plain list of days,
 oldest first; the struct of a host, a ring of slots, is taken apart into that list, and put together from it.
-Of request Six, "The rolling window stays with two-byte days.", it has a reading that the definitions share: a case with four-byte days is
+Of request Six, "The rolling window stays with two-byte days.", it has a reading that the definitions share (decision 193): a case with four-byte days is
 checked by its own limits, and then the window's two-byte days take the place of its own.
 """
 

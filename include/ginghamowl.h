@@ -4,8 +4,8 @@
  * is, what each figure means and what each refusal is. "Document 02" has the requests that came
  * later: ginghamowl_save and its refusal 14 are its request One, the rolling window of days and its
  * refusals 15, 16 and 27 its request Two, the UFR from a history of months and its refusals 17, 18 and
- * 19 its request Five. The functions below are those of the crate `host` (crates/host/src/lib.rt), and
- * their contracts there are proved against both.
+ * 19 its request Five, zero rates in four bytes its request Six. The functions below are those of the
+ * crate `host` (crates/host/src/lib.rt), and their contracts there are proved against both.
  *
  * LENT MEMORY, the same for every function:
  *
@@ -54,7 +54,7 @@ enum {
     GINGHAMOWL_TERMS = 120,          /* the terms of the curve: 1 to 120 years */
     GINGHAMOWL_DAY_RATES = 60,       /* the zero rates of a day: terms 1 to 60 */
     GINGHAMOWL_ENTRIES = 240,        /* the least length of a factor or rate buffer */
-    GINGHAMOWL_FILE_BYTES = 9223,    /* the longest accepted file; one byte more decides a refusal, and
+    GINGHAMOWL_FILE_BYTES = 17623,   /* the longest accepted file; one byte more decides a refusal, and
                                         every saved case fits */
     GINGHAMOWL_LISTING_BYTES = 512,  /* a listing always fits into so many bytes */
     GINGHAMOWL_WINDOW_DAYS = 70,     /* the slots of a rolling window, and the most days that it holds */
@@ -71,10 +71,11 @@ enum {
 /* ---------------------------------------------------------------- refusals */
 
 /* Document 01's numbers, and 14 to 19 and 27 of document 02; no refusal has the numbers 20 to 26.
- * 1 to 12, 18 and 19 are errors of the office that made the file, the case, the day or the months, the
- * others of the host. The first that applies is given. For a file the order is document 01's: 13; the
- * map (1, then 3); each field in bit order; then 2; then 6. For a case that is saved, for a rolling
- * window and for a history of months, the functions below have it. */
+ * 1 to 12, 18 and 19 are errors of the office that made the file, the case, the day or the months; the
+ * others, and 3 for a case that is handed in, are errors of the host. The first that applies is given.
+ * For a file the order is document 01's: 13; the map (1, then 3); each field in bit order; then 2; then 6.
+ * For a case that is saved, for a rolling window and for a history of months, the functions below have
+ * it. */
 /* hosts/words writes: refusals */
 enum {
     GINGHAMOWL_ACCEPTED = 0,
@@ -82,15 +83,17 @@ enum {
     GINGHAMOWL_REFUSED_ENDS_EARLY = 1,
     /* bytes follow the last field; the file must end there */
     GINGHAMOWL_REFUSED_BYTES_FOLLOW = 2,
-    /* the map has a wrong bit; bits 1, 2, 5 and 6 must be set, and bits 7 to 15 must not */
+    /* the map has a wrong bit; bits 2, 5 and 6 and exactly one of bits 1 and 7 must be set, and
+     * bits 8 to 15 must not; a case that is handed in must have rates of 2 or 4 bytes */
     GINGHAMOWL_REFUSED_MAP = 3,
     /* the number of days is out of limits; it must be 1 to 70, with 60 rates each */
     GINGHAMOWL_REFUSED_DAY_COUNT = 4,
-    /* a zero rate is out of limits; each must be -1,000 to 10,000 steps of 0.00001, -1 % to 10 % */
+    /* a zero rate is out of limits; each must be -1,000 to 10,000 steps of 0.00001, or in four
+     * bytes -100,000 to 1,000,000 steps of 0.0000001, which is -1 % to 10 % */
     GINGHAMOWL_REFUSED_RATE = 5,
     /* a one-year forward rate is out of limits; t x s(t) - (t - 1) x s(t-1), with s(t) the sum
-     * of term t's rates over the n days, must be -2,000 x n to 12,000 x n steps at each term, -2
-     * % to 12 % */
+     * of term t's rates over the n days, must be -2,000 x n to 12,000 x n steps at each term, or
+     * 100 times that for rates in four bytes, which is -2 % to 12 % */
     GINGHAMOWL_REFUSED_GROWTH = 6,
     /* the number of flows is out of limits; there must be 1 to 120 pension flows, and 1 to 60
      * bond flows where their bit is set */
@@ -161,6 +164,23 @@ enum {
     GINGHAMOWL_MONEY = 2
 };
 
+/* ---------------------------------------------------------------- days fields */
+
+/* A case file has its days in one of two fields, which are alike but for the bytes of a rate:
+ *
+ *   bit 1          rates of two bytes, in steps of 0.00001, -1,000 to 10,000
+ *   bit 7          rates of four bytes, in steps of 0.0000001, -100,000 to 1,000,000; this field is the
+ *                  last of the file, behind the people
+ *
+ * Exactly one of the two bits is set. A case that is handed in says by the bytes of a rate which field it
+ * has, and its rates are in the steps of that field. Rates of two bytes, and the same rates times 100 in
+ * four, have the same valuation; but they are different cases, with different files. The UFR, the shifts,
+ * the credit spread and the zero rates of a valuation are in steps of 0.00001 with either field. */
+enum {
+    GINGHAMOWL_TWO_BYTES = 2,
+    GINGHAMOWL_FOUR_BYTES = 4
+};
+
 /* ---------------------------------------------------------------- structs */
 
 /* Cents. The exact figure is at least `lower` and at most `upper`. */
@@ -214,8 +234,10 @@ typedef struct {
     uint64_t heads, pension_age, mean_age;
 } ginghamowl_people;
 
-/* The fields of a case that are no lists. The UFR in steps of 0.00001. */
+/* The fields of a case that are no lists. `rate_bytes` is GINGHAMOWL_TWO_BYTES or GINGHAMOWL_FOUR_BYTES;
+ * with any other number, 0 among them, the case is refused with 3. The UFR in steps of 0.00001. */
 typedef struct {
+    uint64_t rate_bytes;
     uint64_t ufr;
     ginghamowl_amounts amounts;
     ginghamowl_shocks shocks;
@@ -229,7 +251,8 @@ typedef struct {
 } ginghamowl_saved;
 
 /* A rolling window of days: the last trading days, up to 70, with the sum of each term's rates beside
- * them. (The window of ginghamowl_window_point is another thing: a screen that shows a valuation.)
+ * them. (The window of ginghamowl_window_point is another thing: a screen that shows a valuation.) Its
+ * days are those of the two-byte field: there is no window of days in four bytes.
  *
  * It is a ring of 70 slots. Day i, counted from the oldest, which is day 0, stands in slot
  * (start + i) % 70, and its term t at rates[60 * slot + t - 1]. A slot that holds none of the `count`
@@ -288,8 +311,8 @@ ginghamowl_valuation ginghamowl_value(const uint8_t *file, size_t file_length,
 /* The refusal of a case file, without valuing it: 0 to 12, never 13. */
 uint8_t ginghamowl_refusal(const uint8_t *file, size_t file_length);
 
-/* Where the zero rates stand in a case file, for display: n days of 120 bytes each. 0 and 0 for a
- * file that is refused. */
+/* Where the zero rates stand in a case file, for display: n days of 120 bytes each, or of 240 where a
+ * rate has four bytes. 0 and 0 for a file that is refused. */
 ginghamowl_part ginghamowl_rates_part(const uint8_t *file, size_t file_length);
 
 /* A point of the window, over the factors that a valuation wrote and the figures that it gave:
@@ -310,22 +333,25 @@ ginghamowl_point ginghamowl_window_point(uint64_t point, const uint64_t *factors
 size_t ginghamowl_listing(ginghamowl_valuation valuation, uint8_t *out, size_t out_length);
 
 /* Saves a case: writes its shortest case file to the front of `out`, and tells how many bytes it
- * wrote; later bytes keep their content. `rates` has the zero rates in steps of 0.00001, term 1 to 60
- * of the first day, then of the next. `pension` and `bonds` have the flows in euros, from term 1 on.
+ * wrote; later bytes keep their content. `rates` has the zero rates, term 1 to 60 of the first day, then
+ * of the next: in steps of 0.00001, or, where `rate_bytes` is GINGHAMOWL_FOUR_BYTES, of 0.0000001.
+ * `pension` and `bonds` have the flows in euros, from term 1 on.
  *
- * The file leaves out a UFR of 4,200, amounts that are all 0 and an empty list of bonds. It is
- * accepted, and holds the same case. Two cases have the same bytes exactly when all their numbers
- * and the lengths of their lists are equal.
+ * The file has the days field of the case. It leaves out a UFR of 4,200, amounts that are all 0 and an
+ * empty list of bonds. It is accepted, and holds the same case. Two cases have the same bytes exactly
+ * when all their numbers, `rate_bytes` among them, and the lengths of their lists are equal.
  *
  * An input screen may hand in whatever was typed: any numbers and lengths are answered. The first
  * refusal that applies is given, in this order:
  *
+ *   3              `rate_bytes` is neither 2 nor 4
  *   9              the UFR
- *   4, then 5      the count of days, which is rates_length / 60; a length that is no multiple of 60
- *                  is 4 too; the rates
+ *   4, then 5      where a rate has two bytes: the count of days, which is rates_length / 60; a length
+ *                  that is no multiple of 60 is 4 too; the rates
  *   7, then 8      the count of pension flows; the flows
  *   7, then 8      the count of bond flows, which may be 0; the flows
  *   10, 11, 12     the amounts; the shocks; the people
+ *   4, then 5      where a rate has four bytes: the days, likewise
  *   6              the one-year forward rates
  *   14             `out` is shorter than the file; exactly as long is enough, and
  *                  GINGHAMOWL_FILE_BYTES always suffice
@@ -358,14 +384,16 @@ ginghamowl_changed_window ginghamowl_rolling_add(ginghamowl_rolling_window windo
 ginghamowl_changed_window ginghamowl_rolling_drop(ginghamowl_rolling_window window);
 
 /* Values a case with the days of a rolling window in place of its own. The case is handed in as
- * ginghamowl_save takes it, its own days in `case_rates`. The answer, and what both buffers hold
- * afterwards, is what ginghamowl_value gives of a file with the window's days, oldest first, and the
- * other fields of the case. The first refusal that applies is given, in this order:
+ * ginghamowl_save takes it, its own days in `case_rates`. These may be days in four bytes: they are
+ * checked in their own steps, and replaced by the window's, which are in two bytes. The answer, and what
+ * both buffers hold afterwards, is what ginghamowl_value gives of a file with the window's days, oldest
+ * first, and the other fields of the case. The first refusal that applies is given, in this order:
  *
  *   27             the window is damaged
  *   13             a buffer has fewer than 240 entries
- *   9, 4, 5, 7, 8, 7, 8, 10, 11, 12, 6
- *                  the case's own numbers, its own days included, as ginghamowl_save checks them
+ *   3, 9, 4, 5, 7, 8, 7, 8, 10, 11, 12, 6
+ *                  the case's own numbers, its own days included, as ginghamowl_save checks them: where a
+ *                  rate has four bytes, 4 and 5 come after 12
  *   4              the window holds no day
  *   6              the one-year forward rates of the window's days
  *
@@ -398,7 +426,8 @@ ginghamowl_ufr ginghamowl_ufr_of(const uint8_t *history, size_t history_length, 
 /* Values a case file with the UFR from a history of months, as if it stood in the file's UFR field. The
  * answer, and what both buffers hold afterwards, is what ginghamowl_value gives of the file with bit 0 of
  * its map set and this UFR in the two bytes behind the map: in place of the file's own UFR where the bit
- * is set already, else inserted there. The first refusal that applies is given, in this order:
+ * is set already, else inserted there. The file may have either days field. The first refusal that
+ * applies is given, in this order:
  *
  *   13             a buffer has fewer than 240 entries
  *   1 to 12        the file's own, as ginghamowl_refusal gives them; its own UFR is checked too (9)

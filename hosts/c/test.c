@@ -21,8 +21,9 @@ _Static_assert(sizeof(ginghamowl_point) == 24, "a byte, padded to 8, and two dou
 _Static_assert(sizeof(ginghamowl_amounts) == 64, "eight amounts");
 _Static_assert(sizeof(ginghamowl_shocks) == 96, "twelve shocks");
 _Static_assert(sizeof(ginghamowl_people) == 24, "heads and two ages");
-_Static_assert(sizeof(ginghamowl_case_fields) == 192, "the UFR and the three above");
-_Static_assert(offsetof(ginghamowl_case_fields, people) == 168, "the people are the last");
+_Static_assert(sizeof(ginghamowl_case_fields) == 200, "the bytes of a rate, the UFR and the three above");
+_Static_assert(offsetof(ginghamowl_case_fields, ufr) == 8, "the UFR behind the bytes of a rate");
+_Static_assert(offsetof(ginghamowl_case_fields, people) == 176, "the people are the last");
 _Static_assert(sizeof(ginghamowl_saved) == 16, "a byte, padded to 8, and a size");
 _Static_assert(offsetof(ginghamowl_saved, written) == 8, "the count behind the refusal");
 _Static_assert(sizeof(ginghamowl_rolling_window) == 8896, "two numbers, 4,200 rates of 2 bytes and 60 sums");
@@ -50,7 +51,7 @@ static void check_at(int line, int holds, const char *what)
 
 /* ---------------------------------------------------------------- files */
 
-enum { C1_BYTES = 224, C1_CASH = 2 + 121 + 5 + 48 };
+enum { C1_BYTES = 224, C1_CASH = 2 + 121 + 5 + 48, C1_FOUR_BYTES = C1_BYTES + 120, C1_FOUR_DAYS = 2 + 101 };
 
 /* File C1 of document 01. */
 static void c1(uint8_t file[C1_BYTES])
@@ -70,6 +71,18 @@ static void c1(uint8_t file[C1_BYTES])
     file[221] = 0x0c;
     file[222] = 0x01;
     file[223] = 0xcc;
+}
+
+/* C1 with its days in four bytes: bit 7 in place of bit 1, and the days behind the people. It is worth the same. */
+static void c1_four(uint8_t file[C1_FOUR_BYTES])
+{
+    uint8_t two[C1_BYTES];
+
+    c1(two);
+    memset(file, 0, C1_FOUR_BYTES);
+    file[1] = 0xf4;
+    memcpy(file + 2, two + 123, C1_BYTES - 123);
+    file[C1_FOUR_DAYS] = 1;
 }
 
 static const char C1_LISTING[] = "L 100000000 100000000\nB 0 0\nA 110000000 110000000\nS1 0 0\nS2 0 0\nS3 0 0\n"
@@ -238,27 +251,34 @@ static void valued_as_the_file(const uint8_t *file, size_t length, ginghamowl_va
 static void test_lengths(void)
 {
     static const size_t lengths[] = {0, 1, 239, 240, 241, 1000};
-    uint8_t file[C1_BYTES + 1] = {0};
+    uint8_t file[C1_BYTES + 1] = {0}, four[C1_FOUR_BYTES + 1] = {0};
     size_t f, r;
 
     c1(file);
+    c1_four(four);
     for (f = 0; f < sizeof lengths / sizeof *lengths; f++)
         for (r = 0; r < sizeof lengths / sizeof *lengths; r++) {
             value_into(file, C1_BYTES, GINGHAMOWL_ACCEPTED, lengths[f], lengths[r]);
             value_into(file, C1_BYTES - 1, GINGHAMOWL_REFUSED_ENDS_EARLY, lengths[f], lengths[r]);
             value_into(file, C1_BYTES + 1, GINGHAMOWL_REFUSED_BYTES_FOLLOW, lengths[f], lengths[r]);
+            value_into(four, C1_FOUR_BYTES, GINGHAMOWL_ACCEPTED, lengths[f], lengths[r]);
+            value_into(four, C1_FOUR_BYTES - 1, GINGHAMOWL_REFUSED_ENDS_EARLY, lengths[f], lengths[r]);
+            value_into(four, C1_FOUR_BYTES + 1, GINGHAMOWL_REFUSED_BYTES_FOLLOW, lengths[f], lengths[r]);
             value_into(NULL, 0, GINGHAMOWL_REFUSED_ENDS_EARLY, lengths[f], lengths[r]);
         }
 }
 
 /* What C1 is refused with where one byte is another. */
-enum { CHANGES = 15 };
-static const struct {
+typedef struct {
     size_t at;
     uint8_t byte, refusal;
-} REFUSED_CHANGES[CHANGES] = {
+} refused_change;
+
+static const refused_change CHANGES[] = {
     {0, 0x80, GINGHAMOWL_REFUSED_MAP},
-    {1, 0x74, GINGHAMOWL_REFUSED_MAP},
+    {0, 0x01, GINGHAMOWL_REFUSED_MAP},
+    {1, 0x74, GINGHAMOWL_REFUSED_MAP}, /* neither bit 1 nor bit 7 */
+    {1, 0xf6, GINGHAMOWL_REFUSED_MAP}, /* both */
     {2, 0, GINGHAMOWL_REFUSED_DAY_COUNT},
     {2, 71, GINGHAMOWL_REFUSED_DAY_COUNT},
     {3, 0x7f, GINGHAMOWL_REFUSED_RATE},
@@ -274,35 +294,81 @@ static const struct {
     {222, 0x05, GINGHAMOWL_REFUSED_PEOPLE},
 };
 
-/* C1 with one of these bytes changed. */
+/* The same where its days are in four bytes. */
+static const refused_change FOUR_CHANGES[] = {
+    {0, 0x80, GINGHAMOWL_REFUSED_MAP},
+    {0, 0x01, GINGHAMOWL_REFUSED_MAP},
+    {1, 0x74, GINGHAMOWL_REFUSED_MAP}, /* neither bit 1 nor bit 7 */
+    {1, 0xf6, GINGHAMOWL_REFUSED_MAP}, /* both */
+    {1, 0xf0, GINGHAMOWL_REFUSED_MAP},
+    {2, 0, GINGHAMOWL_REFUSED_FLOW_COUNT},
+    {2, 121, GINGHAMOWL_REFUSED_FLOW_COUNT},
+    {2, 120, GINGHAMOWL_REFUSED_ENDS_EARLY},
+    {3, 0xff, GINGHAMOWL_REFUSED_FLOW},
+    {7, 0x80, GINGHAMOWL_REFUSED_AMOUNT},
+    {71, 0xff, GINGHAMOWL_REFUSED_SHOCK},
+    {95, 0x01, GINGHAMOWL_REFUSED_PEOPLE},
+    {101, 0x05, GINGHAMOWL_REFUSED_PEOPLE},
+    {C1_FOUR_DAYS, 0, GINGHAMOWL_REFUSED_DAY_COUNT},
+    {C1_FOUR_DAYS, 71, GINGHAMOWL_REFUSED_DAY_COUNT},
+    {C1_FOUR_DAYS, 2, GINGHAMOWL_REFUSED_ENDS_EARLY},
+    {104, 0x01, GINGHAMOWL_REFUSED_RATE},
+    {104, 0x80, GINGHAMOWL_REFUSED_RATE},
+    {105, 0x10, GINGHAMOWL_REFUSED_RATE},   /* 1,048,576 */
+    {342, 0x4f, GINGHAMOWL_REFUSED_GROWTH}, /* term 60 at 20,224: 60 x 20,224 is above 1,200,000 */
+};
+
+/* C1 in either form, and its changes. */
+static const struct {
+    void (*make)(uint8_t *file);
+    size_t length;
+    const refused_change *changes;
+    size_t count;
+} C1_FORMS[2] = {
+    {c1, C1_BYTES, CHANGES, sizeof CHANGES / sizeof *CHANGES},
+    {c1_four, C1_FOUR_BYTES, FOUR_CHANGES, sizeof FOUR_CHANGES / sizeof *FOUR_CHANGES},
+};
+
+/* C1 in this form with one byte changed. */
+static void changed_c1(size_t form, refused_change change, uint8_t file[C1_FOUR_BYTES])
+{
+    C1_FORMS[form].make(file);
+    file[change.at] = change.byte;
+}
+
 static void test_refused_changes(void)
 {
-    uint8_t file[C1_BYTES];
+    uint8_t file[C1_FOUR_BYTES];
     ginghamowl_part part;
-    size_t i;
+    size_t form, i;
 
-    for (i = 0; i < CHANGES; i++) {
-        c1(file);
-        file[REFUSED_CHANGES[i].at] = REFUSED_CHANGES[i].byte;
-        value_into(file, C1_BYTES, REFUSED_CHANGES[i].refusal, 240, 240);
-        CHECK(ginghamowl_refusal(file, C1_BYTES) == REFUSED_CHANGES[i].refusal);
-        part = ginghamowl_rates_part(file, C1_BYTES);
-        CHECK(part.offset == 0 && part.length == 0);
-    }
+    for (form = 0; form < 2; form++)
+        for (i = 0; i < C1_FORMS[form].count; i++) {
+            refused_change change = C1_FORMS[form].changes[i];
+
+            changed_c1(form, change, file);
+            value_into(file, C1_FORMS[form].length, change.refusal, 240, 240);
+            CHECK(ginghamowl_refusal(file, C1_FORMS[form].length) == change.refusal);
+            part = ginghamowl_rates_part(file, C1_FORMS[form].length);
+            CHECK(part.offset == 0 && part.length == 0);
+        }
 }
 
 static void test_refusals(void)
 {
-    uint8_t file[C1_BYTES], *copy;
-    size_t length;
+    uint8_t file[C1_FOUR_BYTES], *copy;
+    size_t form, length;
 
-    c1(file);
-    for (length = 0; length < C1_BYTES; length++) {
-        copy = exactly(file, length);
-        CHECK(ginghamowl_refusal(copy, length) == GINGHAMOWL_REFUSED_ENDS_EARLY);
-        free(copy);
+    for (form = 0; form < 2; form++) {
+        C1_FORMS[form].make(file);
+        for (length = 0; length < C1_FORMS[form].length; length++) {
+            copy = exactly(file, length);
+            CHECK(ginghamowl_refusal(copy, length) == GINGHAMOWL_REFUSED_ENDS_EARLY);
+            free(copy);
+        }
+        CHECK(ginghamowl_refusal(file, length) == GINGHAMOWL_ACCEPTED);
     }
-    CHECK(ginghamowl_refusal(file, C1_BYTES) == GINGHAMOWL_ACCEPTED);
+    c1(file);
     file[C1_CASH + 7] = 0xdf; /* C2: cash 1,099,999 */
     {
         uint64_t factors[240];
@@ -314,22 +380,36 @@ static void test_refusals(void)
     }
 }
 
+/* The part of a file, and that of the same with a UFR; neither where a byte is missing. */
+static void rates_part_is(const uint8_t *bytes, size_t length, size_t offset, size_t part_length)
+{
+    uint8_t file[2 * C1_FOUR_BYTES];
+    ginghamowl_part part;
+
+    part = ginghamowl_rates_part(bytes, length);
+    CHECK(part.offset == offset && part.length == part_length);
+    memcpy(file + 4, bytes + 2, length - 2);
+    file[0] = bytes[0];
+    file[1] = bytes[1] | 1;
+    file[2] = 0x10;
+    file[3] = 0x68;
+    part = ginghamowl_rates_part(file, length + 2);
+    CHECK(part.offset == offset + 2 && part.length == part_length);
+    part = ginghamowl_rates_part(file, length + 1);
+    CHECK(part.offset == 0 && part.length == 0);
+}
+
 static void test_rates_part(void)
 {
-    uint8_t file[C1_BYTES + 2];
+    uint8_t file[C1_FOUR_BYTES + 240] = {0};
     ginghamowl_part part;
 
     c1(file);
-    part = ginghamowl_rates_part(file, C1_BYTES);
-    CHECK(part.offset == 3 && part.length == 120);
-    memmove(file + 4, file + 2, C1_BYTES - 2);
-    file[1] = 0x77; /* with a UFR */
-    file[2] = 0x10;
-    file[3] = 0x68;
-    part = ginghamowl_rates_part(file, C1_BYTES + 2);
-    CHECK(part.offset == 5 && part.length == 120);
-    part = ginghamowl_rates_part(file, C1_BYTES + 1);
-    CHECK(part.offset == 0 && part.length == 0);
+    rates_part_is(file, C1_BYTES, 3, 120);
+    c1_four(file);
+    rates_part_is(file, C1_FOUR_BYTES, C1_FOUR_DAYS + 1, 240);
+    file[C1_FOUR_DAYS] = 2;
+    rates_part_is(file, C1_FOUR_BYTES + 240, C1_FOUR_DAYS + 1, 480);
     part = ginghamowl_rates_part(NULL, 0);
     CHECK(part.offset == 0 && part.length == 0);
 }
@@ -480,23 +560,23 @@ static void test_listing(void)
 static void test_damaged(void)
 {
     uint64_t state = 88172645463325252u;
-    unsigned long accepted = 0, round;
+    unsigned long accepted[2] = {0}, round;
 
-    for (round = 0; round < 2000; round++) {
-        uint8_t file[C1_BYTES + 8] = {0}, *copy;
+    for (round = 0; round < 4000; round++) {
+        uint8_t file[C1_FOUR_BYTES + 8] = {0}, *copy;
         guarded factors = lent(300), rates = lent(240);
-        size_t length = C1_BYTES, hits;
+        size_t form = round % 2, whole = C1_FORMS[form].length, length = whole, hits;
         ginghamowl_valuation v;
         ginghamowl_part part;
 
-        c1(file);
+        C1_FORMS[form].make(file);
         state ^= state << 13, state ^= state >> 7, state ^= state << 17;
         for (hits = 1 + state % 3; hits > 0; hits--) {
             state ^= state << 13, state ^= state >> 7, state ^= state << 17;
-            file[state % C1_BYTES] = (uint8_t)(state >> 32);
+            file[state % whole] = (uint8_t)(state >> 32);
         }
         if (state % 4 == 0)
-            length = (state >> 16) % (C1_BYTES + 8);
+            length = (state >> 16) % (whole + 8);
         copy = exactly(file, length);
         v = ginghamowl_value(copy, length, entries(factors), 300, (int64_t *)entries(rates), 240);
         part = ginghamowl_rates_part(copy, length);
@@ -506,12 +586,12 @@ static void test_damaged(void)
         CHECK(guards_stand(factors) && guards_stand(rates) && held_from(factors, v.refusal == 0 ? 240 : 0));
         CHECK(v.refusal == 0 || (is_refused(v, v.refusal) && held_from(rates, 0)));
         CHECK(copy == NULL || memcmp(copy, file, length) == 0);
-        accepted += v.refusal == 0;
+        accepted[form] += v.refusal == 0;
         free(copy);
         free(factors.all);
         free(rates.all);
     }
-    CHECK(accepted > 100);
+    CHECK(accepted[0] > 100 && accepted[1] > 100);
 }
 
 /* ---------------------------------------------------------------- cases to save */
@@ -529,10 +609,17 @@ typedef struct {
     size_t bonds_length;
 } held_case;
 
+/* How many units of a rate are a step of 0.00001. */
+static int32_t units(uint64_t rate_bytes)
+{
+    return rate_bytes == GINGHAMOWL_FOUR_BYTES ? 100 : 1;
+}
+
 /* The case of file C1. */
 static void c1_case(held_case *c)
 {
     memset(c, 0, sizeof *c);
+    c->fields.rate_bytes = GINGHAMOWL_TWO_BYTES;
     c->fields.ufr = 4200;
     c->fields.amounts.cash = 1100000;
     c->fields.people.heads = 100;
@@ -543,7 +630,7 @@ static void c1_case(held_case *c)
     c->pension_length = 1;
 }
 
-/* The case of the longest file. No two amounts, shocks, people's numbers or flows of a list are alike. */
+/* The case of the longest file of two-byte days. No two amounts, shocks, people's numbers or flows of a list are alike. */
 static void largest_case(held_case *c)
 {
     static const ginghamowl_amounts amounts = {100000000000, 99999999999, 72057594037, 4294967296, 16777217, 65537, 257, 1};
@@ -551,6 +638,7 @@ static void largest_case(held_case *c)
     static const ginghamowl_people people = {1000000, 1200, 1199};
     size_t i;
 
+    c->fields.rate_bytes = GINGHAMOWL_TWO_BYTES;
     c->fields.ufr = 5000;
     c->fields.amounts = amounts;
     c->fields.shocks = shocks;
@@ -564,6 +652,25 @@ static void largest_case(held_case *c)
     }
     c->pension_length = 120;
     c->bonds_length = 60;
+}
+
+/* A case of two-byte days with the same days in four bytes, or as it is. */
+static void in_form(held_case *c, uint64_t rate_bytes)
+{
+    size_t i;
+
+    for (i = 0; i < MOST_RATES; i++)
+        c->rates[i] *= units(rate_bytes);
+    c->fields.rate_bytes = rate_bytes;
+}
+
+/* Other last decimals: rates of four bytes that are no whole steps, each within half a step of what it was. */
+static void refine(held_case *c)
+{
+    size_t i;
+
+    for (i = 0; i < MOST_RATES; i++)
+        c->rates[i] += (int32_t)(37 * i % 99) - 49;
 }
 
 static uint8_t *put(uint8_t *at, uint64_t number, int length)
@@ -583,23 +690,32 @@ static uint8_t *put_flows(uint8_t *at, const uint64_t *flows, size_t count)
     return at;
 }
 
-enum { MOST_BYTES = 2 + 2 + 1 + 2 * MOST_RATES + 2 * (1 + 4 * MOST_FLOWS) + 64 + 24 + 8 };
+static uint8_t *put_days(uint8_t *at, const held_case *c)
+{
+    size_t i;
+
+    at = put(at, c->rates_length / DAY, 1);
+    for (i = 0; i < c->rates_length; i++)
+        at = put(at, (uint64_t)c->rates[i], (int)c->fields.rate_bytes);
+    return at;
+}
+
+enum { MOST_BYTES = 2 + 2 + 1 + 4 * MOST_RATES + 2 * (1 + 4 * MOST_FLOWS) + 64 + 24 + 8 };
 
 /* The shortest file of a case, with no look at the limits. Returns its length. */
 static size_t shortest(const held_case *c, uint8_t file[MOST_BYTES])
 {
     static const ginghamowl_amounts none;
-    int ufr = c->fields.ufr != 4200, bonds = c->bonds_length != 0;
+    int ufr = c->fields.ufr != 4200, bonds = c->bonds_length != 0, four = c->fields.rate_bytes == GINGHAMOWL_FOUR_BYTES;
     int amounts = memcmp(&c->fields.amounts, &none, sizeof none) != 0;
     uint64_t numbers[12];
-    uint8_t *at = put(file, 0x66 | ufr | bonds << 3 | amounts << 4, 2);
+    uint8_t *at = put(file, (four ? 0xe4 : 0x66) | ufr | bonds << 3 | amounts << 4, 2);
     size_t i;
 
     if (ufr)
         at = put(at, c->fields.ufr, 2);
-    at = put(at, c->rates_length / DAY, 1);
-    for (i = 0; i < c->rates_length; i++)
-        at = put(at, (uint64_t)c->rates[i], 2);
+    if (!four)
+        at = put_days(at, c);
     at = put_flows(at, c->pension, c->pension_length);
     if (bonds)
         at = put_flows(at, c->bonds, c->bonds_length);
@@ -612,6 +728,8 @@ static size_t shortest(const held_case *c, uint8_t file[MOST_BYTES])
     at = put(at, c->fields.people.heads, 4);
     at = put(at, c->fields.people.pension_age, 2);
     at = put(at, c->fields.people.mean_age, 2);
+    if (four)
+        at = put_days(at, c);
     return (size_t)(at - file);
 }
 
@@ -681,22 +799,23 @@ static void saves_not(const held_case *c, uint8_t refusal)
     saves_into(c, 0, refusal, NULL, 0);
 }
 
-static void test_save(void)
+static void test_save(uint64_t rate_bytes)
 {
     static held_case c;
-    uint8_t file[C1_BYTES], out[C1_BYTES];
+    size_t form = rate_bytes == GINGHAMOWL_FOUR_BYTES, length = C1_FORMS[form].length, room;
+    uint8_t file[C1_FOUR_BYTES], out[C1_FOUR_BYTES];
     uint64_t factors[240];
     int64_t rates[240];
-    size_t room;
 
-    c1(file);
+    C1_FORMS[form].make(file);
     c1_case(&c);
-    for (room = 0; room < C1_BYTES; room++)
+    in_form(&c, rate_bytes);
+    for (room = 0; room < length; room++)
         saves_into(&c, room, GINGHAMOWL_REFUSED_SAVED_BUFFER, NULL, 0);
-    for (; room < C1_BYTES + 40; room++)
-        saves_into(&c, room, GINGHAMOWL_ACCEPTED, file, C1_BYTES);
-    ginghamowl_save(c.fields, c.rates, DAY, c.pension, 1, NULL, 0, out, sizeof out);
-    CHECK(is_c1(ginghamowl_value(out, sizeof out, factors, 240, rates, 240)));
+    for (; room < length + 40; room++)
+        saves_into(&c, room, GINGHAMOWL_ACCEPTED, file, length);
+    ginghamowl_save(c.fields, c.rates, DAY, c.pension, 1, NULL, 0, out, length);
+    CHECK(is_c1(ginghamowl_value(out, length, factors, 240, rates, 240)));
 }
 
 static void test_save_largest(void)
@@ -705,6 +824,10 @@ static void test_save_largest(void)
     static uint8_t file[MOST_BYTES];
 
     largest_case(&c);
+    CHECK(shortest(&c, file) == 9223);
+    saves(&c);
+    in_form(&c, GINGHAMOWL_FOUR_BYTES);
+    refine(&c);
     CHECK(shortest(&c, file) == GINGHAMOWL_FILE_BYTES);
     saves(&c);
     saves_into(&c, GINGHAMOWL_FILE_BYTES - 1, GINGHAMOWL_REFUSED_SAVED_BUFFER, NULL, 0);
@@ -712,21 +835,23 @@ static void test_save_largest(void)
 
 /* Each of the three fields left out or not. What is written is as short as can be, and a bond flow of 0 is
  * no empty list. */
-static void test_left_out(void)
+static void test_left_out(uint64_t rate_bytes)
 {
     static held_case c;
     static uint8_t file[MOST_BYTES];
+    size_t least = 40 + 60 * rate_bytes, bits = rate_bytes == GINGHAMOWL_FOUR_BYTES ? 0xe4 : 0x66;
     unsigned fields, i;
 
     for (fields = 0; fields < 8; fields++) {
         size_t ufr = fields & 1, bonds = fields >> 1 & 1, amounts = fields >> 2;
 
         c1_case(&c);
+        in_form(&c, rate_bytes);
         c.fields.ufr -= ufr;
         c.bonds_length = bonds;
         c.fields.amounts.cash = amounts;
-        CHECK(shortest(&c, file) == 160 + 2 * ufr + 5 * bonds + 64 * amounts);
-        CHECK(file[0] == 0 && file[1] == 0x66 + ufr + 8 * bonds + 16 * amounts);
+        CHECK(shortest(&c, file) == least + 2 * ufr + 5 * bonds + 64 * amounts);
+        CHECK(file[0] == 0 && file[1] == bits + ufr + 8 * bonds + 16 * amounts);
         saves(&c);
     }
     for (i = 0; i < 8; i++) { /* one amount alone keeps the field */
@@ -761,7 +886,7 @@ static void test_limit(const held_case *c, uint64_t *number, uint64_t least, uin
     *number = before;
 }
 
-static void test_numbers(void)
+static void test_numbers(uint64_t rate_bytes)
 {
     static held_case c;
     ginghamowl_shocks *s = &c.fields.shocks;
@@ -773,6 +898,7 @@ static void test_numbers(void)
     size_t i;
 
     c1_case(&c);
+    in_form(&c, rate_bytes);
     c.pension_length = 3;
     c.bonds_length = 3;
     test_limit(&c, &c.fields.ufr, 0, 5000, GINGHAMOWL_REFUSED_UFR);
@@ -792,7 +918,7 @@ static void test_numbers(void)
 }
 
 /* Lists without an entry are lent as NULL. */
-static void test_counts(void)
+static void test_counts(uint64_t rate_bytes)
 {
     static const size_t wrong_rates[] = {0, 1, 59, 61, 119, 70 * DAY - 1, 70 * DAY + 1, 71 * DAY, 256 * DAY, 257 * DAY};
     static const size_t wrong_pension[] = {0, 121, 256, 257}, wrong_bonds[] = {61, 256, 257};
@@ -800,6 +926,7 @@ static void test_counts(void)
     size_t i;
 
     largest_case(&c);
+    in_form(&c, rate_bytes);
     for (i = 0; i < sizeof wrong_rates / sizeof *wrong_rates; i++) {
         c.rates_length = wrong_rates[i];
         saves_not(&c, GINGHAMOWL_REFUSED_DAY_COUNT);
@@ -831,33 +958,42 @@ static void flat_days(held_case *c, size_t days, int32_t first, int32_t others)
         c->rates[i] = i % DAY == 0 ? first : others;
 }
 
-static void test_rates(void)
+/* Rates at their limits and past them, and rates that a cut to fewer bytes would let pass. */
+static void test_rates(uint64_t rate_bytes)
 {
-    static const int32_t wrong[] = {-1001, 10001, 65536, -65536, 64536, INT32_MIN, INT32_MAX};
+    const int32_t unit = units(rate_bytes), least = -1000 * unit, most = 10000 * unit;
+    const int32_t wrong[] = {least - 1, most + 1, 1 << 24, -(1 << 24), (1 << 24) + least, (1 << 30) + most, INT32_MIN, INT32_MAX};
+    static const int32_t wrong_in_two[] = {65536, -65536, 64536};
     static const size_t places[] = {0, 59, 60, 70 * DAY - 1};
     static held_case c;
     size_t i, w;
 
     c1_case(&c);
-    flat_days(&c, 70, -1000, -1000);
+    in_form(&c, rate_bytes);
+    flat_days(&c, 70, least, least);
     saves(&c);
-    flat_days(&c, 70, 10000, 10000);
+    flat_days(&c, 70, most, most);
     saves(&c);
-    for (i = 0; i < sizeof places / sizeof *places; i++)
+    for (i = 0; i < sizeof places / sizeof *places; i++) {
         for (w = 0; w < sizeof wrong / sizeof *wrong; w++) {
             c.rates[places[i]] = wrong[w];
             saves_not(&c, GINGHAMOWL_REFUSED_RATE);
-            c.rates[places[i]] = 10000;
         }
-    flat_days(&c, 1, 0, 6000); /* C8 */
+        for (w = 0; rate_bytes == GINGHAMOWL_TWO_BYTES && w < sizeof wrong_in_two / sizeof *wrong_in_two; w++) {
+            c.rates[places[i]] = wrong_in_two[w];
+            saves_not(&c, GINGHAMOWL_REFUSED_RATE);
+        }
+        c.rates[places[i]] = most;
+    }
+    flat_days(&c, 1, 0, 6000 * unit); /* C8 */
     saves(&c);
-    flat_days(&c, 1, 0, 6001);
+    flat_days(&c, 1, 0, 6000 * unit + 1);
     saves_not(&c, GINGHAMOWL_REFUSED_GROWTH);
-    flat_days(&c, 1, 0, -1000);
+    flat_days(&c, 1, 0, least);
     saves(&c);
-    flat_days(&c, 1, 1, -1000);
+    flat_days(&c, 1, 1, least);
     saves_not(&c, GINGHAMOWL_REFUSED_GROWTH);
-    flat_days(&c, 2, 0, 6000); /* the sums over the days count */
+    flat_days(&c, 2, 0, 6000 * unit); /* the sums over the days count */
     c.rates[1]++;
     c.rates[DAY + 1]--;
     saves(&c);
@@ -865,68 +1001,181 @@ static void test_rates(void)
     saves_not(&c, GINGHAMOWL_REFUSED_GROWTH);
 }
 
-/* One fault of each kind, in the order of the checks. */
-enum { FAULTS = 11 };
-static const uint8_t FAULT_NUMBERS[FAULTS] = {9, 4, 5, 7, 8, 7, 8, 10, 11, 12, 6};
+/* One fault of each kind. */
+typedef enum { NO_FORM, UFR, DAYS, RATE, PENSIONS, PENSION, BONDS, BOND, AMOUNT, SHOCK, HEADS, GROWTH } fault;
 
-static void spoil(held_case *c, int fault)
+/* The faults in the order of the checks; days in four bytes are checked behind the people. */
+enum { FAULTS = 12 };
+static const fault IN_ORDER[2][FAULTS] = {
+    {NO_FORM, UFR, DAYS, RATE, PENSIONS, PENSION, BONDS, BOND, AMOUNT, SHOCK, HEADS, GROWTH},
+    {NO_FORM, UFR, PENSIONS, PENSION, BONDS, BOND, AMOUNT, SHOCK, HEADS, DAYS, RATE, GROWTH},
+};
+
+static const fault *in_order(uint64_t rate_bytes)
+{
+    return IN_ORDER[rate_bytes == GINGHAMOWL_FOUR_BYTES];
+}
+
+static uint8_t refusal_of(fault fault)
+{
+    static const uint8_t numbers[FAULTS] = {3, 9, 4, 5, 7, 8, 7, 8, 10, 11, 12, 6};
+
+    return numbers[fault];
+}
+
+/* `unit` is that of the rates before any of them is spoiled. */
+static void spoil(held_case *c, fault fault, int32_t unit)
 {
     switch (fault) {
-    case 0:
+    case NO_FORM:
+        c->fields.rate_bytes = 3;
+        break;
+    case UFR:
         c->fields.ufr = 5001;
         break;
-    case 1:
+    case DAYS:
         c->rates_length--;
         break;
-    case 2:
-        c->rates[0] = -1001;
+    case RATE:
+        c->rates[0] = -1000 * unit - 1;
         break;
-    case 3:
+    case PENSIONS:
         c->pension_length = 121;
         break;
-    case 4:
+    case PENSION:
         c->pension[0] = 100000001;
         break;
-    case 5:
+    case BONDS:
         c->bonds_length = 61;
         break;
-    case 6:
+    case BOND:
         c->bonds[0] = 100000001;
         break;
-    case 7:
+    case AMOUNT:
         c->fields.amounts.mature = 100000000001;
         break;
-    case 8:
+    case SHOCK:
         c->fields.shocks.up_shift = 1001;
         break;
-    case 9:
+    case HEADS:
         c->fields.people.heads = 0;
         break;
-    default:
-        c->rates[2 * DAY - 1] = 10000;
+    case GROWTH:
+        c->rates[2 * DAY - 1] = 10000 * unit;
         break;
     }
 }
 
+/* A case within the limits, with two of these faults. */
+static void two_faults(held_case *c, uint64_t rate_bytes, fault first, fault second)
+{
+    c1_case(c);
+    in_form(c, rate_bytes);
+    flat_days(c, 2, 0, 0);
+    c->bonds_length = 1;
+    spoil(c, first, units(rate_bytes));
+    spoil(c, second, units(rate_bytes));
+}
+
 /* Of two faults, and of all from one on, the first is given. */
-static void test_order(void)
+static void test_order(uint64_t rate_bytes)
 {
     static held_case c;
+    const fault *faults = in_order(rate_bytes);
     int first, second;
 
     for (first = 0; first < FAULTS; first++) {
         for (second = first; second < FAULTS; second++) {
-            c1_case(&c);
-            flat_days(&c, 2, 0, 0);
-            c.bonds_length = 1;
-            spoil(&c, first);
-            spoil(&c, second);
-            saves_not(&c, FAULT_NUMBERS[first]);
+            two_faults(&c, rate_bytes, faults[first], faults[second]);
+            saves_not(&c, refusal_of(faults[first]));
         }
         for (second = first; second < FAULTS; second++)
-            spoil(&c, second);
-        saves_not(&c, FAULT_NUMBERS[first]);
+            spoil(&c, faults[second], units(rate_bytes));
+        saves_not(&c, refusal_of(faults[first]));
     }
+}
+
+/* Numbers of bytes that no rate has; a cut to fewer bytes would let some pass. */
+static const uint64_t NO_RATE_BYTES[] = {0, 1, 3, 5, 6, 8, 16, 256 + 2, 65536 + 4, ((uint64_t)1 << 32) + 2, ((uint64_t)1 << 63) + 4,
+                                         UINT64_MAX - 1, UINT64_MAX};
+enum { NO_RATE_BYTES_COUNT = sizeof NO_RATE_BYTES / sizeof *NO_RATE_BYTES };
+
+static void test_rate_bytes(void)
+{
+    static held_case c;
+    size_t i;
+
+    for (i = 0; i < NO_RATE_BYTES_COUNT; i++) {
+        c1_case(&c);
+        c.fields.rate_bytes = NO_RATE_BYTES[i];
+        saves_not(&c, GINGHAMOWL_REFUSED_MAP);
+        c.fields.ufr = 5001;
+        c.rates_length = 0;
+        saves_not(&c, GINGHAMOWL_REFUSED_MAP);
+    }
+}
+
+/* The case, and the same with its days in four bytes, have different files and the same valuation. */
+static void same_in_four_bytes(const held_case *two)
+{
+    static held_case four;
+    static uint8_t file[MOST_BYTES], four_file[MOST_BYTES];
+    guarded factors = lent(241), rates = lent(300);
+    size_t length = shortest(two, file), four_length;
+    ginghamowl_valuation v;
+
+    four = *two;
+    in_form(&four, GINGHAMOWL_FOUR_BYTES);
+    saves(two);
+    saves(&four);
+    four_length = shortest(&four, four_file);
+    CHECK(four_length == length + 2 * two->rates_length && memcmp(file, four_file, length) != 0);
+    v = ginghamowl_value(four_file, four_length, entries(factors), 241, (int64_t *)entries(rates), 300);
+    CHECK(guards_stand(factors) && guards_stand(rates));
+    valued_as_the_file(file, length, v, factors, rates);
+    free(factors.all);
+    free(rates.all);
+}
+
+static void test_same_in_four_bytes(void)
+{
+    static held_case c;
+
+    c1_case(&c);
+    same_in_four_bytes(&c);
+    flat_days(&c, 1, -1000, -1000);
+    same_in_four_bytes(&c);
+    flat_days(&c, 1, 0, 6000);
+    same_in_four_bytes(&c);
+    flat_days(&c, 70, 10000, 10000);
+    same_in_four_bytes(&c);
+    largest_case(&c);
+    same_in_four_bytes(&c);
+    for (c.rates_length = DAY; c.rates_length < 70 * DAY; c.rates_length += 23 * DAY)
+        same_in_four_bytes(&c);
+}
+
+/* The last of the seven decimals counts: with rates of 0.0000001, 1,000,000 euros in a year are worth 999,999.900000..01 euros. */
+static void test_last_decimal(void)
+{
+    static held_case c;
+    static uint8_t file[MOST_BYTES];
+    uint64_t factors[240];
+    int64_t rates[240];
+    ginghamowl_valuation v;
+
+    c1_case(&c);
+    in_form(&c, GINGHAMOWL_FOUR_BYTES);
+    flat_days(&c, 1, 1, 1);
+    saves(&c);
+    v = ginghamowl_value(file, shortest(&c, file), factors, 240, rates, 240);
+    CHECK(same_bracket(v.figures.l, 99999990, 99999991));
+    CHECK(factors[GINGHAMOWL_LOWER(1)] == 999999900000 && factors[GINGHAMOWL_UPPER(1)] == 999999900001);
+    flat_days(&c, 1, -1, -1);
+    saves(&c);
+    v = ginghamowl_value(file, shortest(&c, file), factors, 240, rates, 240);
+    CHECK(same_bracket(v.figures.l, 100000010, 100000011));
+    CHECK(factors[GINGHAMOWL_LOWER(1)] == 1000000100000 && factors[GINGHAMOWL_UPPER(1)] == 1000000100001);
 }
 
 static uint64_t drawn(uint64_t *state)
@@ -935,27 +1184,33 @@ static uint64_t drawn(uint64_t *state)
     return *state >> 16;
 }
 
+/* The rate in the lowest bytes of a number. */
+static int32_t fitting_rate(uint64_t number, uint64_t rate_bytes)
+{
+    return rate_bytes == GINGHAMOWL_FOUR_BYTES ? (int32_t)number : (int16_t)number;
+}
+
 /* Up to three numbers, or lengths of lists, drawn anew; each fits into its bytes. */
 static void spoil_at_random(held_case *c, uint64_t *state)
 {
     static const size_t days[] = {0, 1, 70, 71}, pension[] = {0, 1, 120, 121}, bonds[] = {0, 1, 60, 61};
-    uint64_t hits, numbers[24];
+    uint64_t hits, numbers[25];
 
     for (hits = drawn(state) % 4; hits > 0; hits--) {
-        uint64_t place = drawn(state) % 44, number = drawn(state) >> drawn(state) % 48;
+        uint64_t place = 1 + drawn(state) % 44, number = drawn(state) >> drawn(state) % 48;
 
         memcpy(numbers, &c->fields, sizeof numbers);
-        if (place < 24) /* UFR, amounts in 8 bytes, shocks, heads in 4 bytes, ages */
-            numbers[place] = place >= 1 && place <= 8 ? number : number % ((uint64_t)1 << (place == 21 ? 32 : 16));
-        else if (place < 30)
-            c->rates[drawn(state) % (3 * DAY)] = (int16_t)number;
-        else if (place < 34)
+        if (place < 25) /* UFR, amounts in 8 bytes, shocks, heads in 4 bytes, ages */
+            numbers[place] = place >= 2 && place <= 9 ? number : number % ((uint64_t)1 << (place == 22 ? 32 : 16));
+        else if (place < 31)
+            c->rates[drawn(state) % (3 * DAY)] = fitting_rate(number, c->fields.rate_bytes);
+        else if (place < 35)
             c->pension[drawn(state) % 3] = number % ((uint64_t)1 << 32);
-        else if (place < 38)
+        else if (place < 39)
             c->bonds[drawn(state) % 3] = number % ((uint64_t)1 << 32);
-        else if (place < 40)
+        else if (place < 41)
             c->rates_length = days[number % 4] * DAY;
-        else if (place < 42)
+        else if (place < 43)
             c->pension_length = pension[number % 4];
         else
             c->bonds_length = bonds[number % 4];
@@ -965,7 +1220,7 @@ static void spoil_at_random(held_case *c, uint64_t *state)
 
 /* A case whose numbers fit into their bytes is refused as the file is that says the same; else it is saved as
  * that file. */
-static void test_save_as_files_are_read(void)
+static void test_save_as_files_are_read(uint64_t rate_bytes)
 {
     static held_case c;
     static uint8_t file[MOST_BYTES];
@@ -977,6 +1232,7 @@ static void test_save_as_files_are_read(void)
         size_t length;
 
         largest_case(&c);
+        in_form(&c, rate_bytes);
         c.rates_length = 3 * DAY;
         spoil_at_random(&c, &state);
         length = shortest(&c, file);
@@ -1122,7 +1378,7 @@ static void drops_not(const ginghamowl_rolling_window *w, uint8_t refusal)
     CHECK(same_window(&changed.window, w));
 }
 
-/* The file of the case with the window's days. Returns its length. */
+/* The file of the case with the window's days, which are in two bytes. Returns its length. */
 static size_t with_days_of(const ginghamowl_rolling_window *w, const held_case *c, uint8_t file[MOST_BYTES])
 {
     static held_case with_days;
@@ -1130,6 +1386,7 @@ static size_t with_days_of(const ginghamowl_rolling_window *w, const held_case *
     size_t t;
 
     with_days = *c;
+    with_days.fields.rate_bytes = GINGHAMOWL_TWO_BYTES;
     with_days.rates_length = w->count * DAY;
     for (day = 0; day < w->count; day++)
         for (t = 0; t < DAY; t++)
@@ -1415,7 +1672,7 @@ static void test_rolling_bytes(void)
     CHECK(damaged > 500 && damaged < 1500);
 }
 
-static void test_rolling_value(void)
+static void test_rolling_value(uint64_t rate_bytes)
 {
     static const uint64_t windows[][2] = {{0, 1}, {69, 1}, {69, 2}, {35, 36}, {0, 70}, {12, 70}}; /* start and count */
     static const size_t lengths[] = {0, 1, 239, 240, 241, 1000};
@@ -1426,8 +1683,10 @@ static void test_rolling_value(void)
     for (i = 0; i < sizeof windows / sizeof *windows; i++) {
         w = made_window(windows[i][0], windows[i][1]);
         c1_case(&c);
+        in_form(&c, rate_bytes);
         rolling_values(&w, &c);
         largest_case(&c);
+        in_form(&c, rate_bytes);
         rolling_values(&w, &c);
     }
     for (f = 0; f < sizeof lengths / sizeof *lengths; f++)
@@ -1465,28 +1724,53 @@ static void test_rolling_growth(void)
 }
 
 /* 13; the case's faults, of which the first is given, its own 6 included; then 4 or 6 for the window's days. */
-static void test_rolling_order(void)
+static void test_rolling_order(uint64_t rate_bytes)
 {
     static held_case c;
+    const fault *faults = in_order(rate_bytes);
     ginghamowl_rolling_window empty = ginghamowl_rolling_empty(), steep = made_window(3, 0), right = made_window(3, 2);
     int first, second;
 
     adds(&steep, flat_day(0, 6001));
     for (first = 0; first < FAULTS; first++)
         for (second = first; second < FAULTS; second++) {
-            c1_case(&c);
-            flat_days(&c, 2, 0, 0);
-            c.bonds_length = 1;
-            spoil(&c, first);
-            spoil(&c, second);
-            rolling_values_not(&right, &c, FAULT_NUMBERS[first]);
-            rolling_values_not(&empty, &c, FAULT_NUMBERS[first]);
-            rolling_values_not(&steep, &c, FAULT_NUMBERS[first]);
+            uint8_t refusal = refusal_of(faults[first]);
+
+            two_faults(&c, rate_bytes, faults[first], faults[second]);
+            rolling_values_not(&right, &c, refusal);
+            rolling_values_not(&empty, &c, refusal);
+            rolling_values_not(&steep, &c, refusal);
         }
     c1_case(&c);
+    in_form(&c, rate_bytes);
     rolling_values(&right, &c);
     rolling_values_not(&empty, &c, GINGHAMOWL_REFUSED_DAY_COUNT);
     rolling_values_not(&steep, &c, GINGHAMOWL_REFUSED_GROWTH);
+}
+
+/* The case's own days are judged by its own form, not by the window's, whose days are in two bytes. */
+static void test_rolling_forms(void)
+{
+    static held_case c;
+    ginghamowl_rolling_window w = made_window(68, 4);
+    size_t i;
+
+    c1_case(&c);
+    flat_days(&c, 1, 10001, 10001); /* 10.001 percent, or 0.10001 */
+    rolling_values_not(&w, &c, GINGHAMOWL_REFUSED_RATE);
+    c.fields.rate_bytes = GINGHAMOWL_FOUR_BYTES;
+    rolling_values(&w, &c);
+    flat_days(&c, 1, 0, 6001); /* a forward rate of 12.002 percent, or of 0.12002 */
+    rolling_values(&w, &c);
+    c.fields.rate_bytes = GINGHAMOWL_TWO_BYTES;
+    rolling_values_not(&w, &c, GINGHAMOWL_REFUSED_GROWTH);
+    for (i = 0; i < NO_RATE_BYTES_COUNT; i++) {
+        c.fields.rate_bytes = NO_RATE_BYTES[i];
+        rolling_values_not(&w, &c, GINGHAMOWL_REFUSED_MAP);
+    }
+    w.sums[0]++;
+    takes_not(&w);
+    rolling_value_into(&w, &c, GINGHAMOWL_REFUSED_DAMAGED, 240, 240);
 }
 
 /* ---------------------------------------------------------------- histories of months */
@@ -1741,7 +2025,7 @@ static void test_month_rounding(void)
 }
 
 /* The start is checked, and makes no difference. */
-static void test_month_start(void)
+static void test_month_start(uint64_t rate_bytes)
 {
     static held_case c;
     static uint8_t file[MOST_BYTES];
@@ -1749,6 +2033,7 @@ static void test_month_start(void)
     size_t length;
 
     largest_case(&c);
+    in_form(&c, rate_bytes);
     length = shortest(&c, file);
     for (h.start = 0; h.start < MONTHS; h.start++) {
         gives(&h, GINGHAMOWL_ACCEPTED, (uint64_t)rounded_mean(&h));
@@ -1801,7 +2086,7 @@ static void test_history_bytes(void)
 }
 
 /* Files with a UFR of their own and without, and each UFR that can be found. */
-static void test_months_value(void)
+static void test_months_value(uint64_t rate_bytes)
 {
     static const size_t lengths[] = {0, 1, 239, 240, 241, 1000};
     static held_case c;
@@ -1811,6 +2096,7 @@ static void test_months_value(void)
     int ufr;
 
     largest_case(&c);
+    in_form(&c, rate_bytes);
     with_length = shortest(&c, with);
     c.fields.ufr = 4200;
     without_length = shortest(&c, without);
@@ -1829,30 +2115,37 @@ static void test_months_value(void)
         }
 }
 
-/* 13; the file's own refusals, whatever the history is; then the history's, of which the first is given. */
+/* C1 in this form is refused for its own faults, whatever the history is. */
+static void files_own_refusals_first(size_t form, const held_history *h)
+{
+    static uint8_t named[MOST_BYTES];
+    uint8_t file[C1_FOUR_BYTES + 1] = {0};
+    size_t length = C1_FORMS[form].length, k;
+
+    for (k = 0; k < C1_FORMS[form].count; k++) {
+        changed_c1(form, C1_FORMS[form].changes[k], file);
+        months_not(file, length, h, C1_FORMS[form].changes[k].refusal);
+    }
+    C1_FORMS[form].make(file);
+    for (k = 0; k < length; k++)
+        months_into(file, k, h, GINGHAMOWL_REFUSED_ENDS_EARLY, 240, 240);
+    months_not(NULL, 0, h, GINGHAMOWL_REFUSED_ENDS_EARLY);
+    months_not(file, length + 1, h, GINGHAMOWL_REFUSED_BYTES_FOLLOW);
+    months_not(named, with_ufr_field(file, length, 5001, named), h, GINGHAMOWL_REFUSED_UFR);
+}
+
+/* 13; the file's own refusals; then the history's, of which the first is given. */
 static void test_months_order(void)
 {
     held_history histories[] = {flat_months(3100), flat_months(3100), flat_months(3100), flat_months(-51), flat_months(5050)};
-    static uint8_t named[MOST_BYTES];
-    uint8_t file[C1_BYTES + 1] = {0};
-    size_t i, k;
+    size_t i, form;
 
     histories[0].length--;
     histories[1].start = MONTHS;
     set_month(&histories[2], MONTHS - 1, 10001);
-    for (i = 0; i < sizeof histories / sizeof *histories; i++) {
-        for (k = 0; k < CHANGES; k++) {
-            c1(file);
-            file[REFUSED_CHANGES[k].at] = REFUSED_CHANGES[k].byte;
-            months_not(file, C1_BYTES, &histories[i], REFUSED_CHANGES[k].refusal);
-        }
-        c1(file);
-        for (k = 0; k < C1_BYTES; k++)
-            months_into(file, k, &histories[i], GINGHAMOWL_REFUSED_ENDS_EARLY, 240, 240);
-        months_not(NULL, 0, &histories[i], GINGHAMOWL_REFUSED_ENDS_EARLY);
-        months_not(file, C1_BYTES + 1, &histories[i], GINGHAMOWL_REFUSED_BYTES_FOLLOW);
-        months_not(named, with_ufr_field(file, C1_BYTES, 5001, named), &histories[i], GINGHAMOWL_REFUSED_UFR);
-    }
+    for (i = 0; i < sizeof histories / sizeof *histories; i++)
+        for (form = 0; form < 2; form++)
+            files_own_refusals_first(form, &histories[i]);
     refuses(&histories[0], GINGHAMOWL_REFUSED_HISTORY);
     refuses(&histories[1], GINGHAMOWL_REFUSED_HISTORY);
     refuses(&histories[2], GINGHAMOWL_REFUSED_MONTH);
@@ -1866,6 +2159,22 @@ static void test_months_order(void)
     }
 }
 
+/* The tests that take cases, with the days in either form. */
+static void test_form(uint64_t rate_bytes)
+{
+    test_save(rate_bytes);
+    test_left_out(rate_bytes);
+    test_numbers(rate_bytes);
+    test_counts(rate_bytes);
+    test_rates(rate_bytes);
+    test_order(rate_bytes);
+    test_save_as_files_are_read(rate_bytes);
+    test_rolling_value(rate_bytes);
+    test_rolling_order(rate_bytes);
+    test_month_start(rate_bytes);
+    test_months_value(rate_bytes);
+}
+
 int main(void)
 {
     test_lengths();
@@ -1876,14 +2185,12 @@ int main(void)
     test_short_window();
     test_listing();
     test_damaged();
-    test_save();
+    test_form(GINGHAMOWL_TWO_BYTES);
+    test_form(GINGHAMOWL_FOUR_BYTES);
     test_save_largest();
-    test_left_out();
-    test_numbers();
-    test_counts();
-    test_rates();
-    test_order();
-    test_save_as_files_are_read();
+    test_rate_bytes();
+    test_same_in_four_bytes();
+    test_last_decimal();
     test_rolling_empty();
     test_rolling_round();
     test_rolling_scripts();
@@ -1891,16 +2198,13 @@ int main(void)
     test_rolling_damaged();
     test_rolling_start();
     test_rolling_bytes();
-    test_rolling_value();
     test_rolling_growth();
-    test_rolling_order();
+    test_rolling_forms();
     test_history_lengths();
     test_month_limits();
     test_month_rounding();
-    test_month_start();
     test_month_ends();
     test_history_bytes();
-    test_months_value();
     test_months_order();
     printf("c: %lu checks, %lu failed\n", checks, failures);
     return failures == 0 ? 0 : 1;

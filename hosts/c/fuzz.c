@@ -1,10 +1,13 @@
 /* The engine's boundary under libFuzzer: each input is a case file, and is answered with lent buffers of several lengths. The case
- * of an accepted one is saved, and what was saved is answered too. Each input is also a rolling window, and a history of months
- * with its start: as it is, and mended step by step, for bytes that come by chance are damaged or out of limits.
+ * of an accepted one is saved, and what was saved is answered too; so is the case with its days in two bytes, in four, and in
+ * neither. Each input is also a rolling window, and a history of months with its start: as it is, and mended step by step, for bytes
+ * that come by chance are damaged or out of limits. For the same reason a quarter of the inputs are files of drawn cases.
  *
  * The archive carries no instrumentation, so the fuzzer sees nothing of the engine's branches. What it sees is the answer: a
- * counter for each refusal, verdict and length, and for each kind of rolling window and of history (`answers`), so that it keeps a
- * file of each kind and goes on from there.
+ * counter for each refusal, verdict and length with either days field, and for each kind of rolling window and of history
+ * (`answers`), so that it keeps a file of each kind and goes on from there.
+ *
+ * At the end it says how many inputs were accepted with either days field, and fails where there were many and one field had none.
  *
  * Every buffer ends where a page begins that nobody may touch: an entry read or written too many ends the run at once.
  */
@@ -17,12 +20,15 @@
 
 #include "ginghamowl.h"
 
+int LLVMFuzzerInitialize(int *argc, char ***argv);
+size_t LLVMFuzzerMutate(uint8_t *data, size_t size, size_t most); /* of libFuzzer */
+size_t LLVMFuzzerCustomMutator(uint8_t *data, size_t size, size_t most, unsigned seed);
 int LLVMFuzzerTestOneInput(const uint8_t *data, size_t size);
 
-enum { KINDS = 17, LENGTHS = 64, WINDOWS = 6, HISTORIES = 3, LONGEST = 9223, MOST = 1000 };
+enum { FORMS = 2, KINDS = 17, LENGTHS = 64, FILES = FORMS * KINDS * LENGTHS, WINDOWS = 6, HISTORIES = 3, MOST = 1000 };
 
 /* libFuzzer takes the bytes of this section for counters of coverage. Nothing here reads them, hence volatile. */
-__attribute__((section("__libfuzzer_extra_counters"))) static volatile uint8_t answers[KINDS * LENGTHS + WINDOWS + HISTORIES];
+__attribute__((section("__libfuzzer_extra_counters"))) static volatile uint8_t answers[FILES + WINDOWS + HISTORIES];
 
 #define REQUIRE(what) require(__LINE__, (what), #what)
 
@@ -141,6 +147,14 @@ static uint64_t taken(const uint8_t **at, int length)
     return number;
 }
 
+/* The days of a file whose rates have so many bytes. */
+static void take_days(const uint8_t **at, uint64_t rate_bytes, held_case *c)
+{
+    c->rates_length = GINGHAMOWL_DAY_RATES * taken(at, 1);
+    for (size_t i = 0; i < c->rates_length; i++)
+        c->rates[i] = rate_bytes == GINGHAMOWL_FOUR_BYTES ? (int32_t)taken(at, 4) : (int16_t)taken(at, 2);
+}
+
 static size_t take_flows(const uint8_t **at, uint64_t *flows)
 {
     size_t count = taken(at, 1);
@@ -153,22 +167,35 @@ static size_t take_flows(const uint8_t **at, uint64_t *flows)
 static held_case decoded(const uint8_t *file)
 {
     held_case c = {.bonds_length = 0};
-    uint64_t map = taken(&file, 2), numbers[24] = {4200}; /* UFR, amounts, shocks, people: as in c.fields */
+    uint64_t map = taken(&file, 2), rate_bytes = map >> 7 & 1 ? GINGHAMOWL_FOUR_BYTES : GINGHAMOWL_TWO_BYTES;
+    uint64_t numbers[25] = {rate_bytes, 4200}; /* the bytes of a rate, UFR, amounts, shocks, people: as in c.fields */
 
     if (map & 1)
-        numbers[0] = taken(&file, 2);
-    c.rates_length = GINGHAMOWL_DAY_RATES * taken(&file, 1);
-    for (size_t i = 0; i < c.rates_length; i++)
-        c.rates[i] = (int16_t)taken(&file, 2);
+        numbers[1] = taken(&file, 2);
+    if (rate_bytes == GINGHAMOWL_TWO_BYTES)
+        take_days(&file, rate_bytes, &c);
     c.pension_length = take_flows(&file, c.pension);
     if (map >> 3 & 1)
         c.bonds_length = take_flows(&file, c.bonds);
-    for (int i = 1; i <= 8 && map >> 4 & 1; i++)
+    for (int i = 2; i <= 9 && map >> 4 & 1; i++)
         numbers[i] = taken(&file, 8);
-    for (int i = 9; i <= 23; i++)
-        numbers[i] = taken(&file, i == 21 ? 4 : 2); /* 21: the head count */
+    for (int i = 10; i <= 24; i++)
+        numbers[i] = taken(&file, i == 22 ? 4 : 2); /* 22: the head count */
+    if (rate_bytes == GINGHAMOWL_FOUR_BYTES)
+        take_days(&file, rate_bytes, &c);
     memcpy(&c.fields, numbers, sizeof numbers);
     return c;
+}
+
+/* The part of an accepted file has its rates and nothing else. */
+static void part_of(const uint8_t *file, ginghamowl_part part)
+{
+    held_case c = decoded(file), in_part = {.rates_length = 0};
+    const uint8_t *count = file + part.offset - 1;
+
+    REQUIRE(part.length == c.rates_length * c.fields.rate_bytes);
+    take_days(&count, c.fields.rate_bytes, &in_part);
+    REQUIRE(in_part.rates_length == c.rates_length && memcmp(in_part.rates, c.rates, sizeof c.rates) == 0);
 }
 
 static void *lend_copy(const void *list, size_t bytes)
@@ -205,8 +232,8 @@ static int same_answers(const uint8_t *file, size_t size, const uint8_t *other, 
         && memcmp(rates[0], rates[1], sizeof rates[0]) == 0;
 }
 
-/* The case of an accepted file fills a buffer of its own length with a file that is no longer and has the same answer, and leaves a
- * buffer that is a byte shorter alone. Saved once more, it has the same bytes. */
+/* The case of an accepted file fills a buffer of its own length with a file that is no longer, has the same days field and the same
+ * answer, and leaves a buffer that is a byte shorter alone. Saved once more, it has the same bytes. */
 static void saved(const uint8_t *file, size_t size)
 {
     uint8_t whole[GINGHAMOWL_FILE_BYTES];
@@ -215,6 +242,7 @@ static void saved(const uint8_t *file, size_t size)
 
     REQUIRE(length > 0 && length <= size && same_answers(file, size, whole, length));
     held_case again = decoded(whole);
+    REQUIRE(again.fields.rate_bytes == c.fields.rate_bytes);
     uint8_t *exact = lend(length), *shorter = lend(length - 1);
     memset(shorter, 1, length - 1);
     REQUIRE(save(&again, exact, length).written == length && memcmp(exact, whole, length) == 0);
@@ -226,9 +254,123 @@ static void saved(const uint8_t *file, size_t size)
     take_back(shorter, length - 1);
 }
 
+/* ---------------------------------------------------------------- cases with their days in two bytes, in four, in neither */
+
+enum { DAY = GINGHAMOWL_DAY_RATES };
+
+/* A number that differs from input to input. */
+static uint64_t hash_of(const uint8_t *bytes, size_t size)
+{
+    uint64_t hash = 14695981039346656037u; /* FNV-1a */
+
+    for (size_t i = 0; i < size; i++)
+        hash = (hash ^ bytes[i]) * 1099511628211u;
+    return hash;
+}
+
+/* The sum of a term's rates over the days. */
+static int64_t sum_of(const held_case *c, size_t term)
+{
+    int64_t sum = 0;
+
+    for (size_t i = term - 1; term > 0 && i < c->rates_length; i += DAY)
+        sum += c->rates[i];
+    return sum;
+}
+
+/* What a case is refused with whose numbers are within their limits but for the bytes of a rate and the rates. */
+static uint8_t refusal_of_days(const held_case *c)
+{
+    int64_t unit = c->fields.rate_bytes == GINGHAMOWL_FOUR_BYTES ? 100 : 1, per_step = unit * (int64_t)(c->rates_length / DAY);
+
+    if (c->fields.rate_bytes != GINGHAMOWL_TWO_BYTES && c->fields.rate_bytes != GINGHAMOWL_FOUR_BYTES)
+        return GINGHAMOWL_REFUSED_MAP;
+    for (size_t i = 0; i < c->rates_length; i++)
+        if (c->rates[i] < -1000 * unit || c->rates[i] > 10000 * unit)
+            return GINGHAMOWL_REFUSED_RATE;
+    for (int64_t t = 1; t <= DAY; t++) {
+        int64_t forward = t * sum_of(c, (size_t)t) - (t - 1) * sum_of(c, (size_t)t - 1);
+
+        if (forward < -2000 * per_step || forward > 12000 * per_step)
+            return GINGHAMOWL_REFUSED_GROWTH;
+    }
+    return GINGHAMOWL_ACCEPTED;
+}
+
+/* The case is saved, and its file holds the same case; or it is refused as its days tell, and nothing is written. Returns the length
+ * of the file, which is 0 for a refusal. */
+static size_t saved_or_refused(const held_case *c, uint8_t file[GINGHAMOWL_FILE_BYTES])
+{
+    memset(file, 1, GINGHAMOWL_FILE_BYTES);
+    ginghamowl_saved saved = save(c, file, GINGHAMOWL_FILE_BYTES);
+
+    REQUIRE(saved.refusal == refusal_of_days(c) && (saved.written == 0) == (saved.refusal != GINGHAMOWL_ACCEPTED));
+    for (size_t i = saved.written; i < GINGHAMOWL_FILE_BYTES; i++)
+        REQUIRE(file[i] == 1);
+    if (saved.refusal == GINGHAMOWL_ACCEPTED) {
+        held_case again = decoded(file);
+
+        REQUIRE(memcmp(&again, c, sizeof again) == 0);
+    }
+    return saved.written;
+}
+
+/* The case with its days in two bytes: of rates of four bytes only whole steps are left. */
+static held_case in_two_bytes(held_case c)
+{
+    if (c.fields.rate_bytes == GINGHAMOWL_FOUR_BYTES)
+        for (size_t i = 0; i < c.rates_length; i++)
+            c.rates[i] /= 100;
+    c.fields.rate_bytes = GINGHAMOWL_TWO_BYTES;
+    return c;
+}
+
+/* A case with its days in two bytes, rewritten to four. */
+static held_case in_four_bytes(held_case c)
+{
+    for (size_t i = 0; i < c.rates_length; i++)
+        c.rates[i] *= 100;
+    c.fields.rate_bytes = GINGHAMOWL_FOUR_BYTES;
+    return c;
+}
+
+/* The same with other last decimals: the rates are no whole steps, and may be past a limit that they were at. */
+static held_case refined(held_case c, uint64_t chosen)
+{
+    for (size_t i = 0; i < c.rates_length; i++)
+        c.rates[i] += (int32_t)((chosen + 37 * i) % 199) - 99;
+    return c;
+}
+
+static held_case with_rate_bytes(held_case c, uint64_t rate_bytes)
+{
+    c.fields.rate_bytes = rate_bytes;
+    return c;
+}
+
+/* The case of an accepted file in whole steps has the same answer in two bytes and in four. Its rates may also have other decimals, or
+ * be taken for rates of the other form or of none. */
+static void in_each_form(const uint8_t *file, size_t size)
+{
+    uint8_t two_file[GINGHAMOWL_FILE_BYTES], four_file[GINGHAMOWL_FILE_BYTES], other_file[GINGHAMOWL_FILE_BYTES];
+    held_case c = decoded(file), two = in_two_bytes(c), four = in_four_bytes(two);
+    uint64_t chosen = hash_of(file, size);
+    size_t two_length = saved_or_refused(&two, two_file), four_length = saved_or_refused(&four, four_file);
+    held_case others[] = {refined(four, chosen), with_rate_bytes(c, 6 - c.fields.rate_bytes), with_rate_bytes(c, chosen % 9),
+                          with_rate_bytes(c, chosen)};
+
+    REQUIRE((two_length == 0) == (four_length == 0));
+    REQUIRE(two_length == 0 || same_answers(two_file, two_length, four_file, four_length));
+    for (size_t i = 0; i < sizeof others / sizeof *others; i++) {
+        size_t length = saved_or_refused(&others[i], other_file);
+
+        REQUIRE(length == 0 || ginghamowl_refusal(other_file, length) == GINGHAMOWL_ACCEPTED);
+    }
+}
+
 /* ---------------------------------------------------------------- rolling windows */
 
-enum { SLOTS = GINGHAMOWL_WINDOW_DAYS, DAY = GINGHAMOWL_DAY_RATES };
+enum { SLOTS = GINGHAMOWL_WINDOW_DAYS };
 
 static int within_limits(int32_t rate)
 {
@@ -313,6 +455,7 @@ static ginghamowl_valuation rolling_value(const ginghamowl_rolling_window *w, co
 
 static held_case with_days(held_case c, const ginghamowl_rolling_window *w)
 {
+    c.fields.rate_bytes = GINGHAMOWL_TWO_BYTES;
     c.rates_length = w->count * DAY;
     for (uint64_t day = 0; day < w->count; day++)
         for (size_t t = 0; t < DAY; t++)
@@ -320,8 +463,9 @@ static held_case with_days(held_case c, const ginghamowl_rolling_window *w)
     return c;
 }
 
-/* A case within the limits, with the window's days, has the answer and the buffers of the file that is saved with these days. It is
- * refused where the window is damaged, or saving refuses the days; the buffers then hold what they held. */
+/* A case with the window's days has the answer and the buffers of the file that is saved with these days. It is refused where the
+ * window is damaged, where the case's own days are refused, and where saving refuses the window's days; the buffers then hold what
+ * they held. */
 static void rolling_valued(const ginghamowl_rolling_window *w, int damaged, const held_case *c)
 {
     uint8_t file[GINGHAMOWL_FILE_BYTES];
@@ -333,7 +477,9 @@ static void rolling_valued(const ginghamowl_rolling_window *w, int damaged, cons
     hold(rates, GINGHAMOWL_ENTRIES);
     hold(file_factors, GINGHAMOWL_ENTRIES);
     hold(file_rates, GINGHAMOWL_ENTRIES);
-    if (!damaged) {
+    if (!damaged)
+        of_file.refusal = refusal_of_days(c);
+    if (of_file.refusal == GINGHAMOWL_ACCEPTED) {
         held_case changed = with_days(*c, w);
         ginghamowl_saved saved = ginghamowl_save(changed.fields, changed.rates, changed.rates_length, changed.pension,
                                                  changed.pension_length, changed.bonds, changed.bonds_length, file, sizeof file);
@@ -399,16 +545,6 @@ static ginghamowl_rolling_window mended(ginghamowl_rolling_window w)
     return summed(w);
 }
 
-/* A number that differs from input to input. */
-static uint64_t hash_of(const uint8_t *bytes, size_t size)
-{
-    uint64_t hash = 14695981039346656037u; /* FNV-1a */
-
-    for (size_t i = 0; i < size; i++)
-        hash = (hash ^ bytes[i]) * 1099511628211u;
-    return hash;
-}
-
 /* The window with one bit changed: of any byte, or of one that belongs to no rate. */
 static ginghamowl_rolling_window with_one_bit(ginghamowl_rolling_window w, uint64_t chosen)
 {
@@ -423,13 +559,15 @@ static ginghamowl_rolling_window with_one_bit(ginghamowl_rolling_window w, uint6
     return window_in(bytes, sizeof bytes);
 }
 
-/* A window with the days of a case, added one after the other. Start and free slots are those of `w`. */
+/* A window with the days of a case in whole steps, added one after the other. Start and free slots are those of `w`. */
 static ginghamowl_rolling_window window_of(const held_case *c, ginghamowl_rolling_window w)
 {
+    held_case two = in_two_bytes(*c);
+
     w.count = 0;
     w.start %= SLOTS;
     memset(w.sums, 0, sizeof w.sums);
-    for (const int32_t *rates = c->rates; rates < c->rates + c->rates_length; rates += DAY) {
+    for (const int32_t *rates = two.rates; rates < two.rates + two.rates_length; rates += DAY) {
         ginghamowl_day day;
 
         memcpy(day.rates, rates, sizeof day.rates);
@@ -449,27 +587,35 @@ static size_t window_kind(const ginghamowl_rolling_window *w)
 }
 
 /* A case within the limits, for inputs that are none. Its flow is past term 20, so that the UFR has a part in its worth. */
-static const held_case plain = {.fields = {.ufr = 4200, .people = {100, 780, 460}}, .rates_length = DAY,
-                                .pension = {[29] = 1000000}, .pension_length = 30};
+static const held_case plain = {.fields = {.rate_bytes = GINGHAMOWL_TWO_BYTES, .ufr = 4200, .people = {100, 780, 460}},
+                                .rates_length = DAY, .pension = {[29] = 1000000}, .pension_length = 30};
 
-/* The input as rolling windows, valued with its case where it is accepted. */
+/* The input as rolling windows, valued with its case where it is accepted; one of them also with the days of the case in either form
+ * and in none. */
 static void rolling_windows(const uint8_t *file, size_t size, int accepted)
 {
     held_case c = accepted ? decoded(file) : plain;
+    uint64_t chosen = hash_of(file, size);
     ginghamowl_rolling_window given = window_in(file, size), right_sums = summed(given), right = mended(given);
-    ginghamowl_rolling_window one_bit = with_one_bit(right, hash_of(file, size));
+    ginghamowl_rolling_window one_bit = with_one_bit(right, chosen);
+
+    held_case two = in_two_bytes(c), four = in_four_bytes(two), no_form = with_rate_bytes(c, chosen % 9);
 
     REQUIRE(!is_damaged(&right));
     rolled(&given, &c);
     rolled(&right_sums, &c);
     rolled(&right, &c);
     rolled(&one_bit, &c);
+    rolling_valued(&right, 0, &two);
+    rolling_valued(&right, 0, &four);
+    rolling_valued(&right, 0, &no_form);
+    rolling_valued(&given, is_damaged(&given), &no_form);
     if (accepted) {
         ginghamowl_rolling_window of_case = window_of(&c, given);
 
         rolled(&of_case, &c);
     }
-    answers[KINDS * LENGTHS + window_kind(&given)] = 1;
+    answers[FILES + window_kind(&given)] = 1;
 }
 
 /* ---------------------------------------------------------------- histories of months */
@@ -609,19 +755,116 @@ static size_t history_kind(const held_history *h)
     return refusal == GINGHAMOWL_REFUSED_MONTH ? 0 : refusal == GINGHAMOWL_REFUSED_MONTHS_UFR ? 1 : 2;
 }
 
-/* The input as histories, each beside the input and beside a file that is accepted. */
+/* The input as histories, each beside the input and beside a file that is accepted, which has either days field. */
 static void histories(const uint8_t *file, size_t size)
 {
     uint8_t accepted[GINGHAMOWL_FILE_BYTES];
-    size_t length = save(&plain, accepted, sizeof accepted).written;
+    uint64_t chosen = hash_of(file, size);
+    held_case c = chosen >> 32 & 1 ? in_four_bytes(plain) : plain;
+    size_t length = save(&c, accepted, sizeof accepted).written;
     held_history given = history_in(file, size), right_length = whole(given);
-    held_history tried[] = {given, right_length, months_to(given, 10000), months_to(given, 5000),
-                            at_border(given, hash_of(file, size))};
+    held_history tried[] = {given, right_length, months_to(given, 10000), months_to(given, 5000), at_border(given, chosen)};
 
     REQUIRE(length > 0);
     for (size_t i = 0; i < sizeof tried / sizeof *tried; i++)
         months_answered(file, size, accepted, length, &tried[i]);
-    answers[KINDS * LENGTHS + WINDOWS + history_kind(&right_length)] = 1;
+    answers[FILES + WINDOWS + history_kind(&right_length)] = 1;
+}
+
+/* ---------------------------------------------------------------- inputs that are accepted */
+
+static uint64_t drawn(uint64_t *state)
+{
+    *state ^= *state << 13, *state ^= *state >> 7, *state ^= *state << 17;
+    return *state >> 16;
+}
+
+/* A number from 0 to `most`, of any length, and now and then one of the two. */
+static uint64_t up_to(uint64_t *state, uint64_t most)
+{
+    uint64_t way = drawn(state) % 8;
+
+    return way == 0 ? 0 : way == 1 ? most : drawn(state) % ((most >> drawn(state) % 8 * (way % 2)) + 1);
+}
+
+/* A day that passes refusals 5 and 6: a rate is the mean, rounded down, of forward rates from -1 to 10 percent. */
+static void draw_day(uint64_t *state, int32_t unit, int32_t *rates)
+{
+    int64_t raised = 0; /* the sum of the forward rates, each raised by 1 percent, so that the division rounds down */
+
+    for (int64_t t = 1; t <= DAY; t++) {
+        raised += (int64_t)up_to(state, 11000 * (uint64_t)unit);
+        rates[t - 1] = (int32_t)(raised / t) - 1000 * unit;
+    }
+}
+
+static size_t draw_flows(uint64_t *state, uint64_t count, uint64_t *flows)
+{
+    for (uint64_t i = 0; i < count; i++)
+        flows[i] = up_to(state, 100000000);
+    return count;
+}
+
+/* A case within the limits. */
+static held_case drawn_case(uint64_t *state, uint64_t rate_bytes)
+{
+    static const uint64_t shock_limits[12] = {1000, 1000, 1000, 1000, 1000, 1000, 1000, 1000, 1000, 1000, 10000, 500};
+    held_case c = {.rates_length = DAY * (1 + up_to(state, 69))};
+    uint64_t numbers[25] = {rate_bytes, up_to(state, 5000)}; /* as in c.fields */
+
+    for (size_t i = 0; i < c.rates_length; i += DAY)
+        draw_day(state, rate_bytes == GINGHAMOWL_FOUR_BYTES ? 100 : 1, c.rates + i);
+    c.pension_length = draw_flows(state, 1 + up_to(state, 119), c.pension);
+    c.bonds_length = draw_flows(state, up_to(state, 60), c.bonds);
+    for (int i = 2; i <= 9; i++)
+        numbers[i] = up_to(state, 100000000000 >> drawn(state) % 16);
+    for (int i = 10; i <= 21; i++)
+        numbers[i] = up_to(state, shock_limits[i - 10]);
+    numbers[22] = 1 + up_to(state, 999999);
+    numbers[23] = up_to(state, 1200);
+    numbers[24] = up_to(state, 1200);
+    memcpy(&c.fields, numbers, sizeof numbers);
+    return c;
+}
+
+/* libFuzzer's own changes of a file seldom give one that is accepted. So a quarter of the inputs are drawn cases, with their days in
+ * either form. */
+size_t LLVMFuzzerCustomMutator(uint8_t *data, size_t size, size_t most, unsigned seed)
+{
+    uint64_t state = (hash_of(data, size) ^ seed) | 1;
+
+    if (drawn(&state) % 4 != 0 || most < GINGHAMOWL_FILE_BYTES)
+        return LLVMFuzzerMutate(data, size, most);
+    held_case c = drawn_case(&state, drawn(&state) % 2 == 0 ? GINGHAMOWL_TWO_BYTES : GINGHAMOWL_FOUR_BYTES);
+    ginghamowl_saved saved = save(&c, data, most);
+    REQUIRE(saved.refusal == GINGHAMOWL_ACCEPTED);
+    return saved.written;
+}
+
+/* ---------------------------------------------------------------- the run */
+
+/* All inputs, and those that were accepted with either days field. */
+static unsigned long inputs, accepted_in[FORMS];
+
+/* Says how many inputs were accepted. A run of many inputs fails that reached no case of one form: it has shown nothing of it. */
+static void tell_accepted(void)
+{
+    enum { MANY = 1000 };
+
+    fprintf(stderr, "fuzz: %lu inputs, accepted with days in two bytes %lu, in four bytes %lu\n", inputs, accepted_in[0],
+            accepted_in[1]);
+    if (inputs >= MANY && (accepted_in[0] == 0 || accepted_in[1] == 0)) {
+        fprintf(stderr, "fuzz: failed: no input was accepted with days in %s bytes\n", accepted_in[0] == 0 ? "two" : "four");
+        _exit(1);
+    }
+}
+
+int LLVMFuzzerInitialize(int *argc, char ***argv)
+{
+    (void)argc;
+    (void)argv;
+    REQUIRE(atexit(tell_accepted) == 0);
+    return 0;
 }
 
 int LLVMFuzzerTestOneInput(const uint8_t *data, size_t size)
@@ -638,14 +881,20 @@ int LLVMFuzzerTestOneInput(const uint8_t *data, size_t size)
     ginghamowl_valuation v = valued(file, size, MOST, GINGHAMOWL_ENTRIES);
     REQUIRE((part.length == 0) == (v.refusal != GINGHAMOWL_ACCEPTED));
     listed(v);
-    if (v.refusal == GINGHAMOWL_ACCEPTED)
+    if (v.refusal == GINGHAMOWL_ACCEPTED) {
+        part_of(file, part);
         saved(file, size);
+        in_each_form(file, size);
+    }
     rolling_windows(file, size, v.refusal == GINGHAMOWL_ACCEPTED);
     histories(file, size);
 
+    size_t form = size > 1 && file[1] >> 7; /* bit 7 of the map: days in four bytes */
     size_t kind = v.refusal == GINGHAMOWL_ACCEPTED ? 12 + (size_t)v.verdict : v.refusal;
-    size_t length = size < LONGEST ? size * LENGTHS / (LONGEST + 1) : LENGTHS - 1;
-    answers[kind * LENGTHS + length] = 1;
+    size_t length = size < GINGHAMOWL_FILE_BYTES ? size * LENGTHS / (GINGHAMOWL_FILE_BYTES + 1) : LENGTHS - 1;
+    answers[(form * KINDS + kind) * LENGTHS + length] = 1;
+    inputs++;
+    accepted_in[form] += v.refusal == GINGHAMOWL_ACCEPTED;
     take_back(file, size);
     return 0;
 }

@@ -10,7 +10,7 @@ from pathlib import Path
 from typing import Any, NamedTuple
 
 #: The longest accepted file has so many bytes. Of a longer one, the first FILE_BYTES + 1 decide the refusal.
-FILE_BYTES = 9223
+FILE_BYTES = 17623
 
 #: A rolling window holds at most so many days.
 WINDOW_DAYS = 70
@@ -68,7 +68,7 @@ class HostPeople(Structure):
 
 
 class HostCaseFields(Structure):
-    _fields_ = [("ufr", c_uint64), ("amounts", HostAmounts), ("shocks", HostShocks), ("people", HostPeople)]
+    _fields_ = [("rate_bytes", c_uint64), ("ufr", c_uint64), ("amounts", HostAmounts), ("shocks", HostShocks), ("people", HostPeople)]
 
 
 class HostSaved(Structure):

@@ -15,6 +15,8 @@ DAMAGED = 27  # the refusal that comes before all others
 class RollingWindow:
     """Up to 70 trading days, and beside them the sum of each term's rates. A new one holds no day.
 
+    Its rates have two bytes and are in steps of 0.00001: there is no window of days in four bytes.
+
     add() and drop() change the window, and where a call raises it changes nothing. (The window of Valuation.window_point is
     another thing: a screen that shows a valuation.)
 
@@ -60,7 +62,7 @@ class RollingWindow:
         self._become(self._dropped())
 
     def days(self) -> tuple[tuple[int, ...], ...]:
-        """The days held, oldest first, as a Case has them. Raises Refused with 27 for a damaged window.
+        """The days held, oldest first, as a Case has them in two bytes. Raises Refused with 27 for a damaged window.
 
         The engine judges the window, and the days of one that is not damaged are taken out here.
         """
@@ -73,9 +75,9 @@ class RollingWindow:
     def value(self, case: Case) -> Valuation:
         """The valuation of a case with the days of this window in place of its own.
 
-        It is what value() gives of a file with these days, and the other fields of the case. Raises Refused, in this order: 27 for a
-        damaged window; the number with which Case.save() refuses the case, its own days included; 4 for a window that holds no day;
-        6 for its days.
+        It is what value() gives of a file with these days, and the other fields of the case. The case's own days may be in four bytes.
+        Raises Refused, in this order: 27 for a damaged window; the number with which Case.save() refuses the case, its own days
+        included; 4 for a window that holds no day; 6 for its days.
         """
         return valued(_c.engine().rolling_value, self._struct(), *arguments(case))
 

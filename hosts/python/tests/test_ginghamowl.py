@@ -9,35 +9,44 @@ import tempfile
 import unittest
 from concurrent.futures import ThreadPoolExecutor
 from dataclasses import replace
+from itertools import cycle, product
 from pathlib import Path
 
 HERE = Path(__file__).resolve()
 sys.path[:0] = [str(HERE.parents[1]), str(HERE.parents[3] / "tests")]
 import examples
+import files
 import ginghamowl
 import reference
 from ginghamowl import Bracket, Figures, Kind, Point, Refused, Verdict, _library
 
 C1 = reference.encode(examples.c1(), False, False, True)
+BOTH_FORMS = 2, 4  # the bytes of a rate
 
 
-def seeded_files(seed, count):
-    """Files that are accepted, with the cases that they hold."""
+def seeded_files(seed, count, forms=BOTH_FORMS):
+    """Files that are accepted, with the cases that they hold; their days have these forms in turn."""
     rng = random.Random(seed)
-    for _ in range(count):
-        case = examples.random_case(rng)
+    for _, rate_bytes in zip(range(count), cycle(forms)):
+        case = examples.random_case(rng, rate_bytes=rate_bytes)
         yield reference.encode(case, *examples.presence(rng, case)), case
 
 
 def damaged_files(seed, count):
-    """Files with a few bytes changed, cut or added."""
+    """Files of either form with a few bytes changed, cut or added. The first five bytes and the last are hit more often."""
     rng = random.Random(seed)
-    good = [C1, reference.encode(examples.up(), True, True, True)] + [data for data, _ in seeded_files(seed, 4)]
+    good = [C1, files.rewritten(C1), files.all_fields(3, 2), files.all_fields(3, 4), *(data for data, _ in seeded_files(seed, 4))]
     for _ in range(count):
         data = bytearray(rng.choice(good))
         for _ in range(rng.randint(0, 2)):
-            data[rng.choice([rng.randrange(len(data)), rng.randrange(5)])] = rng.choice([0, 1, 127, 128, 255, rng.randrange(256)])
+            at = rng.choice([rng.randrange(len(data)), rng.randrange(5), len(data) - 1])
+            data[at] = rng.choice([0, 1, 127, 128, 255, rng.randrange(256)])
         yield bytes(data[:rng.choice([None, None, None, rng.randrange(len(data))])]) + bytes(rng.choice([0, 0, 0, 1]))
+
+
+def has_four_bytes(data):
+    """Whether the map announces days in four bytes."""
+    return len(data) > 1 and data[1] >> 7 == 1
 
 
 def brackets(pairs):
@@ -47,9 +56,10 @@ def brackets(pairs):
 class BesideTheReference(unittest.TestCase):
     def test_accepted_files(self):
         fixed = [(C1, examples.c1())] + [(reference.encode(case, True, bool(case.bonds), True), case)
-                                         for case in (examples.up(), examples.down(), examples.bent())]
+                                         for two in (examples.up(), examples.down(), examples.bent())
+                                         for case in (two, files.finer_case(two))]
         verdicts = set()
-        for data, case in [*fixed, *seeded_files(1, 40)]:
+        for data, case in [*fixed, *seeded_files(5, 50)]:
             rounded = reference.Rounded(case)
             valuation = ginghamowl.value(data)
             self.assertEqual(valuation.factors, brackets(rounded.factors[1:]))
@@ -59,13 +69,22 @@ class BesideTheReference(unittest.TestCase):
             self.assertEqual(valuation.listing().encode(), reference.listing(data))
             offset, length = reference.rates_part(data)
             self.assertEqual(ginghamowl.rates_part(data), data[offset:offset + length])
+            self.assertEqual(length, 60 * case.rate_bytes * len(case.days))
             self.assertEqual(ginghamowl.refusal(data), 0)
-            verdicts.add(valuation.verdict)
-        self.assertEqual(verdicts, set(Verdict))
+            verdicts.add((case.rate_bytes, valuation.verdict))
+        self.assertEqual(verdicts, set(product(BOTH_FORMS, Verdict)))
+
+    def test_rewritten_files(self):
+        """A file with days in two bytes, rewritten to four with every rate times 100: other bytes, and the same valuation."""
+        for data, _ in seeded_files(14, 40, [2]):
+            other = files.rewritten(data)
+            self.assertNotEqual(other, data)
+            self.assertEqual(len(ginghamowl.rates_part(other)), 2 * len(ginghamowl.rates_part(data)))
+            self.assertEqual(ginghamowl.value(other), ginghamowl.value(data))
 
     def test_damaged_files(self):
         seen = set()
-        for data in damaged_files(2, 3_000):
+        for data in damaged_files(2, 6_000):
             answer = reference.read(data)
             number = answer.number if isinstance(answer, reference.Refusal) else 0
             self.assertEqual(ginghamowl.refusal(data), number)
@@ -74,8 +93,8 @@ class BesideTheReference(unittest.TestCase):
                     with self.assertRaises(Refused) as caught:
                         function(data)
                     self.assertEqual(caught.exception.number, number)
-            seen.add(number)
-        self.assertEqual(seen, set(range(13)))
+            seen.add((has_four_bytes(data), number))
+        self.assertEqual(seen, set(product([False, True], range(13))))
 
 
 class Package(unittest.TestCase):

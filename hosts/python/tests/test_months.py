@@ -6,17 +6,19 @@ import pickle
 import random
 import sys
 import unittest
+from itertools import product
 from pathlib import Path
 
 HERE = Path(__file__).resolve()
 sys.path[:0] = [str(HERE.parents[1]), str(HERE.parents[3] / "tests")]
+import files
 import ginghamowl
 import histories
 import months
 import reference
 from ginghamowl import HISTORY_BYTES, HISTORY_MONTHS, History, Refused, _library
 from histories import any_start, history_of, with_month
-from test_ginghamowl import C1, seeded_files
+from test_ginghamowl import BOTH_FORMS, C1, seeded_files
 from test_rolling import answer_of
 
 FLAT = [3_100] * HISTORY_MONTHS
@@ -65,13 +67,20 @@ class BesideTheReference(Months):
         self.assertEqual(seen, {0, 17, 18, 19})
 
     def test_valuations(self):
-        """Files with a UFR of their own and without."""
+        """Files with a UFR of their own and without, of either days field."""
         rng, seen = random.Random(11), set()
-        for file, _ in seeded_files(11, 40):
-            seen.add(self.assert_as_expected(file, histories.random_history(rng), rng.randrange(HISTORY_MONTHS)))
+        for file, held in seeded_files(11, 80):
+            number = self.assert_as_expected(file, histories.random_history(rng), rng.randrange(HISTORY_MONTHS))
+            seen.add((held.rate_bytes, number))
         for call in rng.sample(histories.every_ufr(rng, histories.accepted_files(rng, 2)), 40):
             self.assertEqual(self.assert_as_expected(call.file, call.history, call.start), 0)
-        self.assertEqual(seen, {0, 18, 19})
+        self.assertEqual(seen, set(product(BOTH_FORMS, (0, 18, 19))))
+
+    def test_rewritten_files(self):
+        """A history gives a file with days in two bytes, and the same rewritten to four, the same valuation."""
+        history = History(FLAT, 5)
+        for file, _ in seeded_files(16, 20, [2]):
+            self.assertEqual(history.value(files.rewritten(file)), history.value(file))
 
     def test_order(self):
         """Two faults, of the file and of the history; the lent buffers are the package's own, so never 13."""

@@ -13,10 +13,11 @@ from pathlib import Path
 HERE = Path(__file__).resolve()
 sys.path[:0] = [str(HERE.parents[1]), str(HERE.parents[3] / "tests")]
 import examples
+import files
 import ginghamowl
 import reference
-from ginghamowl import WINDOW_BYTES, WINDOW_DAYS, Refused, RollingWindow, _library
-from test_case import C1, UP, case_of, shortest, with_field
+from ginghamowl import WINDOW_BYTES, WINDOW_DAYS, DaysForm, Refused, RollingWindow, _library
+from test_case import C1, UP, UP_FOUR, case_of, faults_in_order, shortest, with_field
 from test_ginghamowl import seeded_files
 
 FLAT, STEEP = (0,) * 60, (0,) + (6_001,) * 59  # STEEP alone is refused with 6
@@ -106,14 +107,26 @@ class Valued(Rolling):
     def test_beside_files(self):
         """A case that has the window's days is worth what its file is; the days that the case itself has make no difference."""
         rng, verdicts = random.Random(7), set()
-        for _, held in seeded_files(7, 25):
+        for _, held in seeded_files(7, 25, [2]):
             file, window = shortest(held), window_from(rng.randrange(WINDOW_DAYS), held.days)
             expected = ginghamowl.value(file)
             self.assertEqual(expected.listing().encode(), reference.listing(file))
             for own_days in (held.days, [FLAT], [FLAT] * 70):
                 self.assertEqual(window.value(replace(case_of(held), days=own_days)), expected)
+            for four in (files.rewritten_case(held), replace(held, days=[[500_001] * 60] * 70, rate_bytes=4)):
+                self.assertEqual(window.value(case_of(four)), expected)
             verdicts.add(expected.verdict)
         self.assertEqual(verdicts, set(ginghamowl.Verdict))
+
+    def test_own_days_in_four_bytes(self):
+        """A case's own days are judged by its own form: what is out of limits in two bytes may be within them in four."""
+        window, four = window_from(69, [FLAT, FLAT]), DaysForm.FOUR_BYTES
+        expected = ginghamowl.value(replace(C1, days=[FLAT, FLAT]).save())
+        for number, day in ((5, [10_001] * 60), (6, STEEP)):
+            self.refused(number, window.value, replace(C1, days=[day]))
+            self.assertEqual(window.value(replace(C1, days=[day], days_form=four)), expected)
+        for number, day in ((5, [1_000_001, *FLAT[1:]]), (5, [-100_001, *FLAT[1:]]), (6, [-1, *[600_000] * 59])):
+            self.refused(number, window.value, replace(C1, days=[day], days_form=four))
 
     def test_through_the_evenings(self):
         """One day comes each evening, and the oldest goes; the window is worth, or refused, what the file with its days is."""
@@ -142,18 +155,16 @@ class Valued(Rolling):
 
     def test_refused(self):
         """Of the case's faults the first is given, and ahead of what is wrong with the window's days."""
-        faults = [(9, {"ufr": -1}), (4, {"days": [[20_000] * 59, [20_000] * 61]}), (5, {"days": [[0] * 58 + [10_000, -2 ** 40]]}),
-                  (7, {"pension": [2 ** 64] * 121}), (8, {"pension": [-1]}), (7, {"bonds": [-1] * 61}), (8, {"bonds": [2 ** 64]}),
-                  (10, {"amounts": replace(UP.amounts, currency=-1)}), (11, {"shocks": replace(UP.shocks, duration=2 ** 64)}),
-                  (12, {"people": replace(UP.people, heads=0)}), (6, {"days": [STEEP]})]
         windows = window_from(0, UP.days), window_from(5, []), window_from(69, [STEEP])
-        for first, (number, spoiled) in enumerate(faults):
-            for _, later in faults[first:]:
-                for window in windows:
-                    self.refused(number, window.value, replace(UP, **(later | spoiled)))
-        self.refused(4, windows[1].value, UP)
-        self.refused(6, windows[2].value, UP)
-        self.assertEqual(windows[0].value(UP), ginghamowl.value(UP.save()))
+        for case in (UP, UP_FOUR):
+            faults = faults_in_order(case)
+            for first, (number, spoiled) in enumerate(faults):
+                for _, later in faults[first:]:
+                    for window in windows:
+                        self.refused(number, window.value, replace(case, **(later | spoiled)))
+            self.refused(4, windows[1].value, case)
+            self.refused(6, windows[2].value, case)
+            self.assertEqual(windows[0].value(case), ginghamowl.value(UP.save()))
 
     def test_growth(self):
         """6 is of the days held together."""

@@ -4,12 +4,26 @@ use crate::{raw, refusal, Refusal, DAY_RATES, FILE_BYTES};
 /// Of a file without the field.
 const DEFAULT_UFR: u64 = 4200;
 
+/// The two days fields of a case file, by the bytes of a rate. Rates of two bytes, and the same rates times 100 in four,
+/// have the same valuation; but they are different cases, with different files.
+#[derive(Clone, Copy, Debug, Default, PartialEq, Eq)]
+#[repr(u64)]
+pub enum DaysForm {
+    /// In steps of 0.00001, -1,000 to 10,000.
+    #[default]
+    TwoBytes = 2,
+    /// In steps of 0.0000001, -100,000 to 1,000,000.
+    FourBytes = 4,
+}
+
 /// What one case file holds. A case may have any numbers: `save` says which of them are out of limits.
 #[derive(Clone, Debug, PartialEq, Eq)]
 pub struct Case {
+    /// How many bytes a rate of `days` has, and so its steps.
+    pub days_form: DaysForm,
     /// In steps of 0.00001.
     pub ufr: u64,
-    /// The zero rates of each day in steps of 0.00001; term t stands at t - 1.
+    /// The zero rates of each day in the steps of `days_form`; term t stands at t - 1.
     pub days: Vec<[i32; DAY_RATES]>,
     /// Pension flows in euros, from term 1 on.
     pub pension: Vec<u64>,
@@ -70,8 +84,8 @@ impl Case {
         }
     }
 
-    /// The shortest file of this case: without a UFR of 4,200, amounts that are all 0 and an empty list of bonds. Never
-    /// `Refusal::SavedBuffer`.
+    /// The shortest file of this case: with the days field of `days_form`, and without a UFR of 4,200, amounts that are all
+    /// 0 and an empty list of bonds. Never `Refusal::SavedBuffer`.
     pub fn save(&self) -> Result<Vec<u8>, Refusal> {
         let mut file = vec![0; FILE_BYTES];
         let written = self.save_into(&mut file)?;
@@ -106,7 +120,13 @@ impl Case {
 
     /// The fields that are no lists.
     pub(crate) fn fields(&self) -> raw::HostCaseFields {
-        raw::HostCaseFields { ufr: self.ufr, amounts: self.amounts, shocks: self.shocks, people: self.people }
+        raw::HostCaseFields {
+            rate_bytes: self.days_form as u64,
+            ufr: self.ufr,
+            amounts: self.amounts,
+            shocks: self.shocks,
+            people: self.people,
+        }
     }
 }
 
@@ -120,8 +140,15 @@ impl Rest<'_> {
         taken.iter().fold(0, |number, &byte| number << 8 | u64::from(byte))
     }
 
-    fn day(&mut self) -> [i32; DAY_RATES] {
-        std::array::from_fn(|_| i32::from(self.number(2) as i16))
+    fn rate(&mut self, form: DaysForm) -> i32 {
+        match form {
+            DaysForm::TwoBytes => i32::from(self.number(2) as i16),
+            DaysForm::FourBytes => self.number(4) as i32,
+        }
+    }
+
+    fn days(&mut self, form: DaysForm) -> Vec<[i32; DAY_RATES]> {
+        (0..self.number(1)).map(|_| std::array::from_fn(|_| self.rate(form))).collect()
     }
 
     fn flows(&mut self) -> Vec<u64> {
@@ -165,14 +192,19 @@ impl Rest<'_> {
     fn case(mut self) -> Case {
         let map = self.number(2);
         let stands = |bit: u32| map >> bit & 1 == 1;
-        Case {
+        let mut case = Case {
+            days_form: if stands(7) { DaysForm::FourBytes } else { DaysForm::TwoBytes },
             ufr: if stands(0) { self.number(2) } else { DEFAULT_UFR },
-            days: (0..self.number(1)).map(|_| self.day()).collect(),
+            days: if stands(1) { self.days(DaysForm::TwoBytes) } else { Vec::new() },
             pension: self.flows(),
             bonds: if stands(3) { self.flows() } else { Vec::new() },
             amounts: if stands(4) { self.amounts() } else { Amounts::default() },
             shocks: self.shocks(),
             people: self.people(),
+        };
+        if stands(7) {
+            case.days = self.days(DaysForm::FourBytes);
         }
+        case
     }
 }

@@ -2,9 +2,9 @@
 //!
 //! "Document 01" is "The UFR curve and the solvency verdict of one fund": it says what a case file is, what each figure
 //! means and what each refusal is. "Document 02" has the requests that came later; saving a case is its request One, a
-//! rolling window of days its request Two, and the UFR from a history of months its request Five. This crate wraps the
-//! functions of `include/ginghamowl.h`; it is safe to call with any bytes and numbers, and depends on nothing but the
-//! standard library and the engine's archive.
+//! rolling window of days its request Two, the UFR from a history of months its request Five, and zero rates in four
+//! bytes its request Six. This crate wraps the functions of `include/ginghamowl.h`; it is safe to call with any bytes and
+//! numbers, and depends on nothing but the standard library and the engine's archive.
 //!
 //! ```
 //! match ginghamowl::value(b"") {
@@ -22,7 +22,7 @@ mod raw;
 mod rolling;
 mod words;
 
-pub use case::{Amounts, Case, People, Shocks};
+pub use case::{Amounts, Case, DaysForm, People, Shocks};
 pub use months::History;
 pub use rolling::RollingWindow;
 pub use words::{refusal_sentence, verdict_sentence, verdict_word};
@@ -31,7 +31,7 @@ pub use words::{refusal_sentence, verdict_sentence, verdict_word};
 pub const VERSION: &str = env!("CARGO_PKG_VERSION");
 
 /// The longest accepted file has so many bytes. Of a longer one, the first `FILE_BYTES + 1` decide the refusal.
-pub const FILE_BYTES: usize = 9223;
+pub const FILE_BYTES: usize = 17623;
 
 /// A day of a case has the zero rates of the terms 1 to this.
 pub const DAY_RATES: usize = 60;
@@ -170,7 +170,8 @@ pub fn refusal(file: &[u8]) -> Option<Refusal> {
     Refusal::numbered(unsafe { raw::ginghamowl_refusal(file.as_ptr(), file.len()) })
 }
 
-/// The part of the file that holds the zero rates, 120 bytes for each day; empty where the file is refused.
+/// The part of the file that holds the zero rates, 120 bytes for each day, or 240 where a rate has four; empty where the
+/// file is refused.
 pub fn rates_part(file: &[u8]) -> &[u8] {
     // SAFETY: the pointer and the length are those of a slice.
     let part = unsafe { raw::ginghamowl_rates_part(file.as_ptr(), file.len()) };

@@ -49,6 +49,7 @@ pub struct HostPoint {
 /// The three records have the header's layout themselves.
 #[repr(C)]
 pub struct HostCaseFields {
+    pub rate_bytes: u64,
     pub ufr: u64,
     pub amounts: Amounts,
     pub shocks: Shocks,

@@ -2,7 +2,8 @@
 use crate::{raw, Case, Judged, Refusal, Valuation, DAY_RATES, ENTRIES, WINDOW_BYTES, WINDOW_DAYS};
 
 /// Up to 70 trading days, and beside them the sum of each term's rates. (The window of `window_point` is another thing: a
-/// screen that shows a valuation.)
+/// screen that shows a valuation.) Its rates have two bytes and are in steps of 0.00001: there is no window of days in four
+/// bytes.
 ///
 /// It is the struct `ginghamowl_rolling_window` of the header, byte for byte. Its bytes may be kept in a file, and any
 /// bytes make a window: where they are damaged, each call answers `Refusal::Damaged`. A refused call changes nothing.
@@ -61,8 +62,8 @@ impl RollingWindow {
         self.become_changed(self.dropped())
     }
 
-    /// The days held, oldest first, as `Case` has them; none where the window is empty. Refused is only a damaged window.
-    /// The engine judges it, and the days of one that is not damaged are taken out here.
+    /// The days held, oldest first, as a `Case` has them in two bytes; none where the window is empty. Refused is only a
+    /// damaged window. The engine judges it, and the days of one that is not damaged are taken out here.
     pub fn days(&self) -> Result<Vec<[i32; DAY_RATES]>, Refusal> {
         if Refusal::numbered(self.dropped().refusal) == Some(Refusal::Damaged) {
             return Err(Refusal::Damaged);
@@ -82,8 +83,9 @@ impl RollingWindow {
     }
 
     /// The valuation of a case with the days of this window in place of its own: what `value` gives of a file with these
-    /// days, and the other fields of the case. Refused are, in this order, a damaged window; a case that `Case::save`
-    /// refuses, its own days included; an empty window (`DayCount`); days whose forward rates are out of limits (`Growth`).
+    /// days, and the other fields of the case. The case's own days may be in four bytes. Refused are, in this order, a
+    /// damaged window; a case that `Case::save` refuses, its own days included; an empty window (`DayCount`); days whose
+    /// forward rates are out of limits (`Growth`).
     pub fn value(&self, case: &Case) -> Result<Valuation, Refusal> {
         let mut factors = [0; ENTRIES];
         let mut rates = [0; ENTRIES];

@@ -1,11 +1,14 @@
 //! Calls with buffers and files of every kind, and the example files of cases/, whose numbers are those of
 //! tests/reference.py.
+use common::in_four_bytes;
 use ginghamowl::{
     listing, rates_part, refusal, refusal_sentence, value, value_into, verdict_word, window_point, Amounts, Bracket,
-    Case, Judged, People, Point, Refusal, Shocks, Verdict, DAY_RATES, ENTRIES, FILE_BYTES, VERSION,
+    Case, DaysForm, Judged, People, Point, Refusal, Shocks, Verdict, DAY_RATES, ENTRIES, FILE_BYTES, VERSION,
 };
 use std::fs;
 use std::path::PathBuf;
+
+mod common;
 
 /// Name, bytes, and listing and curve of each example.
 fn cases() -> Vec<(String, Vec<u8>, String)> {
@@ -150,6 +153,7 @@ fn listings() {
 /// The case of file C1.
 fn c1_case() -> Case {
     Case {
+        days_form: DaysForm::default(),
         ufr: 4_200,
         days: vec![[0; DAY_RATES]],
         pension: vec![1_000_000],
@@ -176,6 +180,7 @@ fn c1_case() -> Case {
 /// The case `up` of tests/examples.py, whose numbers are all unlike; but for its days.
 fn up_case(days: Vec<[i32; DAY_RATES]>) -> Case {
     Case {
+        days_form: DaysForm::TwoBytes,
         ufr: 4_321,
         days,
         pension: vec![31_415_927, 27_182_818, 16_180_339],
@@ -232,53 +237,87 @@ fn stored_cases_saved() {
             assert_eq!(value(&saved), value(&file), "{name}");
         }
     }
-    assert_eq!(Case::read(&file("largest")).unwrap().save().unwrap().len(), FILE_BYTES);
+    assert_eq!(Case::read(&file("largest")).unwrap().save().unwrap().len(), 9_223);
+    assert_eq!(Case::read(&file("longest")).unwrap().save().unwrap().len(), FILE_BYTES);
+}
+
+/// A file with days in two bytes, rewritten to four: bit 7 in place of bit 1, every rate times 100, the days behind the
+/// people.
+fn rewritten(file: &[u8]) -> Vec<u8> {
+    let count_at = if file[1] & 1 == 1 { 4 } else { 2 };
+    let (days, others) = file[count_at..].split_at(1 + 2 * DAY_RATES * usize::from(file[count_at]));
+    let rates = days[1..].chunks(2).map(|pair| 100 * i32::from(i16::from_be_bytes([pair[0], pair[1]])));
+    let mut all = [&[file[0], file[1] ^ 0x82], &file[2..count_at], others, &days[..1]].concat();
+    all.extend(rates.flat_map(i32::to_be_bytes));
+    all
+}
+
+/// A case that is read tells its form.
+#[test]
+fn forms_of_days() {
+    assert_eq!((DaysForm::TwoBytes as u64, DaysForm::FourBytes as u64), (2, 4));
+    for (name, _, _) in cases().iter().filter(|case| refusal(&case.1).is_none()) {
+        let four = name == "seven" || name == "longest";
+        let form = if four { DaysForm::FourBytes } else { DaysForm::TwoBytes };
+        assert_eq!(Case::read(&file(name)).unwrap().days_form, form, "{name}");
+    }
+    let seven = Case::read(&file("seven")).unwrap();
+    assert!(
+        seven.days.iter().flatten().any(|rate| rate % 100 != 0)
+            && seven.days.iter().flatten().any(|&rate| rate > 32_767)
+    );
+}
+
+/// Each example with days in two bytes, rewritten to four: another case, other bytes, and the same valuation.
+#[test]
+fn rewritten_cases() {
+    let mut count = 0;
+    for (name, file, _) in cases() {
+        let Ok(case) = Case::read(&file) else { continue };
+        if case.days_form == DaysForm::TwoBytes {
+            let (saved, four) = (case.save().unwrap(), in_four_bytes(&case));
+            assert_ne!(four, case, "{name}");
+            assert_eq!(four.save(), Ok(rewritten(&saved)), "{name}");
+            assert_eq!(Case::read(&rewritten(&file)), Ok(four), "{name}");
+            assert_eq!(value(&rewritten(&file)), value(&file), "{name}");
+            assert_eq!(rates_part(&rewritten(&file)).len(), 2 * rates_part(&file).len(), "{name}");
+            count += 1;
+        }
+    }
+    assert!(count >= 10);
 }
 
 #[test]
 fn fields_left_out() {
-    let mut case = c1_case();
-    case.amounts.cash = 0;
-    let shortest = case.save().unwrap();
-    assert_eq!((shortest.len(), shortest[1]), (160, 0x66));
-    case.ufr = 4_201;
-    case.bonds = vec![0];
-    case.amounts.currency = 1;
-    let whole = case.save().unwrap();
-    assert_eq!((whole.len(), whole[1]), (160 + 2 + 5 + 64, 0x7f));
-    assert_eq!(Case::read(&whole), Ok(case));
+    for (form, least, bits) in [(DaysForm::TwoBytes, 160, 0x66), (DaysForm::FourBytes, 280, 0xe4)] {
+        let mut case = Case { days_form: form, ..c1_case() };
+        case.amounts.cash = 0;
+        let shortest = case.save().unwrap();
+        assert_eq!((shortest.len(), shortest[1]), (least, bits));
+        case.ufr = 4_201;
+        case.bonds = vec![0];
+        case.amounts.currency = 1;
+        let whole = case.save().unwrap();
+        assert_eq!((whole.len(), whole[1]), (least + 2 + 5 + 64, bits | 0x19));
+        assert_eq!(Case::read(&whole), Ok(case));
 
-    let mut longer = shortest.clone(); // the same case with a UFR of 4,200 and amounts of 0 written out
-    longer[1] = 0x77;
-    longer.splice(128..128, [0; 64]);
-    longer.splice(2..2, [0x10, 0x68]);
-    assert_eq!(Case::read(&longer).unwrap().save(), Ok(shortest));
+        let mut longer = shortest.clone(); // the same case with a UFR of 4,200 and amounts of 0 written out
+        let amounts_at = if form == DaysForm::TwoBytes { 128 } else { 7 };
+        longer[1] = bits | 0x11;
+        longer.splice(amounts_at..amounts_at, [0; 64]);
+        longer.splice(2..2, [0x10, 0x68]);
+        assert_eq!(Case::read(&longer).unwrap().save(), Ok(shortest));
+    }
 }
 
 /// A refusal, and what brings a case to it.
 type Fault = (u8, fn(&mut Case));
 
-/// A fault of each kind in the order of the checks. Of two, the first is given.
-#[test]
-fn refused_cases() {
-    let faults: [Fault; 13] = [
-        (9, |case| case.ufr = 5_001),
-        (4, |case| case.days.resize(71, [0; DAY_RATES])),
-        (4, |case| case.days.clear()),
-        (5, |case| case.days.iter_mut().for_each(|day| day[59] = 65_536)),
-        (7, |case| case.pension.clear()),
-        (8, |case| case.pension.push(1 << 32)),
-        (7, |case| case.bonds = vec![0; 61]),
-        (8, |case| case.bonds.push(u64::MAX)),
-        (10, |case| case.amounts.private_equity = 100_000_000_001),
-        (11, |case| case.shocks.duration = 501),
-        (12, |case| case.people.mean_age = 1_201),
-        (12, |case| case.people.heads = 0),
-        (6, |case| case.days.iter_mut().for_each(|day| day[58] = 10_000)),
-    ];
+/// Of two faults, which are in the order of the checks, the first is given.
+fn refused_in_order(case: &Case, faults: &[Fault]) {
     for (first, (number, spoil)) in faults.iter().enumerate() {
         for (_, spoil_again) in &faults[first..] {
-            let mut case = c1_case();
+            let mut case = case.clone();
             spoil_again(&mut case);
             spoil(&mut case);
             assert_eq!(case.save().unwrap_err().number(), *number);
@@ -287,18 +326,67 @@ fn refused_cases() {
     }
 }
 
+/// A fault of each kind. Days in four bytes are checked behind the people.
+#[test]
+fn refused_cases() {
+    let ufr: [Fault; 1] = [(9, |case| case.ufr = 5_001)];
+    let days: [Fault; 3] = [
+        (4, |case| case.days.resize(71, [0; DAY_RATES])),
+        (4, |case| case.days.clear()),
+        (5, |case| case.days.iter_mut().for_each(|day| day[59] = 1 << 24)),
+    ];
+    let others: [Fault; 8] = [
+        (7, |case| case.pension.clear()),
+        (8, |case| case.pension.push(1 << 32)),
+        (7, |case| case.bonds = vec![0; 61]),
+        (8, |case| case.bonds.push(u64::MAX)),
+        (10, |case| case.amounts.private_equity = 100_000_000_001),
+        (11, |case| case.shocks.duration = 501),
+        (12, |case| case.people.mean_age = 1_201),
+        (12, |case| case.people.heads = 0),
+    ];
+    let steep: [Fault; 1] = [(6, |case| case.days.iter_mut().for_each(|day| day[58] = 10_000))];
+    let steep_in_four: [Fault; 1] = [(6, |case| case.days.iter_mut().for_each(|day| day[58] = 1_000_000))];
+    refused_in_order(&c1_case(), &[&ufr[..], &days, &others, &steep].concat());
+    refused_in_order(&in_four_bytes(&c1_case()), &[&ufr[..], &others, &days, &steep_in_four].concat());
+}
+
+/// Rates and forward rates at the limits of their form, and one step past them.
+#[test]
+fn limits_of_rates() {
+    for (form, unit) in [(DaysForm::TwoBytes, 1), (DaysForm::FourBytes, 100)] {
+        let with = |rates: &[i32]| {
+            let day = std::array::from_fn(|t| rates[t.min(rates.len() - 1)]);
+            Case { days_form: form, days: vec![day], ..c1_case() }
+        };
+        let (least, most) = (-1_000 * unit, 10_000 * unit);
+        for right in [&[least][..], &[most], &[0, 6_000 * unit], &[0, least]] {
+            let case = with(right);
+            assert_eq!(Case::read(&case.save().unwrap()), Ok(case));
+        }
+        for wrong in [least - 1, most + 1, 1 << 24, (1 << 24) + least, i32::MIN, i32::MAX] {
+            assert_eq!(with(&[wrong, 0]).save(), Err(Refusal::Rate));
+        }
+        for wrong in [[0, 6_000 * unit + 1], [-1, 6_000 * unit], [1, least]] {
+            assert_eq!(with(&wrong).save(), Err(Refusal::Growth));
+        }
+    }
+}
+
 #[test]
 fn saving_into_buffers() {
-    let c1 = file("c1");
-    for room in [0, 1, 223, 224, 225, 1000] {
-        let mut out = vec![7; room];
-        let answer = c1_case().save_into(&mut out);
-        if room < c1.len() {
-            assert_eq!(answer, Err(Refusal::SavedBuffer));
-            assert!(out.iter().all(|&byte| byte == 7));
-        } else {
-            assert_eq!((answer, &out[..224]), (Ok(224), &c1[..]));
-            assert!(out[224..].iter().all(|&byte| byte == 7));
+    for (case, file) in [(c1_case(), file("c1")), (in_four_bytes(&c1_case()), rewritten(&file("c1")))] {
+        let length = file.len();
+        for room in [0, 1, length - 1, length, length + 1, 1000] {
+            let mut out = vec![7; room];
+            let answer = case.save_into(&mut out);
+            if room < length {
+                assert_eq!(answer, Err(Refusal::SavedBuffer));
+                assert!(out.iter().all(|&byte| byte == 7));
+            } else {
+                assert_eq!((answer, &out[..length]), (Ok(length), &file[..]));
+                assert!(out[length..].iter().all(|&byte| byte == 7));
+            }
         }
     }
 }

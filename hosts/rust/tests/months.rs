@@ -1,8 +1,11 @@
 //! Histories of months beside lists of months, and their valuations beside those of files with the UFR in its field.
-use ginghamowl::{refusal, value, History, Refusal, ENTRIES, HISTORY_BYTES, HISTORY_MONTHS};
+use common::in_four_bytes;
+use ginghamowl::{refusal, value, Case, DaysForm, History, Refusal, ENTRIES, HISTORY_BYTES, HISTORY_MONTHS};
 use std::collections::{BTreeSet, VecDeque};
 use std::fs;
 use std::path::PathBuf;
+
+mod common;
 
 const FLAT: [i32; HISTORY_MONTHS] = [3_100; HISTORY_MONTHS];
 
@@ -181,6 +184,25 @@ fn valued_as_files_are() {
         }
     }
     assert!(changed >= 2 * accepted.len());
+}
+
+/// A history gives each example with days in two bytes, and the same rewritten to four, the same valuation; with four bytes
+/// it is that of the file with the UFR found in its field.
+#[test]
+fn days_in_four_bytes() {
+    let history = History::new(&FLAT, 5);
+    let (mut two_bytes, mut four_bytes) = (0, 0);
+    for file in accepted_files() {
+        let case = Case::read(&file).unwrap();
+        if case.days_form == DaysForm::TwoBytes {
+            assert_eq!(history.value(&in_four_bytes(&case).save().unwrap()), history.value(&file));
+            two_bytes += 1;
+        } else {
+            assert_eq!(history.value(&file), value(&with_ufr_field(&file, 3_100)));
+            four_bytes += 1;
+        }
+    }
+    assert!(two_bytes >= 10 && four_bytes >= 2);
 }
 
 #[test]

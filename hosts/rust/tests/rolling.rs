@@ -1,8 +1,11 @@
 //! Rolling windows beside lists of days, and their valuations beside those of files with the same days.
-use ginghamowl::{value, Case, Refusal, RollingWindow, DAY_RATES, ENTRIES, WINDOW_BYTES, WINDOW_DAYS};
+use common::in_four_bytes;
+use ginghamowl::{value, Case, DaysForm, Refusal, RollingWindow, DAY_RATES, ENTRIES, WINDOW_BYTES, WINDOW_DAYS};
 use std::collections::VecDeque;
 use std::fs;
 use std::path::PathBuf;
+
+mod common;
 
 type Day = [i32; DAY_RATES];
 
@@ -194,7 +197,8 @@ fn free_slots() {
     }
 }
 
-/// Each example, and the case of each example with other days, is worth what its file is.
+/// Each example with days in two bytes is worth what its file is, and the case of each example with other days what the
+/// file with these is, whichever form its own days have.
 #[test]
 fn valued_as_files_are() {
     let all: Vec<Case> = fs::read_dir(cases_folder())
@@ -203,15 +207,36 @@ fn valued_as_files_are() {
         .filter(|path| path.extension().is_some_and(|end| end == "case"))
         .filter_map(|path| Case::read(&fs::read(path).unwrap()).ok())
         .collect();
-    assert!(all.len() >= 10);
-    for case in &all {
-        let file = case.save().unwrap();
-        assert_eq!(window_from(66, &case.days).value(case), value(&file));
-        for days in [&all[0].days[..], &[day(8), day(9)]] {
-            let with_days = Case { days: days.to_vec(), ..case.clone() };
+    let (two, four): (Vec<Case>, Vec<Case>) = all.into_iter().partition(|case| case.days_form == DaysForm::TwoBytes);
+    assert!(two.len() >= 10 && four.len() >= 2);
+    for case in &two {
+        let (window, expected) = (window_from(66, &case.days), value(&case.save().unwrap()));
+        assert_eq!(window.value(case), expected);
+        assert_eq!(window.value(&in_four_bytes(case)), expected);
+    }
+    for case in two.iter().chain(&four) {
+        for days in [&two[0].days[..], &[day(8), day(9)]] {
+            let with_days = Case { days_form: DaysForm::TwoBytes, days: days.to_vec(), ..case.clone() };
             assert_eq!(window_from(69, days).value(case), value(&with_days.save().unwrap()));
         }
     }
+}
+
+/// A case's own days are judged by its own form: what is out of limits in two bytes may be within them in four.
+#[test]
+fn own_days_in_four_bytes() {
+    let window = window_from(69, &[day(8)]);
+    let with = |days_form, own| Case { days_form, days: vec![own], ..case("c1") };
+    let expected = window.value(&case("c1"));
+    assert!(expected.is_ok());
+    for (own, refusal) in [(flat(10_001, 10_001), Refusal::Rate), (flat(0, 6_001), Refusal::Growth)] {
+        assert_eq!(window.value(&with(DaysForm::TwoBytes, own)), Err(refusal));
+        assert_eq!(window.value(&with(DaysForm::FourBytes, own)), expected);
+    }
+    for own in [flat(1_000_001, 0), flat(-100_001, 0)] {
+        assert_eq!(window.value(&with(DaysForm::FourBytes, own)), Err(Refusal::Rate));
+    }
+    assert_eq!(window.value(&with(DaysForm::FourBytes, flat(-1, 600_000))), Err(Refusal::Growth));
 }
 
 #[test]
@@ -239,13 +264,15 @@ fn lengths_of_buffers() {
 type Fault = (Refusal, fn(&mut Case));
 
 /// Of the case's faults, in their order, the first is given, and ahead of what is wrong with the window's days; a short
-/// buffer comes before all of them. A refusal changes no buffer.
+/// buffer comes before all of them. Days in four bytes are checked behind the people. A refusal changes no buffer.
 #[test]
 fn refused_valuations() {
-    let faults: [Fault; 11] = [
-        (Refusal::Ufr, |case| case.ufr = 5_001),
+    let ufr: [Fault; 1] = [(Refusal::Ufr, |case| case.ufr = 5_001)];
+    let days: [Fault; 2] = [
         (Refusal::DayCount, |case| case.days.clear()),
-        (Refusal::Rate, |case| case.days.iter_mut().for_each(|day| day[59] = 65_536)),
+        (Refusal::Rate, |case| case.days.iter_mut().for_each(|day| day[59] = 1 << 24)),
+    ];
+    let others: [Fault; 7] = [
         (Refusal::FlowCount, |case| case.pension.clear()),
         (Refusal::Flow, |case| case.pension.push(1 << 32)),
         (Refusal::FlowCount, |case| case.bonds = vec![0; 61]),
@@ -253,7 +280,13 @@ fn refused_valuations() {
         (Refusal::Amount, |case| case.amounts.private_equity = 100_000_000_001),
         (Refusal::Shock, |case| case.shocks.duration = 501),
         (Refusal::People, |case| case.people.mean_age = 1_201),
-        (Refusal::Growth, |case| case.days.iter_mut().for_each(|day| day[58] = 10_000)),
+    ];
+    let steep_day: [Fault; 1] = [(Refusal::Growth, |case| case.days.iter_mut().for_each(|day| day[58] = 10_000))];
+    let steep_in_four: [Fault; 1] =
+        [(Refusal::Growth, |case| case.days.iter_mut().for_each(|day| day[58] = 1_000_000))];
+    let forms = [
+        (case("c1"), [&ufr[..], &days, &others, &steep_day].concat()),
+        (in_four_bytes(&case("c1")), [&ufr[..], &others, &days, &steep_in_four].concat()),
     ];
     let refused = |window: &RollingWindow, case: &Case, refusal: Refusal| {
         let (mut factors, mut rates) = ([7; ENTRIES], [-7; ENTRIES]);
@@ -264,17 +297,19 @@ fn refused_valuations() {
     };
     let (right, empty, steep) =
         (window_from(0, &[day(1)]), window_from(5, &[]), window_from(69, &[flat(0, 6_000), flat(0, 6_001)]));
-    for (first, (refusal, spoil)) in faults.iter().enumerate() {
-        for (_, spoil_again) in &faults[first..] {
-            let mut case = case("c1");
-            spoil_again(&mut case);
-            spoil(&mut case);
-            for window in [&right, &empty, &steep] {
-                refused(window, &case, *refusal);
+    for (c1, faults) in forms {
+        for (first, (refusal, spoil)) in faults.iter().enumerate() {
+            for (_, spoil_again) in &faults[first..] {
+                let mut case = c1.clone();
+                spoil_again(&mut case);
+                spoil(&mut case);
+                for window in [&right, &empty, &steep] {
+                    refused(window, &case, *refusal);
+                }
             }
         }
+        refused(&empty, &c1, Refusal::DayCount);
+        refused(&steep, &c1, Refusal::Growth);
+        assert!(right.value(&c1).is_ok());
     }
-    refused(&empty, &case("c1"), Refusal::DayCount);
-    refused(&steep, &case("c1"), Refusal::Growth);
-    assert!(right.value(&case("c1")).is_ok());
 }

@@ -9,7 +9,7 @@ import unittest
 from pathlib import Path
 
 ROOT = Path(__file__).resolve().parents[3]
-ACCEPTED, REFUSED = ROOT / "cases/c2.case", ROOT / "cases/refused_09.case"
+ACCEPTED, REFUSED, LONGEST = ROOT / "cases/c2.case", ROOT / "cases/refused_09.case", ROOT / "cases/longest.case"
 VERSION = (ROOT / "VERSION").read_text().strip()
 # Without PYTHONUNBUFFERED and the like: a buffer that can't be written is the harder case.
 ENVIRONMENT = {name: value for name, value in os.environ.items() if not name.startswith(("PYTHON", "GINGHAMOWL"))}
@@ -58,6 +58,18 @@ class Statuses:
     def test_endless_file(self):
         run = self.run_program("/dev/zero", timeout=30)
         self.assertEqual((run.returncode, run.stdout[:11]), (1, b"refused, 3:"))
+
+    def test_longest_file(self):
+        """It is read to its end, and a byte that follows it is seen."""
+        longest = LONGEST.read_bytes()
+        verdict = LONGEST.with_suffix(".txt").read_bytes().splitlines()[-1].removeprefix(b"V ")
+        for data, status, said in ((longest, 0, verdict), (longest[:-1], 1, b"refused, 1: "), (longest + b"\0", 1, b"refused, 2: ")):
+            with tempfile.NamedTemporaryFile() as file:
+                file.write(data)
+                file.flush()
+                run = self.run_program(file.name)
+            self.assertEqual(run.returncode, status)
+            self.assertIn(said, run.stdout)
 
     def test_lost_output(self):
         for argument in (ACCEPTED, REFUSED, "--version"):

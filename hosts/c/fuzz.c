@@ -194,8 +194,9 @@ static void part_of(const uint8_t *file, ginghamowl_part part)
     const uint8_t *count = file + part.offset - 1;
 
     REQUIRE(part.length == c.rates_length * c.fields.rate_bytes);
+    REQUIRE(GINGHAMOWL_DAY_RATES * (size_t)*count == c.rates_length);
     take_days(&count, c.fields.rate_bytes, &in_part);
-    REQUIRE(in_part.rates_length == c.rates_length && memcmp(in_part.rates, c.rates, sizeof c.rates) == 0);
+    REQUIRE(memcmp(in_part.rates, c.rates, sizeof c.rates) == 0);
 }
 
 static void *lend_copy(const void *list, size_t bytes)
@@ -342,6 +343,12 @@ static held_case refined(held_case c, uint64_t chosen)
     return c;
 }
 
+static uint64_t other_form(uint64_t rate_bytes)
+{
+    return rate_bytes == GINGHAMOWL_TWO_BYTES ? GINGHAMOWL_FOUR_BYTES : GINGHAMOWL_TWO_BYTES;
+}
+
+/* The case with its rates taken for rates of so many bytes. */
 static held_case with_rate_bytes(held_case c, uint64_t rate_bytes)
 {
     c.fields.rate_bytes = rate_bytes;
@@ -356,7 +363,7 @@ static void in_each_form(const uint8_t *file, size_t size)
     held_case c = decoded(file), two = in_two_bytes(c), four = in_four_bytes(two);
     uint64_t chosen = hash_of(file, size);
     size_t two_length = saved_or_refused(&two, two_file), four_length = saved_or_refused(&four, four_file);
-    held_case others[] = {refined(four, chosen), with_rate_bytes(c, 6 - c.fields.rate_bytes), with_rate_bytes(c, chosen % 9),
+    held_case others[] = {refined(four, chosen), with_rate_bytes(c, other_form(c.fields.rate_bytes)), with_rate_bytes(c, chosen % 9),
                           with_rate_bytes(c, chosen)};
 
     REQUIRE((two_length == 0) == (four_length == 0));
@@ -779,12 +786,14 @@ static uint64_t drawn(uint64_t *state)
     return *state >> 16;
 }
 
-/* A number from 0 to `most`, of any length, and now and then one of the two. */
+/* A number from 0 to `most`, now and then one of these two, and now and then one of fewer digits. */
 static uint64_t up_to(uint64_t *state, uint64_t most)
 {
-    uint64_t way = drawn(state) % 8;
+    uint64_t way = drawn(state) % 8, number = drawn(state);
 
-    return way == 0 ? 0 : way == 1 ? most : drawn(state) % ((most >> drawn(state) % 8 * (way % 2)) + 1);
+    if (way < 2)
+        return way == 0 ? 0 : most;
+    return number % ((most >> (way == 2 ? drawn(state) % 16 : 0)) + 1);
 }
 
 /* A day that passes refusals 5 and 6: a rate is the mean, rounded down, of forward rates from -1 to 10 percent. */
@@ -817,7 +826,7 @@ static held_case drawn_case(uint64_t *state, uint64_t rate_bytes)
     c.pension_length = draw_flows(state, 1 + up_to(state, 119), c.pension);
     c.bonds_length = draw_flows(state, up_to(state, 60), c.bonds);
     for (int i = 2; i <= 9; i++)
-        numbers[i] = up_to(state, 100000000000 >> drawn(state) % 16);
+        numbers[i] = up_to(state, 100000000000);
     for (int i = 10; i <= 21; i++)
         numbers[i] = up_to(state, shock_limits[i - 10]);
     numbers[22] = 1 + up_to(state, 999999);

@@ -1016,17 +1016,17 @@ static const fault *in_order(uint64_t rate_bytes)
     return IN_ORDER[rate_bytes == GINGHAMOWL_FOUR_BYTES];
 }
 
-static uint8_t refusal_of(fault fault)
+static uint8_t refusal_of(fault which)
 {
     static const uint8_t numbers[FAULTS] = {3, 9, 4, 5, 7, 8, 7, 8, 10, 11, 12, 6};
 
-    return numbers[fault];
+    return numbers[which];
 }
 
 /* `unit` is that of the rates before any of them is spoiled. */
-static void spoil(held_case *c, fault fault, int32_t unit)
+static void spoil(held_case *c, fault which, int32_t unit)
 {
-    switch (fault) {
+    switch (which) {
     case NO_FORM:
         c->fields.rate_bytes = 3;
         break;
@@ -1155,7 +1155,7 @@ static void test_same_in_four_bytes(void)
         same_in_four_bytes(&c);
 }
 
-/* The last of the seven decimals counts: with rates of 0.0000001, 1,000,000 euros in a year are worth 999,999.900000..01 euros. */
+/* The last of the seven decimals counts: at a rate of 0.0000001, 1,000,000 euros in a year are worth about 999,999.90000001 euros. */
 static void test_last_decimal(void)
 {
     static held_case c;

@@ -111,59 +111,59 @@ diff-raised z r m h =
 
 -- ---- multiples of an integer
 
--- an integer as a difference of its own
-abbrev above : ℤ → ℕ
+-- an integer as a difference of two naturals, one of which is 0
+abbrev pub above : ℤ → ℕ
 above (pos n) = n
 above (negsuc n) = 0
 
-abbrev under : ℤ → ℕ
-under (pos n) = 0
-under (negsuc n) = suc n
+abbrev pub below : ℤ → ℕ
+below (pos n) = 0
+below (negsuc n) = suc n
 
-own-diff : (z : ℤ) → Diff z (above z) (under z)
-own-diff (pos n) = omega arith
-own-diff (negsuc n) = omega arith
+pub diff-self : (z : ℤ) → Diff z (above z) (below z)
+diff-self (pos n) = omega arith
+diff-self (negsuc n) = omega arith
 
 pub times-sum : (g : ℕ) (y z : ℤ) → pos g *ℤ (y +ℤ z) ≡ pos g *ℤ y +ℤ pos g *ℤ z
 times-sum g y z =
     let a = above y in
-    let b = under y in
+    let b = below y in
     let c = above z in
-    let d = under z in
+    let d = below z in
     one-diff (pos g *ℤ (y +ℤ z)) (pos g *ℤ y +ℤ pos g *ℤ z) (g * (a + c)) (g * (b + d))
-    (diff-times g (y +ℤ z) (a + c) (b + d) (diff-sum y z a b c d (own-diff y) (own-diff z)))
+    (diff-times g (y +ℤ z) (a + c) (b + d) (diff-sum y z a b c d (diff-self y) (diff-self z)))
     (again (pos g *ℤ y +ℤ pos g *ℤ z) (g * a + g * c) (g * b + g * d) (g * (a + c)) (g * (b + d))
-    (diff-sum (pos g *ℤ y) (pos g *ℤ z) (g * a) (g * b) (g * c) (g * d) (diff-times g y a b (own-diff y)) (diff-times g z c d (own-diff z)))
+    (diff-sum (pos g *ℤ y) (pos g *ℤ z) (g * a) (g * b) (g * c) (g * d) (diff-times g y a b (diff-self y)) (diff-times g z c d (diff-self z)))
     (omega arith))
 
 pub times-minus : (g : ℕ) (y z : ℤ) → pos g *ℤ (y -ℤ z) ≡ pos g *ℤ y -ℤ pos g *ℤ z
 times-minus g y z =
     let a = above y in
-    let b = under y in
+    let b = below y in
     let c = above z in
-    let d = under z in
+    let d = below z in
     one-diff (pos g *ℤ (y -ℤ z)) (pos g *ℤ y -ℤ pos g *ℤ z) (g * (a + d)) (g * (b + c))
-    (diff-times g (y -ℤ z) (a + d) (b + c) (diff-minus y z a b c d (own-diff y) (own-diff z)))
+    (diff-times g (y -ℤ z) (a + d) (b + c) (diff-minus y z a b c d (diff-self y) (diff-self z)))
     (again (pos g *ℤ y -ℤ pos g *ℤ z) (g * a + g * d) (g * b + g * c) (g * (a + d)) (g * (b + c))
-    (diff-minus (pos g *ℤ y) (pos g *ℤ z) (g * a) (g * b) (g * c) (g * d) (diff-times g y a b (own-diff y)) (diff-times g z c d (own-diff z)))
+    (diff-minus (pos g *ℤ y) (pos g *ℤ z) (g * a) (g * b) (g * c) (g * d) (diff-times g y a b (diff-self y)) (diff-times g z c d (diff-self z)))
     (omega arith))
 
 pub times-times : (g t : ℕ) (z : ℤ) → pos t *ℤ (pos g *ℤ z) ≡ pos g *ℤ (pos t *ℤ z)
 times-times g t z =
     let a = above z in
-    let b = under z in
+    let b = below z in
     one-diff (pos t *ℤ (pos g *ℤ z)) (pos g *ℤ (pos t *ℤ z)) (t * (g * a)) (t * (g * b))
-    (diff-times t (pos g *ℤ z) (g * a) (g * b) (diff-times g z a b (own-diff z)))
+    (diff-times t (pos g *ℤ z) (g * a) (g * b) (diff-times g z a b (diff-self z)))
     (again (pos g *ℤ (pos t *ℤ z)) (g * (t * a)) (g * (t * b)) (t * (g * a)) (t * (g * b))
-    (diff-times g (pos t *ℤ z) (t * a) (t * b) (diff-times t z a b (own-diff z))) (omega arith))
+    (diff-times g (pos t *ℤ z) (t * a) (t * b) (diff-times t z a b (diff-self z))) (omega arith))
 
 pub times-pos : (g t : ℕ) (z : ℤ) → pos (g * t) *ℤ z ≡ pos g *ℤ (pos t *ℤ z)
 times-pos g t z =
     let a = above z in
-    let b = under z in
-    one-diff (pos (g * t) *ℤ z) (pos g *ℤ (pos t *ℤ z)) (g * t * a) (g * t * b) (diff-times (g * t) z a b (own-diff z))
+    let b = below z in
+    one-diff (pos (g * t) *ℤ z) (pos g *ℤ (pos t *ℤ z)) (g * t * a) (g * t * b) (diff-times (g * t) z a b (diff-self z))
     (again (pos g *ℤ (pos t *ℤ z)) (g * (t * a)) (g * (t * b)) (g * t * a) (g * t * b)
-    (diff-times g (pos t *ℤ z) (t * a) (t * b) (diff-times t z a b (own-diff z))) (omega arith))
+    (diff-times g (pos t *ℤ z) (t * a) (t * b) (diff-times t z a b (diff-self z))) (omega arith))
 
 pub natural-times : (g : ℕ) (z : ℤ) → natural (pos g *ℤ z) ≡ g * natural z
 natural-times g (pos n) = natural-is (pos g *ℤ pos n) (g * n) (g * 0) (g * n) (diff-times g (pos n) n 0 (diff-pos n)) (omega arith)
@@ -180,11 +180,11 @@ natural-times g (negsuc n) = cut (pos g *ℤ negsuc n) (g * suc n) (again (pos g
 pub times-le : (g : ℕ) (y z : ℤ) → y ≤ℤ z → (pos g *ℤ y) ≤ℤ (pos g *ℤ z)
 times-le g y z h =
     let a = above y in
-    let b = under y in
+    let b = below y in
     let c = above z in
-    let d = under z in
-    le-diff (pos g *ℤ y) (pos g *ℤ z) (g * a) (g * b) (g * c) (g * d) (diff-times g y a b (own-diff y)) (diff-times g z c d (own-diff z))
-    (omega (arith, mul-le-mul-left g (diff-le {y = y} {z = z} a b c d (own-diff y) (own-diff z) h)))
+    let d = below z in
+    le-diff (pos g *ℤ y) (pos g *ℤ z) (g * a) (g * b) (g * c) (g * d) (diff-times g y a b (diff-self y)) (diff-times g z c d (diff-self z))
+    (omega (arith, mul-le-mul-left g (diff-le {y = y} {z = z} a b c d (diff-self y) (diff-self z) h)))
 
 pub times-neg : (g a : ℕ) → pos g *ℤ negℤ (pos a) ≡ negℤ (pos (g * a))
 times-neg g a =

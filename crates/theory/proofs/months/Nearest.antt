@@ -6,20 +6,7 @@ use native.Mathlib.Nat.{le-antisymm}
 use native.Mathlib.Omega.{arith}
 use lib.IntN.{ℤ, pos, negsuc, natAbs, _+ℤ_, _-ℤ_, _*ℤ_}
 use Rattle.model.specs.Months.{floorZ, hundreds, apart, Nearest}
-use Rattle.theory.proofs.general.Differences.{Diff, again, one-diff, diff-pos, diff-sum, diff-minus, diff-times, diff-le, le-diff}
-
--- an integer as a difference of two naturals, one of which is 0
-abbrev above : ℤ → ℕ
-above (pos n) = n
-above (negsuc n) = 0
-
-abbrev below : ℤ → ℕ
-below (pos n) = 0
-below (negsuc n) = suc n
-
-diff-self : (z : ℤ) → Diff z (above z) (below z)
-diff-self (pos n) = omega arith
-diff-self (negsuc n) = omega arith
+use Rattle.theory.proofs.general.Differences.{Diff, above, below, diff-self, again, one-diff, diff-pos, diff-sum, diff-minus, diff-times, diff-le, le-diff}
 
 -- z ÷ 12,000 rounded down, of either sign
 floor-between : (z : ℤ) (a b c d : ℕ) → Diff z a b → Diff (floorZ z 12000) c d

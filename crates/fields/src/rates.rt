@@ -1,15 +1,15 @@
 // The days: their count, and their rates one after another, each of 2 or 4 bytes.
 use encode::put_bytes;
 use given::rates::day_count;
-use given::rates::raised;
-use given::rates::raised_long;
 ghost use mathlib.Core.Path.{_≡_};
 ghost use mathlib.Core.Bool.{true, cond};
 ghost use mathlib.Core.List.{[]};
 ghost use Prim.Native.Nat.{_+_, _*_, _≤_};
 ghost use lib.Dec.{eqb};
+ghost use lib.IntN.{pos, _+ℤ_};
 ghost use lib.ListN.{length};
 ghost use Rattle.model.specs.Case.{knownForm};
+ghost use Rattle.model.specs.Curve.{natural};
 ghost use Rattle.model.specs.Fields.{bytesAll, rightAll};
 ghost use Rattle.model.specs.Saving.{daysOf};
 ghost use Rattle.model.specs.Layout.{dailyRate, days};
@@ -17,25 +17,31 @@ ghost use Rattle.model.specs.inner.Positions.{daysField};
 ghost use Rattle.output.specs.inner.Wrote.{Wrote};
 ghost use Rattle.fields.specs.inner.Days.{RightDays};
 
-// A rate as the 16 bits of its two's complement. 100,000 steps and the rate less 34,464 is 65,536 and the rate, of which the lowest two
-// bytes are stored.
+// 2^31 and the rate, as a natural: no 32 bits stand for less than -2^31.
+fn biased(rate: i32) -> u64
+    ensures { λ r. ⌜ (r ≡ natural (pos 2147483648 +ℤ rate)) × (r ≤ 4294967295) ⌝ }
+{
+    (rate as i64 + 2_147_483_648) as u64
+}
+
+// A rate as the 16 bits of its two's complement. 2^31 is a multiple of 65,536, so that the lowest two bytes of 2^31 and the rate are the
+// rate's.
 fn put_short_rate(buf: &mut [u8], at: usize, rate: i32) -> usize
     requires { ⌜ (at + 2 ≤ length (now buf)) × (dailyRate 2 .right rate ≡ true) ⌝ }
     ensures { λ r. ⌜ Wrote (now (buf .entry)) at (dailyRate 2 .bytes rate) 2 r (now (buf .exit)) ⌝ }
 {
-    let bits = raised(rate) - 34_464;
+    let bits = biased(rate);
     buf[at] = (bits / 256 % 256) as u8;
     buf[at + 1] = (bits % 256) as u8;
     at + 2
 }
 
-// A rate as the 32 bits of its two's complement. 10,000,000 and the rate and 4,284,967,296 is 2^32 and the rate, which is the rate's bits
-// modulo 2^32.
+// A rate as the 32 bits of its two's complement: 2^32 and the rate, modulo 2^32.
 fn put_long_rate(buf: &mut [u8], at: usize, rate: i32) -> usize
     requires { ⌜ (at + 4 ≤ length (now buf)) × (dailyRate 4 .right rate ≡ true) ⌝ }
     ensures { λ r. ⌜ Wrote (now (buf .entry)) at (dailyRate 4 .bytes rate) 4 r (now (buf .exit)) ⌝ }
 {
-    let bits = (raised_long(rate) + 4_284_967_296) % 4_294_967_296;
+    let bits = (biased(rate) + 2_147_483_648) % 4_294_967_296;
     put_bytes(buf, at, 4, bits)
 }
 

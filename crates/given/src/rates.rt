@@ -1,53 +1,30 @@
 // The rates of a list, 60 a day: each as a natural, 100,000 steps and the rate, whether all are within their limits, and their sums. A rate
 // has 2 or 4 bytes in a file, and is in steps or in hundredths of them.
 use scan::rates::Sums;
-use scan::rates::rate_right;
 use scan::rates::units_per_step;
 use scan::runs::both;
 ghost use mathlib.Core.Path.{_≡_};
 ghost use Prim.Native.Nat.{_+_, _*_, _<_, _≤_};
 ghost use lib.ListN.{length};
-ghost use Rattle.model.specs.Case.{unitsPerStep};
 ghost use Rattle.model.specs.Rolling.{dayIn};
 ghost use Rattle.model.specs.Saving.{daysIn, daysOf};
 ghost use Rattle.scan.specs.inner.Sums.{EachAtMost};
 ghost use Rattle.given.specs.inner.Raised.{raisedOr, summed, withDay};
 
-// 100,000 steps and the rate in steps; 0 for a rate outside its limits.
-pub fn raised(rate: i32) -> u64
-    ensures { λ r. ⌜ r ≡ raisedOr 1 rate ⌝ }
+// 100,000 steps and the rate, where a step is `units`; 0 for a rate outside its limits. The tests are of 32 bits, so that the compiler makes
+// several at a time.
+pub fn raised(rate: i32, units: u64) -> u64
+    requires { ⌜ units ≤ 100 ⌝ }
+    ensures { λ r. ⌜ r ≡ raisedOr units rate ⌝ }
 {
-    if rate < -1_000 {
+    let step = units as i32;
+    if rate < -1_000 * step {
         return 0;
     }
-    if rate > 10_000 {
+    if rate > 10_000 * step {
         return 0;
     }
-    (rate + 100_000) as u64
-}
-
-// The same of a rate in hundredths of a step.
-pub fn raised_long(rate: i32) -> u64
-    ensures { λ r. ⌜ r ≡ raisedOr 100 rate ⌝ }
-{
-    if rate < -100_000 {
-        return 0;
-    }
-    if rate > 1_000_000 {
-        return 0;
-    }
-    (rate + 10_000_000) as u64
-}
-
-// The same of a rate of either kind.
-fn raised_rate(rate: i32, rate_bytes: u64) -> u64
-    ensures { λ r. ⌜ r ≡ raisedOr (unitsPerStep «rate_bytes») rate ⌝ }
-{
-    if rate_bytes == 4 {
-        raised_long(rate)
-    } else {
-        raised(rate)
-    }
+    (rate + 100_000 * step) as u64
 }
 
 // How many days a list of rates has: 0 where it is no whole number of days.
@@ -85,9 +62,9 @@ pub fn add_day(held: Sums, day: [i32; 60], rate_bytes: u64) -> Sums
     let mut sums = held.sums;
     let mut t: usize = 0;
     while t < 60 {
-        let rate = raised_rate(day[t], rate_bytes);
+        let rate = raised(day[t], units);
         sums[t] += rate;
-        within = both(within, rate_right(rate, units));
+        within = both(within, rate != 0);
         t += 1;
     }
     Sums { within, sums }

@@ -43,7 +43,7 @@ pub fn sums_without(sums: [u64; 60], day: [i32; 60]) -> [u64; 60]
     let mut out = sums;
     let mut t: usize = 0;
     while t < 60 {
-        out[t] -= raised(day[t]);
+        out[t] -= raised(day[t], 1);
         t += 1;
     }
     out

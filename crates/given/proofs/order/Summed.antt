@@ -21,7 +21,7 @@ use Rattle.scan.specs.declared.rates.Sums.{Sums}
 use Rattle.scan.proofs.rates.Forwards.{forwards-are}
 use Rattle.checks.specs.inner.After.{after, afterAll}
 use Rattle.given.specs.inner.Raised.{summed}
-use Rattle.given.proofs.rates.Signed.{units-most}
+use Rattle.given.proofs.rates.Signed.{units-few}
 use Rattle.given.proofs.rates.Days.{days-count, days-are, summed-most, summed-diff}
 
 -- a number that is there is kept
@@ -44,7 +44,7 @@ module _ (rates : List ℤ) {n m : ℕ} (isN : n ≡ length (daysOf rates)) (isM
   module _ (w : ℕ) (s : Sums) (h : s ≡ summed w (daysIn m rates)) where
     -- what a step adds to a sum
     step-most : unitsPerStep w * m ≤ 7000
-    step-most = mul-le-mul {n₁ = unitsPerStep w} {m₁ = m} {n₂ = 100} {m₂ = 70} (units-most w) (sums-asked .0)
+    step-most = mul-le-mul {n₁ = unitsPerStep w} {m₁ = m} {n₂ = 100} {m₂ = 70} (units-few w .1) (sums-asked .0)
 
     pub step-small : {u : ℕ} → u ≡ unitsPerStep w → u * m ≤ 7000
     step-small e = rw e step-most

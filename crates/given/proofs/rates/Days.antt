@@ -23,7 +23,7 @@ use Rattle.theory.proofs.general.Lists.{and-first, and-second, length-table, ge
 use Rattle.scan.specs.inner.Sums.{EachAtMost}
 use Rattle.scan.specs.declared.rates.Sums.{Sums}
 use Rattle.given.specs.inner.Raised.{raisedOr, raisedSum, summed, withDay}
-use Rattle.given.proofs.rates.Signed.{units-most, raised-most, raised-diff}
+use Rattle.given.proofs.rates.Signed.{units-few, raised-most, rate-diff}
 
 pub days-count : (n : ℕ) (rates : List ℤ) → length (daysIn n rates) ≡ n
 days-count zero rates = refl
@@ -72,7 +72,7 @@ module _ (w : ℕ) where
 
   -- of up to 69 days
   pub units-days : (n : ℕ) → n ≤ 69 → units * n ≤ 6900
-  units-days n l = mul-le-mul {n₁ = units} {m₁ = n} {n₂ = 100} {m₂ = 69} (units-most w) l
+  units-days n l = mul-le-mul {n₁ = units} {m₁ = n} {n₂ = 100} {m₂ = 69} (units-few w .1) l
 
   raised-more : (days : List (List ℤ)) (new : List ℤ) (t : ℕ)
       → raisedSum units (days ++ (new ∷ [])) t ≡ raisedSum units days t + raisedOr units (getD new t (pos 0))
@@ -98,7 +98,7 @@ module _ (w : ℕ) where
   raised-sum-most : (days : List (List ℤ)) (t : ℕ) → raisedSum units days t ≤ 110000 * (units * length days)
   unfolding raisedSum
   raised-sum-most [] t = omega arith
-  raised-sum-most (first ∷ days) t = omega (arith, raised-most w (getD first t (pos 0)), raised-sum-most days t)
+  raised-sum-most (first ∷ days) t = omega (arith, raised-most units (getD first t (pos 0)), raised-sum-most days t)
 
   pub summed-most : (days : List (List ℤ)) (most : ℕ) → 110000 * (units * length days) ≤ most → EachAtMost most (summed w days .sums)
   unfolding summed
@@ -114,7 +114,7 @@ module _ (w : ℕ) where
       let right = and-first (day w .right first) (rightAll (day w) days) h in
       let long : length first ≡ 60 = eqb-true (length first) 60 (and-first (eqb (length first) 60) (rightAll (dailyRate w) first) right) in
       let each = and-second (eqb (length first) 60) (rightAll (dailyRate w) first) right in
-      let one = raised-diff w z (right-at (dailyRate w) first t (pos 0) (omega arith) each) in
+      let one = rate-diff units z (right-at (dailyRate w) first t (pos 0) (omega arith) each) in
       let rest = raised-sum-diff days t l (and-second (day w .right first) (rightAll (day w) days) h) in
       let u = units * length days in
       again (z +ℤ s days (suc t)) (raisedOr units z + raisedSum units days t) (100000 * units + 100000 * u) (raisedOr units z + raisedSum units days t)

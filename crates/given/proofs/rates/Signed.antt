@@ -1,114 +1,161 @@
--- A rate of 32 bits, as a natural: 100,000 steps and the rate, where it is within its limits. Assumes nothing.
-use Prim.Native.Nat.{ℕ, suc, _+_, _*_, _≤_}
-use mathlib.Core.Path.{_≡_, refl, ap, sym, _∙_, subst}
-use mathlib.Core.Bool.{Bool, true, false, _&&_, cond}
+-- A rate of 32 bits, as a natural: 100,000 steps and the rate, where it is within its limits, for any number of units in a step.
+-- Assumes nothing.
+use Prim.Native.Nat.{ℕ, zero, suc, _+_, _*_, _-_, _≤_, _<_}
+use mathlib.Core.Path.{_≡_, refl, ap, ap₂, sym, _∙_, subst}
+use mathlib.Core.Bool.{Bool, true, false, not, _&&_, cond}
 use native.Mathlib.Omega.{arith}
-use borrow.Author.Tests.{ltb-true, ltb-false, leb-true, le-leb, lt-leb, le-ltb}
-use lib.Dec.{T, leb, eqb, lit≤}
-use lib.IntN.{ℤ, pos, negsuc, negℤ, _+ℤ_, subℕ}
-use lib.Signed.{ltZ}
+use borrow.Author.Tests.{leb-true, leb-false, lt-ltb, le-ltb, ne-eqb, not-true, not-false}
+use lib.Dec.{leb, ltb, eqb, lit≤}
+use lib.IntN.{ℤ, pos, negsuc, negℤ, _+ℤ_, _*ℤ_}
+use lib.Signed.{leZ, ltZ}
 use mir.Syntax.{w32}
 use mir.Val.{SFits, toZ, ofZ}
 use mir.ValLaws.{toZ-ofZ}
 use Rattle.model.specs.Case.{unitsPerStep}
 use Rattle.model.specs.Curve.{natural}
 use Rattle.model.specs.Fields.{withinZ}
-use Rattle.model.specs.Layout.{dailyRate}
-use Rattle.theory.proofs.general.Differences.{Diff}
-use Rattle.theory.proofs.general.Lists.{and-first}
-use Rattle.scan.specs.inner.Sums.{rateRight}
-use Rattle.scan.proofs.rates.Integers.{within-raised}
+use Rattle.theory.proofs.general.Differences.{Diff, again, one-diff, diff-pos, diff-sum, above, below, diff-self}
+use Rattle.theory.proofs.general.Lists.{and-first, and-second, and-false}
+use Rattle.scan.proofs.rates.Integers.{within-diff, natural-raised}
 use Rattle.given.specs.inner.Raised.{raisedOr}
 
--- of limits -(low + 1) to high, with base added
-module _ (low high base : ℕ) (deep : suc low ≤ base) where
-  abbrev natOr : ℤ → ℕ
-  natOr z = cond (withinZ (negsuc low) (pos high) z) (natural (pos base +ℤ z)) 0
+abbrev within : ℕ → ℤ → Bool
+within u z = withinZ (negℤ (pos (1000 * u))) (pos (10000 * u)) z
 
-  pub too-low : (z : ℤ) → ltZ z (negsuc low) ≡ true → natOr z ≡ 0
-  too-low (pos n) h = absurd (subst T (sym h) tt)
-  too-low (negsuc n) h = rw (lt-leb n low (ltb-true low n h))
+-- where it is within its limits
+module _ (u : ℕ) (z : ℤ) (h : within u z ≡ true) where
+  limits : (below z ≤ above z + 1000 * u) × (above z ≤ below z + 10000 * u)
+  limits =
+      let both = sym (within-diff (1000 * u) (10000 * u) (above z) (below z) z (diff-self z)) ∙ h in
+      let low = leb (below z) (above z + 1000 * u) in
+      let high = leb (above z) (below z + 10000 * u) in
+      (leb-true (below z) (above z + 1000 * u) (and-first low high both), leb-true (above z) (below z + 10000 * u) (and-second low high both))
 
-  pub too-high : (z : ℤ) → ltZ (pos high) z ≡ true → natOr z ≡ 0
-  too-high (pos n) h = rw (lt-leb n high (ltb-true high n h))
-  too-high (negsuc n) h = absurd (subst T (sym h) tt)
+  raised-is : raisedOr u z ≡ above z + 100000 * u - below z
+  unfolding raisedOr
+  raised-is =
+      let r = above z + 100000 * u - below z in
+      ap (λ b. cond b (natural (pos (100000 * u) +ℤ z)) 0) h
+      ∙ natural-raised z r (100000 * u) (again z (above z) (below z) r (100000 * u) (diff-self z) (omega (arith, limits .0)))
 
-  sum-is : (z : ℤ) → ltZ z (negsuc low) ≡ false → ltZ (pos high) z ≡ false → (z +ℤ pos base ≡ pos (natOr z)) × (natOr z ≤ base + high)
-  sum-is (pos n) h k =
-      let l = ltb-false high n k in
-      rw (le-leb n high l) (ap pos (omega arith), omega (arith, l))
-  sum-is (negsuc n) h k =
-      let l = ltb-false low n h in
-      rw (le-leb n low l, le-ltb base (suc n) (omega (arith, l))) (refl, omega arith)
+  pub rate-diff : Diff z (raisedOr u z) (100000 * u)
+  rate-diff = again z (above z) (below z) (raisedOr u z) (100000 * u) (diff-self z) (omega (arith, raised-is, limits .0))
 
-  pub nat-most : (z : ℤ) → natOr z ≤ base + high
-  nat-most (pos n) = go (leb n high) refl
-    where
-      go : (b : Bool) → leb n high ≡ b → cond b (base + n) 0 ≤ base + high
-      go true e = omega (arith, leb-true n high e)
-      go false e = omega arith
-  nat-most (negsuc n) = go (leb n low) refl
-    where
-      go : (b : Bool) → leb n low ≡ b → cond (b && true) (natural (subℕ base (suc n))) 0 ≤ base + high
-      go true e = rw (le-ltb base (suc n) (omega (arith, leb-true n low e))) (omega arith)
-      go false e = omega arith
+  rate-sum : z +ℤ pos (100000 * u) ≡ pos (raisedOr u z)
+  rate-sum =
+      let r = raisedOr u z in
+      let m = 100000 * u in
+      one-diff (z +ℤ pos m) (pos r) (r + m) (m + 0) (diff-sum z (pos m) r m m 0 rate-diff (diff-pos m)) (omega arith)
 
-  nat-diff : (z : ℤ) → withinZ (negsuc low) (pos high) z ≡ true → Diff z (natOr z) base
-  nat-diff (pos n) h = rw h (omega arith)
-  nat-diff (negsuc n) h =
-      let l = leb-true n low (and-first (leb n low) true h) in
-      rw (h, le-ltb base (suc n) (omega (arith, l))) (omega (arith, l))
+-- where it is not
+none : (u : ℕ) (z : ℤ) → within u z ≡ false → raisedOr u z ≡ 0
+unfolding raisedOr
+none u z h = rw h
 
-  -- the bits of a rate, read as the rate
-  module _ (fits : base + high ≤ 2000000000) (z : ℤ) (f : SFits w32 z) (least : ltZ (toZ w32 (ofZ w32 z)) (negsuc low) ≡ false)
-      (most : ltZ (pos high) (toZ w32 (ofZ w32 z)) ≡ false) where
-    sum : (toZ w32 (ofZ w32 z) +ℤ pos base ≡ pos (natOr z)) × (natOr z ≤ base + high)
-    sum =
-        let is = toZ-ofZ w32 z f in
-        let (s, m) = sum-is z (subst (λ (y : ℤ). ltZ y (negsuc low) ≡ false) is least) (subst (λ (y : ℤ). ltZ (pos high) y ≡ false) is most) in
-        (ap (λ (y : ℤ). y +ℤ pos base) is ∙ s, m)
-
-    pub sum-fits : SFits w32 (toZ w32 (ofZ w32 z) +ℤ pos base)
-    sum-fits = rw (sum .0) record { sfits = omega (arith, sum .1) }
-
-    pub sum-read : toZ w32 (ofZ w32 (toZ w32 (ofZ w32 z) +ℤ pos base)) ≡ pos (natOr z)
-    sum-read = toZ-ofZ w32 _ sum-fits ∙ sum .0
-
--- ---- rates in steps, and in hundredths of them
-
--- what holds of both holds of the units of a rate of w bytes
-by-units : (Q : ℕ → Type 0) → Q 1 → Q 100 → (w : ℕ) → Q (unitsPerStep w)
-by-units Q one hundred w = go (eqb w 4)
+pub raised-most : (u : ℕ) (z : ℤ) → raisedOr u z ≤ 110000 * u
+raised-most u z = go (within u z) refl
   where
-    go : (b : Bool) → Q (cond b 100 1)
-    go true = hundred
-    go false = one
+    go : (b : Bool) → within u z ≡ b → raisedOr u z ≤ 110000 * u
+    go true e = omega (arith, raised-is u z e, limits u z e .1)
+    go false e = omega (arith, none u z e)
 
-pub units-most : (w : ℕ) → unitsPerStep w ≤ 100
-units-most = by-units (λ u. u ≤ 100) (lit≤ tt) (lit≤ tt)
-
-pub raised-most : (w : ℕ) (z : ℤ) → raisedOr (unitsPerStep w) z ≤ 110000 * unitsPerStep w
-unfolding raisedOr
-raised-most w z =
-    by-units (λ u. raisedOr u z ≤ 110000 * u) (nat-most 999 10000 100000 (lit≤ tt) z) (nat-most 99999 1000000 10000000 (lit≤ tt) z) w
-
--- the rate, by that natural: itself where it is within its limits, and whether it is
-pub raised-diff : (w : ℕ) (z : ℤ) → dailyRate w .right z ≡ true → Diff z (raisedOr (unitsPerStep w) z) (100000 * unitsPerStep w)
-unfolding raisedOr
-raised-diff w z =
-    by-units (λ u. withinZ (negℤ (pos (1000 * u))) (pos (10000 * u)) z ≡ true → Diff z (raisedOr u z) (100000 * u))
-    (nat-diff 999 10000 100000 (lit≤ tt) z) (nat-diff 99999 1000000 10000000 (lit≤ tt) z) w
-
-pub raised-right : (w : ℕ) (z : ℤ) → rateRight (unitsPerStep w) (raisedOr (unitsPerStep w) z) ≡ dailyRate w .right z
-unfolding raisedOr
-raised-right w z = go (dailyRate w .right z) refl
+-- it is 0 only where the rate is outside its limits
+pub raised-right : (u : ℕ) (z : ℤ) → 1 ≤ u → not (eqb (raisedOr u z) 0) ≡ within u z
+raised-right u z some = go (within u z) refl
   where
-    none-right : (v : ℕ) → rateRight (unitsPerStep v) 0 ≡ false
-    none-right = by-units (λ u. rateRight u 0 ≡ false) refl refl
+    go : (b : Bool) → within u z ≡ b → not (eqb (raisedOr u z) 0) ≡ within u z
+    go true e = ap not (ne-eqb (raisedOr u z) 0 (λ h. none-left h)) ∙ sym e
+      where
+        none-left : raisedOr u z ≡ 0 → ⊥
+        none-left h = omega (arith, raised-is u z e, limits u z e .0)
+    go false e = ap (λ (r : ℕ). not (eqb r 0)) (none u z e) ∙ sym e
 
-    go : (b : Bool) → dailyRate w .right z ≡ b
-        → rateRight (unitsPerStep w) (raisedOr (unitsPerStep w) z) ≡ dailyRate w .right z
-    go true e =
-        let u = unitsPerStep w in
-        within-raised (1000 * u) (10000 * u) (99000 * u) (110000 * u) (raisedOr u z) (100000 * u) z (raised-diff w z e) (omega arith) (omega arith)
-    go false e = rw e (none-right w)
+-- the two tests of the limits
+natural-less : (a b : ℕ) → ltb a b ≡ not (leb b a)
+natural-less a b = go (leb b a) refl
+  where
+    go : (x : Bool) → leb b a ≡ x → ltb a b ≡ not (leb b a)
+    go true e = le-ltb a b (leb-true b a e) ∙ sym (ap not e)
+    go false e = lt-ltb a b (leb-false b a e) ∙ sym (ap not e)
+
+less-or-not : (y z : ℤ) → ltZ y z ≡ not (leZ z y)
+less-or-not (pos a) (pos b) = natural-less a b
+less-or-not (pos a) (negsuc b) = refl
+less-or-not (negsuc a) (pos b) = refl
+less-or-not (negsuc a) (negsuc b) = natural-less b a
+
+module _ (u : ℕ) (z : ℤ) where
+  abbrev low : ℤ
+  low = negℤ (pos (1000 * u))
+
+  abbrev high : ℤ
+  high = pos (10000 * u)
+
+  too-low : ltZ z low ≡ true → raisedOr u z ≡ 0
+  too-low h = none u z (ap (λ b. b && leZ z high) (not-true (leZ low z) (sym (less-or-not z low) ∙ h)))
+
+  too-high : ltZ high z ≡ true → raisedOr u z ≡ 0
+  too-high h = none u z (and-false (leZ low z) (leZ z high) (not-true (leZ z high) (sym (less-or-not high z) ∙ h)))
+
+  between : ltZ z low ≡ false → ltZ high z ≡ false → within u z ≡ true
+  between l h =
+      ap₂ (λ a b. a && b) (not-false (leZ low z) (sym (less-or-not z low) ∙ l)) (not-false (leZ z high) (sym (less-or-not high z) ∙ h))
+
+-- the same by 32 bits: those of a rate, and of a step of so many units
+module _ (u : ℕ) (few : u ≤ 100) (z : ℤ) (f : SFits w32 z) where
+  abbrev bits : ℤ → ℤ
+  bits y = toZ w32 (ofZ w32 y)
+
+  neg-fits : (n : ℕ) → n ≤ 100000 → SFits w32 (negℤ (pos n))
+  neg-fits zero l = record { sfits = omega arith }
+  neg-fits (suc n) l = record { sfits = omega (arith, l) }
+
+  step-read : toZ w32 u ≡ pos u
+  step-read = toZ-ofZ w32 (pos u) record { sfits = omega (arith, few) }
+
+  pub low-fits : SFits w32 (negsuc 999 *ℤ toZ w32 u)
+  low-fits = rw step-read (neg-fits (1000 * u) (omega (arith, few)))
+
+  pub high-fits : SFits w32 (pos 10000 *ℤ toZ w32 u)
+  high-fits = rw step-read record { sfits = omega (arith, few) }
+
+  pub base-fits : SFits w32 (pos 100000 *ℤ toZ w32 u)
+  base-fits = rw step-read record { sfits = omega (arith, few) }
+
+  low-read : bits (negsuc 999 *ℤ toZ w32 u) ≡ negℤ (pos (1000 * u))
+  low-read = toZ-ofZ w32 (negsuc 999 *ℤ toZ w32 u) low-fits ∙ ap (λ y. negsuc 999 *ℤ y) step-read
+
+  high-read : bits (pos 10000 *ℤ toZ w32 u) ≡ pos (10000 * u)
+  high-read = toZ-ofZ w32 (pos 10000 *ℤ toZ w32 u) high-fits ∙ ap (λ y. pos 10000 *ℤ y) step-read
+
+  base-read : bits (pos 100000 *ℤ toZ w32 u) ≡ pos (100000 * u)
+  base-read = toZ-ofZ w32 (pos 100000 *ℤ toZ w32 u) base-fits ∙ ap (λ y. pos 100000 *ℤ y) step-read
+
+  pub bits-low : ltZ (bits z) (bits (negsuc 999 *ℤ toZ w32 u)) ≡ true → raisedOr u z ≡ 0
+  bits-low h = too-low u z (sym (ap₂ ltZ (toZ-ofZ w32 z f) low-read) ∙ h)
+
+  pub bits-high : ltZ (bits (pos 10000 *ℤ toZ w32 u)) (bits z) ≡ true → raisedOr u z ≡ 0
+  bits-high h = too-high u z (sym (ap₂ ltZ high-read (toZ-ofZ w32 z f)) ∙ h)
+
+  abbrev sum : ℤ
+  sum = bits z +ℤ bits (pos 100000 *ℤ toZ w32 u)
+
+  module _ (l : ltZ (bits z) (bits (negsuc 999 *ℤ toZ w32 u)) ≡ false) (h : ltZ (bits (pos 10000 *ℤ toZ w32 u)) (bits z) ≡ false) where
+    sum-is : sum ≡ pos (raisedOr u z)
+    sum-is =
+        ap₂ (λ y x. y +ℤ x) (toZ-ofZ w32 z f) base-read
+        ∙ rate-sum u z (between u z (sym (ap₂ ltZ (toZ-ofZ w32 z f) low-read) ∙ l) (sym (ap₂ ltZ high-read (toZ-ofZ w32 z f)) ∙ h))
+
+    pub sum-fits : SFits w32 sum
+    sum-fits = rw sum-is record { sfits = omega (arith, raised-most u z, few) }
+
+    pub sum-read : bits sum ≡ pos (raisedOr u z)
+    sum-read = toZ-ofZ w32 sum sum-fits ∙ sum-is
+
+-- how many units a step has, of a rate of w bytes
+pub units-few : (w : ℕ) → (1 ≤ unitsPerStep w) × (unitsPerStep w ≤ 100)
+units-few w = go (eqb w 4)
+  where
+    go : (b : Bool) → (1 ≤ cond b 100 1) × (cond b 100 1 ≤ 100)
+    go true = (lit≤ tt, lit≤ tt)
+    go false = (lit≤ tt, lit≤ tt)

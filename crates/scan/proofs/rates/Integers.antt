@@ -33,6 +33,14 @@ diff-leb y z a b c d p q h k e =
     (λ l. le→leb p q (omega (arith, e, diff-le {y = y} {z = z} a b c d h k record { le = l })))
     (λ l. le-diff y z a b c d h k (omega (arith, e, leb→le p q l)) .le)
 
+-- an integer that is a - b is within limits where a and b are as close
+pub within-diff : (least most a b : ℕ) (z : ℤ) → Diff z a b
+    → withinZ (negℤ (pos least)) (pos most) z ≡ (leb b (a + least) && leb a (b + most))
+within-diff least most a b z h =
+    ap₂ (λ x y. x && y)
+    (diff-leb (negℤ (pos least)) z 0 least a b b (a + least) (diff-neg (pos least) least 0 (diff-pos least)) h (omega arith))
+    (diff-leb z (pos most) a b most 0 a (b + most) h (diff-pos most) (omega arith))
+
 pub within-raised : (least most low high r m : ℕ) (z : ℤ) → Diff z r m → low + least ≡ m → high ≡ m + most
     → (leb low r && leb r high) ≡ withinZ (negℤ (pos least)) (pos most) z
 within-raised least most low high r m z h e k =
@@ -85,10 +93,7 @@ raised-high v h k =
 
 -- its limits by naturals
 limits-high : (v : ℕ) → withinZ (negℤ (pos 100000)) (pos 1000000) (pos v -ℤ pos span) ≡ (leb span (v + 100000) && leb v (span + 1000000))
-limits-high v =
-    ap₂ (λ a b. a && b)
-    (diff-leb (negℤ (pos 100000)) (pos v -ℤ pos span) 0 100000 v span span (v + 100000) (diff-neg (pos 100000) 100000 0 (diff-pos 100000)) (below-four v) (omega arith))
-    (diff-leb (pos v -ℤ pos span) (pos 1000000) v span 1000000 0 v (span + 1000000) (below-four v) (diff-pos 1000000) (omega arith))
+limits-high v = within-diff 100000 1000000 v span (pos v -ℤ pos span) (below-four v)
 
 pub right-four : (v : ℕ) → v < 256 ^ 4 → rateRight 100 (raisedFour v) ≡ dailyRate 4 .right (twosComplement 4 v)
 right-four v l = go (ltb (2 * v) span) refl (leb span (v + 10000000)) refl

@@ -5,20 +5,15 @@ use native.Mathlib.Nat.{le-refl}
 use borrow.Author.Needs.{needs}
 use Rattle.model.specs.Numbers.{bytesOf}
 use Rattle.output.proofs.Stores.{as-text}
-use Rattle.given.specs.inner.Raised.{raisedOr}
-use Rattle.fields.proofs.rates.Bits.{held-bits, long-bits}
+use Rattle.fields.proofs.rates.Bits.{biased, held-bits, long-bits}
 use Rattle.fields.proofs.rates.put_long_rate.Statement.{statement}
 use Rattle.fields.proofs.rates.put_long_rate.Tie as tie
 
-raised-long-requires : tie.Need-raised-long-requires
-raised-long-requires c κs = search needs
+biased-requires : tie.Need-biased-requires
+biased-requires c κs = search needs
 
 add-bits : tie.Need-add-bits
-add-bits c =
-    let s = c .before .before in
-    let e = c .raised-long .ensures ∙ ap (raisedOr 100) (held-bits 4 refl (s .args .rate) (s .pre .1)) in
-    let most = long-bits (s .args .rate) (s .pre .1) .0 in
-    search needs
+add-bits c = search needs
 
 put-bytes-requires : tie.Need-put-bytes-requires
 put-bytes-requires c κs = search needs
@@ -29,10 +24,10 @@ same-length c = search needs
 returns : tie.Need-returns
 returns c =
     let s = c .before .before .before .before .before .before in
-    let e = c .before .before .before .before .raised-long .ensures ∙ ap (raisedOr 100) (held-bits 4 refl (s .args .rate) (s .pre .1)) in
-    let bits = ap (λ r. (r + 4284967296) % 4294967296) e ∙ long-bits (s .args .rate) (s .pre .1) .1 in
+    let e = c .before .before .before .before .biased .ensures .0 in
+    let f = ap biased (held-bits 4 refl (s .args .rate) (s .pre .1)) in
+    let bits = ap (λ r. (r + 2147483648) % 4294967296) (e ∙ f) ∙ long-bits (s .args .rate) (s .pre .1) in
     as-text (ap (bytesOf 4) bits) (le-refl 4) (c .before .before .put-bytes .ensures)
 
 pub put-long-rate-spec : {M : Type 1} → statement M
-put-long-rate-spec =
-    tie.close (tie.spec raised-long-requires add-bits put-bytes-requires same-length returns)
+put-long-rate-spec = tie.close (tie.spec biased-requires add-bits put-bytes-requires same-length returns)

@@ -1,21 +1,14 @@
--- `put_short_rate`: two stores, of the bytes of 65,536 and the rate.
+-- `put_short_rate`: two stores, of the lowest bytes of 2^31 and the rate.
 use borrow.Author.Needs.{needs}
 use mathlib.Core.Path.{refl, ap, _∙_}
 use native.Mathlib.Omega.{arith}
 use lib.ListN.{length-set}
-use Rattle.given.specs.inner.Raised.{raisedOr}
-use Rattle.fields.proofs.rates.Bits.{held-bits, low-bits, rate-stored}
+use Rattle.fields.proofs.rates.Bits.{biased, held-bits, rate-stored}
 use Rattle.fields.proofs.rates.put_short_rate.Statement.{statement}
 use Rattle.fields.proofs.rates.put_short_rate.Tie as tie
 
-raised-requires : tie.Need-raised-requires
-raised-requires c κs = search needs
-
-sub-bits : tie.Need-sub-bits
-sub-bits c =
-    let s = c .before .before in
-    let e = c .raised .ensures ∙ ap (raisedOr 1) (held-bits 2 refl (s .args .rate) (s .pre .1)) in
-    omega (arith, low-bits (s .args .rate) (s .pre .1) .0)
+biased-requires : tie.Need-biased-requires
+biased-requires c κs = search needs
 
 cast-buf : tie.Need-cast-buf
 cast-buf c = search needs
@@ -42,19 +35,9 @@ returns : tie.Need-returns
 returns c =
     let s = c .before .before in
     rate-stored (s .args .buf .now) (s .args .at) (s .args .rate) (s .pre .1)
-    (c .raised .ensures ∙ ap (raisedOr 1) (held-bits 2 refl (s .args .rate) (s .pre .1)))
+    (c .biased .ensures .0 ∙ ap biased (held-bits 2 refl (s .args .rate) (s .pre .1)))
 
 pub put-short-rate-spec : {M : Type 1} → statement M
 put-short-rate-spec =
     tie.close
-    (tie.spec
-    raised-requires
-    sub-bits
-    cast-buf
-    slice-write-buf
-    cast-buf-2
-    add-buf
-    slice-write-buf-2
-    add-result
-    same-length
-    returns)
+    (tie.spec biased-requires cast-buf slice-write-buf cast-buf-2 add-buf slice-write-buf-2 add-result same-length returns)

@@ -2,9 +2,10 @@
 -- Assumes nothing.
 use Prim.Native.Nat.{ℕ, _+_, _-_, _≤_}
 use mathlib.Core.Path.{_≡_, refl, ap, ap₂, sym, _∙_}
-use mathlib.Core.Bool.{Bool, _&&_}
+use mathlib.Core.Bool.{Bool, not, _&&_}
 use mathlib.Core.List.{List, _++_}
 use native.Mathlib.Omega.{arith}
+use lib.Dec.{eqb}
 use lib.ListN.{length, getD, take, drop, length-set}
 use lib.IntN.{ℤ, pos}
 use lib.Seq.{take-all}
@@ -17,10 +18,10 @@ use Rattle.model.specs.Fields.{rightAll}
 use Rattle.model.specs.Layout.{dailyRate}
 use Rattle.model.specs.Numbers.{table}
 use Rattle.theory.proofs.general.Lists.{and-true, table-filled, all-filled}
-use Rattle.scan.specs.inner.Sums.{rateRight, EachAtMost}
+use Rattle.scan.specs.inner.Sums.{EachAtMost}
 use Rattle.scan.proofs.rates.Days.{entry-kept}
 use Rattle.given.specs.inner.Raised.{raisedOr, withDay}
-use Rattle.given.proofs.rates.Signed.{units-most, raised-most, raised-right}
+use Rattle.given.proofs.rates.Signed.{units-few, raised-most, raised-right}
 use Rattle.given.proofs.rates.Days.{one-tested}
 use Rattle.given.proofs.rates.add_day.Statement.{statement}
 use Rattle.given.proofs.rates.add_day.Tie as tie
@@ -41,14 +42,14 @@ loop-holds : tie.Need-loop-holds Inv-loop μ-loop
 unfolding table
 loop-holds c = (omega arith, search needs, search needs, search needs, c .before .before .pre, sym (and-true _), refl)
 
-mul-raised-rate : tie.Need-mul-raised-rate Inv-loop μ-loop
-mul-raised-rate c = search needs
+mul-raised : tie.Need-mul-raised Inv-loop μ-loop
+mul-raised c = search needs
 
-array-copy-out-raised-rate : tie.Need-array-copy-out-raised-rate Inv-loop μ-loop
-array-copy-out-raised-rate c = search needs
+array-copy-out-raised : tie.Need-array-copy-out-raised Inv-loop μ-loop
+array-copy-out-raised c = search needs
 
-raised-rate-requires : tie.Need-raised-rate-requires Inv-loop μ-loop
-raised-rate-requires c κs = search needs
+raised-requires : tie.Need-raised-requires Inv-loop μ-loop
+raised-requires c κs = search needs
 
 mul-sums : tie.Need-mul-sums Inv-loop μ-loop
 mul-sums c = search needs
@@ -63,15 +64,13 @@ add-sums c =
     let known = most .each (l .t) (omega arith) in
     let kept = entry-kept _ _ (l .sums) (l .t) (omega (arith, before)) summed in
     let a = c .before .before .before .before .before .before .args in
-    let most = raised-most (a .rate-bytes) (toZ w32 (ofZ w32 (getD (a .t2) (l .t) (pos 0)))) in
-    let small : c .raised-rate .result ≤ 11000000 = omega (arith, c .raised-rate .ensures, most, units-most (a .rate-bytes)) in
+    let units = c .before .before .before .before .before .units-per-step in
+    let most = raised-most (units .result) (toZ w32 (ofZ w32 (getD (a .t2) (l .t) (pos 0)))) in
+    let small : c .raised .result ≤ 11000000 = omega (arith, c .raised .ensures, most, units .ensures .1) in
     search needs
 
 array-write-sums : tie.Need-array-write-sums Inv-loop μ-loop
 array-write-sums c = search needs
-
-rate-right-requires : tie.Need-rate-right-requires Inv-loop μ-loop
-rate-right-requires c κs = search needs
 
 both-requires : tie.Need-both-requires Inv-loop μ-loop
 both-requires c κs = search needs
@@ -84,17 +83,17 @@ loop-less c = search needs
 
 loop-again : tie.Need-loop-again Inv-loop μ-loop
 loop-again c =
-    let at = c .before .before .before .before .before in
+    let at = c .before .before .before .before in
     let l = at .loop in
     let a = at .before .before .before .args in
     let w = a .rate-bytes in
     let units = at .before .before .units-per-step .ensures .0 in
     let (some, long, terms, before, most, tested, summed) = l .inv in
     let rate = getD (a .t2) (l .t) (pos 0) in
-    let read = toZ-ofZ w32 rate record { sfits = c .before .before .before .raised-rate-arg .given } in
-    let raised = c .before .before .raised-rate .ensures ∙ ap (raisedOr (unitsPerStep w)) read in
+    let read = toZ-ofZ w32 rate record { sfits = c .before .before .raised-arg .given } in
+    let raised = c .before .raised .ensures ∙ ap₂ raisedOr units read in
     let kept = entry-kept _ (a .held .sums) (l .sums) (l .t) (omega (arith, before)) summed in
-    let right = c .before .rate-right .ensures ∙ ap₂ rateRight units raised ∙ raised-right w rate in (
+    let right = ap (λ (r : ℕ). not (eqb r 0)) raised ∙ raised-right (unitsPerStep w) rate (units-few w .0) in (
       omega arith,
       long,
       length-set (l .sums) (l .t) _ ∙ terms,
@@ -125,14 +124,13 @@ add-day-spec =
     μ-loop
     units-per-step-requires
     loop-holds
-    mul-raised-rate
-    array-copy-out-raised-rate
-    raised-rate-requires
+    mul-raised
+    array-copy-out-raised
+    raised-requires
     mul-sums
     array-read-sums
     add-sums
     array-write-sums
-    rate-right-requires
     both-requires
     add-t
     loop-less

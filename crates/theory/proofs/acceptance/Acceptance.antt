@@ -3,27 +3,27 @@
 -- whose fields are within the limits, its map announces the fields that were written, that case is what is read, and each check holds but
 -- for 6, which its days decide. The bytes of a case without two-byte days get 4.
 use mathlib.Core.Path.{_≡_, refl, ap, ap₂, sym, _∙_, subst}
-use mathlib.Core.Bool.{true}
+use mathlib.Core.Bool.{true, cond}
 use mathlib.Core.List.{List, [], _∷_, _++_, append-nil, append-assoc}
 use Prim.Native.Nat.{ℕ, _+_, _*_, _≤_}
 use native.Mathlib.Omega.{arith}
-use borrow.Author.Tests.{le-leb, leb-true}
+use borrow.Author.Tests.{le-leb, leb-true, not-true}
 use lib.Dec.{T, leb, lit<, lit≤}
 use lib.ListN.{length, drop, length-drop, drop-of-length-le}
 use Rattle.model.specs.Numbers.{bytesOf, Bytes}
 use Rattle.model.specs.Case.{FileCase, knownForm, perStep, withDays}
 use Rattle.model.specs.Limits.{WithinLimits}
 use Rattle.model.specs.Fields.{Check, rightAll}
-use Rattle.model.specs.Layout.{day, days, Present, mapOf, rateBytesIn, presentIn, fileMap, firstFields, layout}
+use Rattle.model.specs.Layout.{day, days, Present, mapOf, stands, rateBytesIn, presentIn, fileMap, firstFields, layout}
 use Rattle.model.specs.Layout.{caseFrom, partsOf, fileOf, caseOf}
 use Rattle.model.specs.inner.Positions.{rateBytes, ufrField}
 use Rattle.model.specs.Layout.{Agrees, Keeps}
-use Rattle.model.specs.Refusals.{firstOf, bitsRight, mapChecks, forwardsRight, checks, refusal, daysAt, dayCount}
+use Rattle.model.specs.Refusals.{firstOf, exactlyOne, bitsRight, mapChecks, forwardsRight, checks, refusal, daysAt, dayCount}
 use Rattle.theory.proofs.general.Lists.{_also_}
 use Rattle.theory.proofs.acceptance.Checks.{Hold, numbered, hold-parts, numbered-append, none-hold, hold-none, after-hold}
 use Rattle.theory.proofs.acceptance.Encoding.{number-small, number-written}
 use Rattle.theory.proofs.acceptance.Form.{known-in, laterFields, days-held, case-of-parts, parts-of-case}
-use Rattle.theory.proofs.acceptance.Bitmap.{map-of-present, announced}
+use Rattle.theory.proofs.acceptance.Bitmap.{one-days-field, map-of-present, announced}
 use Rattle.theory.proofs.acceptance.Laws.{field-lawful, none-refused}
 use Rattle.theory.proofs.acceptance.Within.{ForwardsWithin, forwards-true, forwards-test, upto-lawful, UfrWithin, ufr-lawful}
 use Rattle.theory.proofs.acceptance.Within.{PartsWithin, layout-lawful, parts-limits, limits-parts}
@@ -85,6 +85,14 @@ module _ (file : List ℕ) (h : refusal file ≡ 0) where
 
   pub agrees-shown : Agrees (presentIn (fileMap file)) (caseOf file)
   agrees-shown = limits .1
+
+  -- where bit 1 stands, bit 7 does not
+  pub two-bytes : stands 1 (fileMap file) ≡ true → caseOf file .rateBytes ≡ 2
+  unfolding caseOf
+  two-bytes one =
+      let m = fileMap file in
+      let both = one-days-field m (passed .0 .1 .0) in
+      ap (λ b. cond b 4 2) (not-true (stands 7 m) (subst (λ b. exactlyOne b (stands 7 m) ≡ true) one both))
 
   -- its rates are in the file, in either days field
   pub days-reach : daysAt file + 1 + rateBytes file * 60 * dayCount file ≤ length file

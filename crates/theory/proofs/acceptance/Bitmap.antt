@@ -30,6 +30,15 @@ none-from m i (suc n) h z =
     half : (q : ℕ) → q / 2 ≡ 0 → (q % 2 ≡ 1 → ⊥) → q ≡ 0
     half q e b = omega arith
 
+pub one-days-field : (m : ℕ) → bitsRight m ≡ true → exactlyOne (stands 1 m) (stands 7 m) ≡ true
+one-days-field m h =
+    let one = exactlyOne (stands 1 m) (stands 7 m) in
+    let two = one && stands 2 m in
+    let five = two && stands 5 m in
+    let six = five && stands 6 m in
+    and-first one (stands 2 m)
+    (and-first two (stands 5 m) (and-first five (stands 6 m) (and-first six (every (λ j. not (stands (8 + j) m)) 8) h)))
+
 -- a map below 256 whose bits are right is that of the fields it announces: computed of each
 test : ℕ → Bool
 test m = cond (bitsRight m) (eqb m (mapOf (rateBytesIn m) (presentIn m))) true

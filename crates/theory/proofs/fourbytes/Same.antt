@@ -2,7 +2,7 @@
 -- its answer, its listing and what both buffers hold afterwards are the old file's, also where a buffer is too short. Assumes nothing.
 use Prim.Native.Nat.{ℕ, zero, suc}
 use mathlib.Core.Path.{_≡_, refl, ap, ap₂, sym, _∙_}
-use mathlib.Core.Bool.{cond, _&&_}
+use mathlib.Core.Bool.{true, cond, _&&_}
 use mathlib.Core.List.{List}
 use lib.Dec.{leb}
 use lib.ListN.{length}
@@ -10,7 +10,7 @@ use lib.IntN.{ℤ}
 use Rattle.arith.specs.Rounding.{End}
 use Rattle.model.specs.Case.{FileCase}
 use Rattle.model.specs.Limits.{WithinLimits}
-use Rattle.model.specs.Layout.{presentIn, fileMap, caseOf, Keeps}
+use Rattle.model.specs.Layout.{stands, presentIn, fileMap, caseOf, Keeps}
 use Rattle.model.specs.Refusals.{firstOf, refusal}
 use Rattle.model.specs.Constants.{lastTerm}
 use Rattle.model.specs.Curve.{base, curve}
@@ -21,12 +21,15 @@ use Rattle.model.specs.Buffers.{valuationRefusal, byTerm, factorEntries, rateEn
 use Rattle.model.specs.Listing.{listing}
 use Rattle.model.specs.FourBytes.{rewritten, rewrittenFile, SameAsBefore}
 use Rattle.model.specs.declared.figures.Valuation.the-variants.{Valued}
-use Rattle.theory.proofs.acceptance.Acceptance.{within-limits, agrees-shown, keeps-accepted}
+use Rattle.theory.proofs.acceptance.Acceptance.{within-limits, agrees-shown, two-bytes, keeps-accepted}
 use Rattle.theory.proofs.fourbytes.Rewritten.{within-rewritten, factors-same, figures-same, verdict-same}
 
-module _ (file : List ℕ) (none : refusal file ≡ 0) (two : caseOf file .rateBytes ≡ 2) where
+module _ (file : List ℕ) (none : refusal file ≡ 0) (one : stands 1 (fileMap file) ≡ true) where
   abbrev old : FileCase
   old = caseOf file
+
+  two : caseOf file .rateBytes ≡ 2
+  two = two-bytes file none one
 
   within : WithinLimits (caseOf file)
   within = within-limits file none

@@ -2,11 +2,12 @@
 
 Rewritings: two-byte files, accepted and with one fault, and the same rewritten to bit 7 with every rate times 100. Both give the same
 refusal, listing and buffers, and the part that holds the rates is n x 120 bytes of the one and n x 240 of the other.
-Seven decimals: the reading, the listing and both buffers of four-byte files beside those of the reference, and of some of them demand 3 of
-the engine's own brackets against the exact figures over fractions; the ends of the limits are among them.
+Seven decimals: the reading, the listing and both buffers of four-byte files beside those of the reference, and of some of them, the ends of
+the limits first, demand 3 of the engine's own brackets against the exact figures over fractions.
 Damage: four-byte files cut at each byte of the days field, with each byte of it changed, with both of bits 1 and 7 or neither, and with a
 wrong rate behind every other fault.
-Ends with 1 on any difference, or if a refusal from 1 to 12 or a verdict was not seen among the four-byte files, or no rate with seven decimals.
+Ends with 1 on any difference, or if a refusal from 1 to 12 or a verdict was not seen among the four-byte files, or too few rates with seven
+decimals.
 """
 
 import random
@@ -122,21 +123,26 @@ def compare_rewritings(comparison, made):
 
 # ---------------------------------------------------------------- seven decimals
 
+def extremes():
+    """The ends of the limits, of one day and of 70, with the largest shifts and without."""
+    return [*files.ends(4), *files.largest_products(4)]
+
+
 def finer_cases(rng, count):
-    """Cases with four-byte days, mostly of few days, since exact fractions of many are long."""
+    """Cases with four-byte days: the ends of the limits, and then, in an order that is drawn, so many with seven decimals and some without.
+    Most have few days, since exact fractions of many are long."""
     few = lambda: rng.choice([1, 1, 1, 2, 2, 3])
-    cases = [*map(files.finer_case, (examples.bent(), examples.up(), examples.down(), examples.long())), *files.ends(4),
-             *files.largest_products(4), *files.on_steps(rng, 4)]
+    cases = [*map(files.finer_case, (examples.bent(), examples.up(), examples.down(), examples.long())), *files.on_steps(rng, 4)]
     cases += files.at_forwards(rng, 4) + [files.full_case(rng, 4) for _ in range(count // 30)]
     cases += [files.extreme_case(rng, few(), 4) for _ in range(count // 8)] + files.border_cases(rng, count // 4, 4)
     cases += [case for aim in files.WIDTHS for case in files.climbed(rng, aim, count // 50, 4)]
-    cases += [examples.random_case(rng, few(), 4) for _ in range(count - len(cases))]
-    return rng.sample(cases, count)
+    cases += [examples.random_case(rng, few(), 4) for _ in range(count - sum(map(seven_decimals, cases)))]
+    return extremes() + rng.sample(cases, len(cases))
 
 
 def seven_decimals(case):
-    """Whether a rate is no whole number of steps."""
-    return any(rate % 100 for day in case.days for rate in day)
+    """Whether a rate has a seventh decimal."""
+    return any(rate % 10 for day in case.days for rate in day)
 
 
 def compare_finer(comparison, rng, cases, exactly):
@@ -202,19 +208,21 @@ def compare_damaged(comparison, made):
 
 # ---------------------------------------------------------------- all of it
 
-def unseen(comparison, cases):
-    """What was not met among the four-byte files."""
+def unseen(comparison, cases, count, exactly):
+    """What was not met among the four-byte files, of which so many were to have seven decimals, and the first of which were worked exactly."""
     found = [outcome for outcome in programs.OUTCOMES if not comparison.outcomes[outcome]]
-    return found if any(map(seven_decimals, cases)) else [*found, "seven decimals"]
+    found += [] if sum(map(seven_decimals, cases)) >= count else [f"{count} cases with seven decimals"]
+    return found + ([] if all(case in cases[:exactly] for case in extremes()) else ["the ends of the limits, exactly"])
 
 
 def main(quick):
     rng, comparison = random.Random(SEED), Comparison()
-    compare_rewritings(comparison, pairs(rng, 200 if quick else 3_000))
-    cases = finer_cases(rng, 200 if quick else 3_000)
-    compare_finer(comparison, rng, cases, 60 if quick else 1_000)
+    count, exactly = (200, 60) if quick else (3_000, 1_000)
+    compare_rewritings(comparison, pairs(rng, count))
+    cases = finer_cases(rng, count)
+    compare_finer(comparison, rng, cases, exactly)
     compare_damaged(comparison, damaged_files(quick))
-    missed = unseen(comparison, cases)
+    missed = unseen(comparison, cases, count, exactly)
     print(f"{sum(map(seven_decimals, cases))} of {len(cases)} cases have rates with seven decimals")
     print(f"four-byte files: {counts(comparison.outcomes)}; not seen: {missed or 'none'}")
     print(f"{comparison.different} different")

@@ -315,7 +315,8 @@ class Reported(unittest.TestCase):
         self.assertEqual(comparison.different, 0, printed)
         kinds = re.findall(r"^(.*): (\d+) files, 0 different$", printed, re.M)
         self.assertEqual([kind for kind, _ in kinds], [DAMAGED, REWRITINGS, FINER, EXACTLY])
-        self.assertEqual(compare_rates.unseen(comparison, trials()[1]), [])
+        cases = compare_rates.extremes() + trials()[1]
+        self.assertEqual(compare_rates.unseen(comparison, cases, 8, 10), [])
 
     def test_wrong(self):
         for name, answers in WRONG.items():
@@ -362,15 +363,18 @@ class Reported(unittest.TestCase):
         self.assertIn("it is refused", self.reported(telling(refused_by_3), finer))
 
     def test_unseen(self):
-        """A comparison that missed an outcome, or has no rate with seven decimals, does not pass."""
-        cases = trials()[1]
+        """A comparison that missed an outcome, has too few rates with seven decimals, or works the ends of the limits not exactly, does not
+        pass."""
+        cases = compare_rates.extremes() + trials()[1]
+        six = examples.c1(days=examples.flat(10), rate_bytes=4)
         for outcome in programs.OUTCOMES:
             comparison = Comparison()
             comparison.outcomes.update(set(programs.OUTCOMES) - {outcome})
-            self.assertEqual(compare_rates.unseen(comparison, cases), [outcome])
+            self.assertEqual(compare_rates.unseen(comparison, cases, 8, 10), [outcome])
             comparison.outcomes[outcome] += 1
-            self.assertEqual(compare_rates.unseen(comparison, cases), [])
-            self.assertEqual(compare_rates.unseen(comparison, [files.rewritten_case(examples.up())]), ["seven decimals"])
+            self.assertEqual(compare_rates.unseen(comparison, cases, 8, 10), [])
+            self.assertEqual(compare_rates.unseen(comparison, compare_rates.extremes() + [six], 1, 10), ["1 cases with seven decimals"])
+            self.assertEqual(compare_rates.unseen(comparison, cases, 8, 9), ["the ends of the limits, exactly"])
 
     def test_end(self):
         """Ends with 1 on a difference or where something was not seen."""
@@ -402,7 +406,8 @@ class Made(unittest.TestCase):
 
     def test_cases(self):
         cases = compare_rates.finer_cases(random.Random(6), 300)
-        self.assertEqual(len(cases), 300)
+        self.assertEqual(sum(map(compare_rates.seven_decimals, cases)), 300)
+        self.assertEqual(cases[:10], compare_rates.extremes())
         self.assertTrue(all(reference.case_refusal(reference.given_of(case)) == 0 and case.rate_bytes == 4 for case in cases))
         rates = {rate for case in cases for day in case.days for rate in day}
         self.assertLessEqual({-100_000, 1_000_000}, rates)

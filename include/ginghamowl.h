@@ -89,11 +89,13 @@ enum {
     /* the number of days is out of limits; it must be 1 to 70, with 60 rates each */
     GINGHAMOWL_REFUSED_DAY_COUNT = 4,
     /* a zero rate is out of limits; each must be -1,000 to 10,000 steps of 0.00001, or in four
-     * bytes -100,000 to 1,000,000 steps of 0.0000001, which is -1 % to 10 % */
+     * bytes, which a rolling window has not, -100,000 to 1,000,000 steps of 0.0000001, which is
+     * -1 % to 10 % */
     GINGHAMOWL_REFUSED_RATE = 5,
     /* a one-year forward rate is out of limits; t x s(t) - (t - 1) x s(t-1), with s(t) the sum
-     * of term t's rates over the n days, must be -2,000 x n to 12,000 x n steps at each term, or
-     * 100 times that for rates in four bytes, which is -2 % to 12 % */
+     * of term t's rates over the n days, must be -2,000 x n to 12,000 x n steps of 0.00001 at
+     * each term, or in four bytes -200,000 x n to 1,200,000 x n steps of 0.0000001, which is -2
+     * % to 12 % */
     GINGHAMOWL_REFUSED_GROWTH = 6,
     /* the number of flows is out of limits; there must be 1 to 120 pension flows, and 1 to 60
      * bond flows where their bit is set */
@@ -180,6 +182,9 @@ enum {
     GINGHAMOWL_TWO_BYTES = 2,
     GINGHAMOWL_FOUR_BYTES = 4
 };
+
+/* How many bytes a rate of an accepted file has: bit 7 of its map announces four. */
+#define GINGHAMOWL_RATE_BYTES(file) ((file)[1] & 0x80 ? GINGHAMOWL_FOUR_BYTES : GINGHAMOWL_TWO_BYTES)
 
 /* ---------------------------------------------------------------- structs */
 
@@ -312,7 +317,8 @@ ginghamowl_valuation ginghamowl_value(const uint8_t *file, size_t file_length,
 uint8_t ginghamowl_refusal(const uint8_t *file, size_t file_length);
 
 /* Where the zero rates stand in a case file, for display: n days of 120 bytes each, or of 240 where a
- * rate has four bytes. 0 and 0 for a file that is refused. */
+ * rate has four bytes, which GINGHAMOWL_RATE_BYTES says. n is the byte before them. 0 and 0 for a file
+ * that is refused. */
 ginghamowl_part ginghamowl_rates_part(const uint8_t *file, size_t file_length);
 
 /* A point of the window, over the factors that a valuation wrote and the figures that it gave:

@@ -21,11 +21,13 @@ static inline const char *ginghamowl_refusal_sentence(unsigned number)
         return "the number of days is out of limits; it must be 1 to 70, with 60 rates each";
     case GINGHAMOWL_REFUSED_RATE:
         return "a zero rate is out of limits; each must be -1,000 to 10,000 steps of 0.00001, or in "
-               "four bytes -100,000 to 1,000,000 steps of 0.0000001, which is -1 % to 10 %";
+               "four bytes, which a rolling window has not, -100,000 to 1,000,000 steps of "
+               "0.0000001, which is -1 % to 10 %";
     case GINGHAMOWL_REFUSED_GROWTH:
         return "a one-year forward rate is out of limits; t x s(t) - (t - 1) x s(t-1), with s(t) "
                "the sum of term t's rates over the n days, must be -2,000 x n to 12,000 x n steps "
-               "at each term, or 100 times that for rates in four bytes, which is -2 % to 12 %";
+               "of 0.00001 at each term, or in four bytes -200,000 x n to 1,200,000 x n steps of "
+               "0.0000001, which is -2 % to 12 %";
     case GINGHAMOWL_REFUSED_FLOW_COUNT:
         return "the number of flows is out of limits; there must be 1 to 120 pension flows, and 1 "
                "to 60 bond flows where their bit is set";

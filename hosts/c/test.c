@@ -380,7 +380,8 @@ static void test_refusals(void)
     }
 }
 
-/* The part of a file, and that of the same with a UFR; neither where a byte is missing. */
+/* The part of a file, which has n days of the bytes that the header says, and that of the same with a UFR; neither where a byte is
+ * missing. */
 static void rates_part_is(const uint8_t *bytes, size_t length, size_t offset, size_t part_length)
 {
     uint8_t file[2 * C1_FOUR_BYTES];
@@ -388,6 +389,7 @@ static void rates_part_is(const uint8_t *bytes, size_t length, size_t offset, si
 
     part = ginghamowl_rates_part(bytes, length);
     CHECK(part.offset == offset && part.length == part_length);
+    CHECK(part.length == bytes[part.offset - 1] * (size_t)GINGHAMOWL_DAY_RATES * GINGHAMOWL_RATE_BYTES(bytes));
     memcpy(file + 4, bytes + 2, length - 2);
     file[0] = bytes[0];
     file[1] = bytes[1] | 1;
@@ -395,6 +397,7 @@ static void rates_part_is(const uint8_t *bytes, size_t length, size_t offset, si
     file[3] = 0x68;
     part = ginghamowl_rates_part(file, length + 2);
     CHECK(part.offset == offset + 2 && part.length == part_length);
+    CHECK(GINGHAMOWL_RATE_BYTES(file) == GINGHAMOWL_RATE_BYTES(bytes));
     part = ginghamowl_rates_part(file, length + 1);
     CHECK(part.offset == 0 && part.length == 0);
 }

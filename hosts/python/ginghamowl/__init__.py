@@ -44,7 +44,7 @@ def value(data: bytes) -> Valuation:
 def rates_part(data: bytes) -> bytes:
     """The part of an accepted case file that holds the zero rates; raises Refused.
 
-    It has 120 bytes for each day, or 240 where a rate has four.
+    It has 120 bytes for each day, or 240 where a rate has four, which `Case.read(data).days_form` says.
     """
     file = _given.accepted(data)
     part = _c.engine().rates_part(file, len(file))

@@ -14,11 +14,11 @@ SENTENCES: dict[int, str] = {
     3: "the map has a wrong bit; bits 2, 5 and 6 and exactly one of bits 1 and 7 must be set, and bits 8 to "
         "15 must not; a case that is handed in must have rates of 2 or 4 bytes",
     4: "the number of days is out of limits; it must be 1 to 70, with 60 rates each",
-    5: "a zero rate is out of limits; each must be -1,000 to 10,000 steps of 0.00001, or in four bytes "
-        "-100,000 to 1,000,000 steps of 0.0000001, which is -1 % to 10 %",
+    5: "a zero rate is out of limits; each must be -1,000 to 10,000 steps of 0.00001, or in four bytes, "
+        "which a rolling window has not, -100,000 to 1,000,000 steps of 0.0000001, which is -1 % to 10 %",
     6: "a one-year forward rate is out of limits; t x s(t) - (t - 1) x s(t-1), with s(t) the sum of term t's "
-        "rates over the n days, must be -2,000 x n to 12,000 x n steps at each term, or 100 times that for "
-        "rates in four bytes, which is -2 % to 12 %",
+        "rates over the n days, must be -2,000 x n to 12,000 x n steps of 0.00001 at each term, or in four "
+        "bytes -200,000 x n to 1,200,000 x n steps of 0.0000001, which is -2 % to 12 %",
     7: "the number of flows is out of limits; there must be 1 to 120 pension flows, and 1 to 60 bond flows "
         "where their bit is set",
     8: "a flow is out of limits; each must be at most 100,000,000 euros",

@@ -170,8 +170,8 @@ pub fn refusal(file: &[u8]) -> Option<Refusal> {
     Refusal::numbered(unsafe { raw::ginghamowl_refusal(file.as_ptr(), file.len()) })
 }
 
-/// The part of the file that holds the zero rates, 120 bytes for each day, or 240 where a rate has four; empty where the
-/// file is refused.
+/// The part of the file that holds the zero rates, 120 bytes for each day, or 240 where a rate has four, which
+/// [`Case::read`] says (`days_form`); empty where the file is refused.
 pub fn rates_part(file: &[u8]) -> &[u8] {
     // SAFETY: the pointer and the length are those of a slice.
     let part = unsafe { raw::ginghamowl_rates_part(file.as_ptr(), file.len()) };

@@ -117,12 +117,37 @@ class Days(Sheets):
         self.bad(one, "days.csv, line 3, cell 7 of sheet.csv, is 0.359075, which is no whole number of hundredths of a step; the nearest are "
                       "0.35907 % and 0.35908 %", 'rate_bytes = 4\nunit = "%"')
 
+    def test_a_lone_mark_in_two_bytes(self):
+        """No rate is accepted because its other reading is out of limits."""
+        for unit, cells, cell, fault in (("steps", STEPS, "12.000", '"12.000", which could be read in two ways'),
+                                         ("steps", STEPS, "226,000", '"226,000", which could be read in two ways'),
+                                         ("steps", STEPS, "10.001", "10.001, which is no whole number of steps"),
+                                         ("bp", BP, "1.200", '"1.200", which could be read in two ways'),
+                                         ("bp", BP, "22,600", '"22,600", which could be read in two ways'),
+                                         ("bp", BP, "22.613", "22.613, which is no whole number of steps")):
+            one = [day[:] for day in cells]
+            one[1][3] = cell
+            self.bad(one, f"days.csv, line 2, cell 4 of sheet.csv, is {fault}", f'unit = "{unit}"')
+            self.bad(columns(one), f"days.csv, line 4, cell 2 of sheet.csv, is {fault}", f'unit = "{unit}"')
+
+    def test_too_fine_and_unclear(self):
+        """Three decimals in bp without the key: one fault for all that four bytes hold, and one for each that could be thousands."""
+        some = [[f"{20 + 0.001 * term:.3f}" for term in range(60)]]
+        some[0][7], some[0][9] = "22.600", "1.000"
+        self.put(some)
+        faults = self.faults(self.text('unit = "bp"'))
+        self.assertEqual([fault.split(" of sheet.csv, is ")[0] for fault in faults],
+                         [f"days.csv, line 1, cell {cell}" for cell in (2, 1, 8, 10)])
+        self.assertIn("; 56 other rates have such decimals too; for rates to 0.00001 % write rate_bytes = 4 in [days]", faults[0])
+        for fault in faults[1:]:
+            self.assertIn("could be read in two ways", fault)
+
     def test_thousands_of_bp(self):
-        """1.000 bp could be 10 %; any other rate with three decimals cannot be one of thousands."""
+        """1.000 bp could be 10 %; in four bytes any other rate with three decimals cannot be one of thousands."""
         one = [day[:] for day in FINE_BP]
         one[1][3] = "1.000"
         self.bad(one, 'line 2, cell 4 of sheet.csv, is "1.000", which could be read in two ways', 'rate_bytes = 4\nunit = "bp"')
-        for cell in ("1.0", "1,00", "0.999", "1.001"):
+        for cell in ("1.0", "1,00", "0.999", "1.001", "1.200", "12.000", "22,600"):
             one[1][3] = cell
             days = [day[:] for day in FINE_DAYS]
             days[1][3] = round(1_000 * float(cell.replace(",", ".")))

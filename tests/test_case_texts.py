@@ -106,6 +106,33 @@ class Texts(unittest.TestCase):
             self.assertTrue(fault.startswith(f"days.rates, term 1 of day 1, is {rate}, which is no whole number of steps"), fault)
             self.assertTrue(fault.endswith(advice), fault)
 
+    def with_first(self, rate, unit, text):
+        """The text with flat rates of 0.2 % but for the first, which is as given; without a unit each carries its own."""
+        rest = {None: "0.2 %", "bp": "20", "steps": "200"}[unit]
+        keys = f'unit = "{unit}"\n' if unit else ""
+        return re.sub(r'unit = "%"\nrates = \[.*?\n\]', f"{keys}rates = {[[rate] + [rest] * 59]}", text, flags=re.DOTALL)
+
+    def test_a_lone_mark_in_two_bytes(self):
+        """No rate is accepted because its other reading is out of limits."""
+        unclear, finer = "could be read in two ways", "no whole number of steps"
+        for number, unit, fault in (("12.000", "steps", unclear), ("226.000", "steps", unclear), ("1.200", "bp", unclear),
+                                    ("22.600", "bp", unclear), ("1.000", "bp", unclear), ("10.001", "steps", finer), ("22.613", "bp", finer)):
+            for rate, table in ((number, unit), (number.replace(".", ","), unit), (f"{number} {unit}", unit), (f"{number} {unit}", None)):
+                [found] = self.faults(self.with_first(rate, table, TEXT))
+                self.assertTrue(found.startswith("days.rates, term 1 of day 1, is "), found)
+                self.assertIn(fault, found)
+            [found] = self.faults(self.with_first(number, unit, TEXT).replace(f"'{number}'", number))  # as a bare number of the text
+            self.assertIn(fault, found)
+
+    def test_a_lone_mark_in_four_bytes(self):
+        """Three decimals in bp are usual, and only 1.000 could be a rate in thousands too."""
+        for number, value in (("22.613", 22_613), ("22.600", 22_600), ("12.000", 12_000), ("1.200", 1_200), ("1.001", 1_001)):
+            for rate, table in ((number, "bp"), (number.replace(".", ","), "bp"), (f"{number} bp", None)):
+                self.assertEqual(from_toml(self.with_first(rate, table, FOUR_TEXT)).days, [[value] + [20_000] * 59])
+        for rate, table in (("1.000", "bp"), ("1.000 bp", None)):
+            [found] = self.faults(self.with_first(rate, table, FOUR_TEXT))
+            self.assertIn(f'days.rates, term 1 of day 1, is "{rate}", which could be read in two ways', found)
+
     def test_only_rates_are_finer(self):
         """The UFR, the shifts and the spread keep whole steps, also in a text of four bytes."""
         for old, new in (('ufr = "4.321 %"', 'ufr = "4.32101 %"'), ('up_shift = "0.32 %"', 'up_shift = "0.32001 %"'),

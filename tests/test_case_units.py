@@ -22,7 +22,9 @@ class Read(unittest.TestCase):
                 ("ufr", 0, ["0 %", "-0 %", "0 bp", "0 steps", "0,000 %"]),
                 ("ufr", 1, ["0.001 %", "0.1 bp", "0.100 bp", "1 step", "1.0 steps"]),
                 ("rate", -350, ["-0.35 %", "-0,350%", "\u22120.35 %", "-35 bp", "-350 steps"]),
-                ("rate", 226, ["22.6 bp", "22.600 bp", "22,60 bp", "226.00 steps", "226.000 steps"]),
+                ("rate", 226, ["22.6 bp", "22,60 bp", "226.00 steps"]),
+                ("fine rate", 22_600, ["22.600 bp", "22,6000 bp"]),
+                ("fine rate", 12_000, ["12.000 bp", "12,000 bp"]),
                 ("fine rate", 22_613, ["0.22613 %", "0,22613%", " 0.226130 percent", "22.613 bp", "22,613bps", "22.6130 bp"]),
                 ("fine rate", -35_001, ["-0.35001 %", "\u221235.001 bp", "-35,001 basis points"]),
                 ("fine rate", 1, ["0.00001 %", "0.001 bp", "+0,001 bp"]),
@@ -73,12 +75,22 @@ class Read(unittest.TestCase):
 
     def test_two_ways(self):
         for name, texts in (("cash", ["1.000 euros", "1,000 euros", "€ 1.000", "31415.927 euros", "1.0000 euros"]),
-                            ("ufr", ["1.000 steps", "1,000 steps", "1.000 bp", "1,250 bp", "12.3456 bp"]),
+                            ("ufr", ["1.000 steps", "1,000 steps", "1.000 bp", "1,200 bp", "12.000 bp", "12.000 steps"]),
                             ("rate", ["1.000 bp", "1,000 bp", "-1.000 bp", "1.000 steps", "9.999 steps", "10,000 steps"]),
-                            ("fine rate", ["1.000 bp", "1,000 bp", "+1.000 bp"]),
+                            ("fine rate", ["1.000 bp", "1,000 bp", "+1.000 bp", "-1.000 bp"]),
                             ("correlation", ["1.000 thousandths", "1,000 thousandths"]), ("mean_age", ["1.000 months"])):
             for text in texts:
                 self.refused(name, text, "could be read in two ways; write the number without separators")
+
+    def test_limits_clear_no_mark_in_two_bytes(self):
+        """12,000 steps and 1,200 bp are out of limits, as a slip is: they are not taken for 12 steps and 1.2 bp."""
+        for text in ("12.000 steps", "12,000 steps", "-12.000 steps", "226.000 steps", "10.0000 steps", "1.200 bp", "1,200 bp", "-1.200 bp",
+                     "22.600 bp", "1000.000 bp", "12.3000 bp"):
+            self.refused("rate", text, f'is "{text}", which could be read in two ways')
+        for text in ("10.001 steps", "1.201 bp", "1,250 bp", "-35.001 bp"):
+            self.refused("rate", text, f"is {text}, which is no whole number of steps; the nearest are ")
+        self.refused("rate", "1000.001 bp", "is 1000.001 bp; it must be -100 bp to 1000 bp")
+        self.refused("rate", "10001.000 steps", "is 10001.000 steps; it must be -1000 steps to 10000 steps")
 
     def test_no_number_or_unit(self):
         for name, texts in (("ufr", ["abc", "%", "4..2 %", "4.2.1 %", "1.234,5 %", ".5 %", "5. %", "1e3 %", "nan %", "4 2 %",
@@ -104,6 +116,7 @@ class Read(unittest.TestCase):
         self.refused("duration", "5.25 years", "no whole number of tenths of a year; the nearest are 5.2 years and 5.3 years")
         self.refused("cash", "1,50 euros", "the nearest are 1 euro and 2 euros")
         self.refused("ufr", "0." + "0" * 30 + "1 %", "the nearest are 0 % and 0.001 %")
+        self.refused("ufr", "12.3456 bp", "the nearest are 12.3 bp and 12.4 bp")
         self.refused("rate", "22.613 bp", "is 22.613 bp, which is no whole number of steps; the nearest are 22.6 bp and 22.7 bp")
         self.refused("rate", "10.001 steps", "the nearest are 10 steps and 11 steps")
         self.refused("fine rate", "0.226135 %", "is 0.226135 %, which is no whole number of hundredths of a step; "
@@ -116,7 +129,7 @@ class Read(unittest.TestCase):
             with self.assertRaises(NotWhole) as caught:
                 whole(text, RATE_NUMBER)
             self.assertEqual(caught.exception.value, value)
-        for text in ("10.0001 %", "1.000 bp", "0.2255"):  # out of limits, unclear, or without a unit
+        for text in ("10.0001 %", "1.000 bp", "22.600 bp", "0.2255"):  # out of limits, unclear, or without a unit
             with self.assertRaises(Bad) as caught:
                 whole(text, RATE_NUMBER)
             self.assertNotIsInstance(caught.exception, NotWhole)

@@ -14,8 +14,8 @@ FIELDS = ["UFR", "days", "pension flows", "bond flows", "amounts", "shocks", "pe
 REQUIRED, FORBIDDEN = (2, 5, 6), range(8, 16)  # and exactly one of the two days fields
 
 UFR_NUMBER = Number("ufr", 0, 5_000, RATE, "4.2 %")
-RATE_NUMBER = Number("rate", -1_000, 10_000, RATE, "0.226 %", limits_tell=True)
-FINE_RATE_NUMBER = Number("rate", -100_000, 1_000_000, FINE_RATE, "0.22613 %", 4, limits_tell=True)
+RATE_NUMBER = Number("rate", -1_000, 10_000, RATE, "0.226 %")
+FINE_RATE_NUMBER = Number("rate", -100_000, 1_000_000, FINE_RATE, "0.22613 %", 4)
 FLOW_NUMBER = Number("flow", 0, 100_000_000, MONEY, "8651000", 4)
 AMOUNT_NUMBERS = [Number(name, 0, 100_000_000_000, MONEY, "1100000", 8) for name in
                   ("mature", "emerging", "private", "property", "commodities", "credit", "cash", "currency")]

@@ -30,6 +30,11 @@ class Unit:
     def name(self) -> str:
         return self.spellings[0]
 
+    @property
+    def has_thousandths(self) -> bool:
+        """Whether the file holds a thousandth of it, so that three decimals are usual."""
+        return self.size % 1_000 == 0
+
 
 @dataclass(frozen=True)
 class Kind:
@@ -71,7 +76,6 @@ class Number:
     kind: Kind
     example: str
     length: int = 2
-    limits_tell: bool = False  # whether a mark is a decimal mark where the number without it is out of limits
 
     @property
     def advice(self) -> str:
@@ -144,6 +148,7 @@ def printable(text: str) -> str:
 # ---------------------------------------------------------------- text to numbers
 
 ONE_MARK = re.compile(r"([0-9]+)[.,]([0-9]+)")
+MARK_OF_THOUSANDS = re.compile(r"(0*[1-9][0-9]*)[.,]([0-9]{3,})")
 GROUPS = re.compile(r"([1-9][0-9]{0,2})((?:\.[0-9]{3})+|(?:,[0-9]{3})+)(?:[.,]([0-9]{1,2}))?")
 WRITTEN = re.compile(r"([+\-\u2212]?)([0-9][0-9.,]*)\s*([^0-9.,+\-\u2212]*)")
 BARE = re.compile(r"[+\-\u2212]?[0-9][0-9.,]*")
@@ -151,15 +156,13 @@ EURO_IN_FRONT = re.compile(r"(?:€|eur)\s*(?=[0-9+\-\u2212])", re.IGNORECASE)
 YEARS_AND_MONTHS = re.compile(r"([0-9]+)\s*years?(?:\s*,|\s+and\b)?\s*([0-9]+)\s*months?", re.IGNORECASE)
 
 
-def magnitude(digits: str, marks_are_decimal: bool) -> Fraction | None:
-    """The number that digits and marks say; None where they say none, Bad where they could say two."""
+def magnitude(digits: str) -> Fraction | None:
+    """The number that digits and marks say, with a lone mark as a decimal mark; None where they say none."""
     if digits.isdigit():
         return Fraction(int(digits))
     one = ONE_MARK.fullmatch(digits)
-    if one and (marks_are_decimal or len(one[2]) < 3 or not one[1].strip("0")):
-        return Fraction(int(one[1] + one[2]), 10 ** len(one[2]))
     if one:
-        raise Bad("could be read in two ways; write the number without separators between thousands")
+        return Fraction(int(one[1] + one[2]), 10 ** len(one[2]))
     groups = GROUPS.fullmatch(digits)
     if not groups or groups[3] and digits[-len(groups[3]) - 1] == groups[2][0]:
         return None
@@ -171,10 +174,25 @@ def is_bare(text: str) -> bool:
     return bool(BARE.fullmatch(text.strip()))
 
 
-def is_decimal(digits: str, unit: Unit, number: Number) -> bool:
-    """Whether a lone mark in the digits can only be a decimal mark. Of a rate, 1.000 bp could be 1,000 bp, and 22.613 bp not."""
-    without = int(re.sub("[.,]", "", digits))
-    return unit.marks_are_decimal or number.limits_tell and unit.size * without > number.most
+def in_thousands(digits: str) -> int | None:
+    """The number that digits say with a lone mark between thousands; None where none could stand so."""
+    found = MARK_OF_THOUSANDS.fullmatch(digits)
+    return int(found[1] + found[2]) if found else None
+
+
+def is_unclear(digits: str, unit: Unit, number: Number) -> bool:
+    """Whether a lone mark could be a decimal mark or stand between thousands.
+
+    Where the file holds neither number, the text is wrong either way and is told as a decimal. Where it holds the decimal alone, as
+    of 12.000 steps, the thousands are out of limits. But so is many a slip: this makes the mark clear only where three decimals of
+    the unit are usual.
+    """
+    thousands = in_thousands(digits)
+    if thousands is None or unit.marks_are_decimal:
+        return False
+    decimal, thousands = unit.size * magnitude(digits), unit.size * thousands
+    holds_decimal = decimal.denominator == 1 and decimal <= number.most
+    return thousands <= number.most or holds_decimal and not unit.has_thousandths
 
 
 def measure(text: str, number: Number, default: Unit | None) -> tuple[Fraction, Unit]:
@@ -194,10 +212,9 @@ def measure(text: str, number: Number, default: Unit | None) -> tuple[Fraction, 
         raise Bad(f"is {fault}; {number.advice}")
     if written[3] and default and unit != default:
         raise Bad(f'is "{printable(text)}", but the unit of its table is {default.name}')
-    try:
-        size = magnitude(written[2], is_decimal(written[2], unit, number))
-    except Bad as bad:
-        raise Bad(f'is "{printable(text)}", which {bad}') from None
+    if is_unclear(written[2], unit, number):
+        raise Bad(f'is "{printable(text)}", which could be read in two ways; write the number without separators between thousands')
+    size = magnitude(written[2])
     if size is None:
         raise Bad(f'is "{printable(text)}", which is no number; {number.advice}')
     return unit.size * (size if written[1] in ("", "+") else -size), unit

@@ -146,7 +146,8 @@ class Days(Sheets):
         """1.000 bp could be 10 %; in four bytes any other rate with three decimals cannot be one of thousands."""
         one = [day[:] for day in FINE_BP]
         one[1][3] = "1.000"
-        self.bad(one, 'line 2, cell 4 of sheet.csv, is "1.000", which could be read in two ways', 'rate_bytes = 4\nunit = "bp"')
+        self.bad(one, 'line 2, cell 4 of sheet.csv, is "1.000", which could be read in two ways; write 1 or 1000',
+                 'rate_bytes = 4\nunit = "bp"')
         for cell in ("1.0", "1,00", "0.999", "1.001", "1.200", "12.000", "22,600"):
             one[1][3] = cell
             days = [day[:] for day in FINE_DAYS]
@@ -517,7 +518,8 @@ class Flows(Sheets):
 
     def test_values(self):
         for lines, words in (
-                ([["1", "1.000"], ["2", "2.000"]], 'line 1, cell 2 of sheet.csv, is "1.000", which could be read in two ways'),
+                ([["1", "1.000"], ["2", "2.000"]],
+                 'line 1, cell 2 of sheet.csv, is "1.000", which could be read in two ways; write 1 or 1000'),
                 ([["1", "31415927"], ["2", "8,65E+06"]], 'is "8,65E+06"'),
                 ([["1", "31415927"], ["2", "0,50"]], "no whole number of euros; the nearest are 0 euros and 1 euro"),
                 ([["1", "31415927"], ["2", "100000001"]], "it must be 0 euros to 100000000 euros"),

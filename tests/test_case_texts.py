@@ -129,9 +129,11 @@ class Texts(unittest.TestCase):
         for number, value in (("22.613", 22_613), ("22.600", 22_600), ("12.000", 12_000), ("1.200", 1_200), ("1.001", 1_001)):
             for rate, table in ((number, "bp"), (number.replace(".", ","), "bp"), (f"{number} bp", None)):
                 self.assertEqual(from_toml(self.with_first(rate, table, FOUR_TEXT)).days, [[value] + [20_000] * 59])
-        for rate, table in (("1.000", "bp"), ("1.000 bp", None)):
-            [found] = self.faults(self.with_first(rate, table, FOUR_TEXT))
-            self.assertIn(f'days.rates, term 1 of day 1, is "{rate}", which could be read in two ways', found)
+        for rate, table, forms in (("1.000", "bp", "1 or 1000"), ("1.000 bp", "bp", "1 bp or 1000 bp"),
+                                   ("1.000 bp", None, "1 bp or 1000 bp")):
+            self.assertEqual(self.faults(self.with_first(rate, table, FOUR_TEXT)),
+                             [f'days.rates, term 1 of day 1, is "{rate}", which could be read in two ways; write {forms}'])
+        self.assertEqual(from_toml(self.with_first("1", "bp", FOUR_TEXT)).days[0][0], 1_000)
 
     def test_only_rates_are_finer(self):
         """The UFR, the shifts and the spread keep whole steps, also in a text of four bytes."""
@@ -179,7 +181,8 @@ class Texts(unittest.TestCase):
                 ("cash = 111213", "cash = -1", "amounts.cash is -1; it must be 0 euros"),
                 ("cash = 111213", "cash = 111.213", "amounts.cash is 111.213; write whole euros"),
                 ("cash = 111213", 'cash = "111213"', "amounts.cash is 111213 without a unit; write whole euros"),
-                ("cash = 111213", 'cash = "111.213 euros"', "amounts.cash is \"111.213 euros\", which could be read in two ways"),
+                ("cash = 111213", 'cash = "111.213 euros"', "amounts.cash is \"111.213 euros\", which could be read in two ways; "
+                                                           "write 111213 euros or another whole number of euros"),
                 ("cash = 111213", "cash = 0x" + "f" * 9_000, "amounts.cash is 0xfff"),
                 ("31415927", "100000001", "flows.pension, term 1, is 100,000,001; it must be 0 euros to 100,000,000 euros"),
                 ("31415927", "31415.927", "flows.pension, term 1, is 31415.927; write whole euros"),

@@ -74,13 +74,33 @@ class Read(unittest.TestCase):
         self.assertIsNone(FINE_RATE.unit("steps"))
 
     def test_two_ways(self):
-        for name, texts in (("cash", ["1.000 euros", "1,000 euros", "€ 1.000", "31415.927 euros", "1.0000 euros"]),
-                            ("ufr", ["1.000 steps", "1,000 steps", "1.000 bp", "1,200 bp", "12.000 bp", "12.000 steps"]),
-                            ("rate", ["1.000 bp", "1,000 bp", "-1.000 bp", "1.000 steps", "9.999 steps", "10,000 steps"]),
-                            ("fine rate", ["1.000 bp", "1,000 bp", "+1.000 bp", "-1.000 bp"]),
-                            ("correlation", ["1.000 thousandths", "1,000 thousandths"]), ("mean_age", ["1.000 months"])):
-            for text in texts:
-                self.refused(name, text, "could be read in two ways; write the number without separators")
+        """The error says what to write: each reading that is a whole number of the file's own unit."""
+        for name, texts in (
+                ("cash", {"1.000 euros": "1 euro or 1000 euros", "€ 1,000": "1 euro or 1000 euros", "1.0000 EUR": "1 euro or 10000 euros",
+                          "31415.927 euros": "31415927 euros or another whole number of euros"}),
+                ("ufr", {"1.000 steps": "1 step or 1000 steps", "2,000 steps": "2 steps or 2000 steps", "1.000 bp": "1 bp or 1000 bp",
+                         "1,200 bp": "1.2 bp or 1200 bp", "12.000 basis points": "12 bp or 12000 bp",
+                         "12.000 steps": "12 steps or 12000 steps", "01.000 bp": "1 bp or 1000 bp"}),
+                ("rate", {"1,000 bp": "1 bp or 1000 bp", "-1.000 bp": "-1 bp or -1000 bp", "1.000 steps": "1 step or 1000 steps",
+                          "9.999 steps": "9999 steps or another whole number of steps", "10,000 steps": "10 steps or 10000 steps",
+                          "1.250 steps": "1250 steps or another whole number of steps", "22.600 bp": "22.6 bp or 22600 bp"}),
+                ("fine rate", {"1.000 bp": "1 bp or 1000 bp", "+1,000 bp": "1 bp or 1000 bp", "\u22121.000 bp": "-1 bp or -1000 bp"}),
+                ("correlation", {"1,000 thousandths": "1 thousandth or 1000 thousandths"}),
+                ("mean_age", {"1.000 months": "1 month or 1000 months"})):
+            for text, forms in texts.items():
+                self.refused(name, text, f'is "{text}", which could be read in two ways; write {forms}')
+
+    def test_two_ways_without_a_unit(self):
+        """Where the unit comes from elsewhere, what is to be written has none either; it is read as what it says."""
+        percent, basis_points, steps = RATE.units
+        for text, unit, decimal, thousands in (("1.000", basis_points, "1", "1000"), ("-22,600", basis_points, "-22.6", "-22600"),
+                                               ("12.000", steps, "12", "12000")):
+            with self.assertRaises(Bad) as caught:
+                whole(text, RATE_NUMBER, unit)
+            self.assertEqual(str(caught.exception), f'is "{text}", which could be read in two ways; write {decimal} or {thousands}')
+            self.assertEqual(whole(decimal, RATE_NUMBER, unit), unit.size * Fraction(decimal))
+        with self.assertRaisesRegex(Bad, 'is "1.000", which could be read in two ways; write 1 or 1000$'):
+            whole("1.000", FINE_RATE_NUMBER, FINE_RATE.units[1])
 
     def test_limits_clear_no_mark_in_two_bytes(self):
         """12,000 steps and 1,200 bp are out of limits, as a slip is: they are not taken for 12 steps and 1.2 bp."""

@@ -180,19 +180,27 @@ def in_thousands(digits: str) -> int | None:
     return int(found[1] + found[2]) if found else None
 
 
-def is_unclear(digits: str, unit: Unit, number: Number) -> bool:
-    """Whether a lone mark could be a decimal mark or stand between thousands.
+def is_unclear(decimal: Fraction, thousands: int, unit: Unit, number: Number) -> bool:
+    """Whether a lone mark leaves these two readings, which are in the file's own unit and without their sign.
 
     Where the file holds neither number, the text is wrong either way and is told as a decimal. Where it holds the decimal alone, as
     of 12.000 steps, the thousands are out of limits. But so is many a slip: this makes the mark clear only where three decimals of
     the unit are usual.
     """
-    thousands = in_thousands(digits)
-    if thousands is None or unit.marks_are_decimal:
+    if unit.marks_are_decimal:
         return False
-    decimal, thousands = unit.size * magnitude(digits), unit.size * thousands
     holds_decimal = decimal.denominator == 1 and decimal <= number.most
     return thousands <= number.most or holds_decimal and not unit.has_thousandths
+
+
+def clear_forms(decimal: Fraction, thousands: int, unit: Unit, bare: bool) -> str:
+    """What to write instead of what could be read as either; both are in the file's own unit, and the decimal may be no whole number."""
+    def form(value: int) -> str:
+        return decimal_text(value, unit.size) if bare else in_unit(value, unit)
+
+    if decimal.denominator == 1:
+        return f"{form(int(decimal))} or {form(thousands)}"
+    return f"{form(thousands)} or another whole number of {unit.name}"
 
 
 def measure(text: str, number: Number, default: Unit | None) -> tuple[Fraction, Unit]:
@@ -212,12 +220,14 @@ def measure(text: str, number: Number, default: Unit | None) -> tuple[Fraction, 
         raise Bad(f"is {fault}; {number.advice}")
     if written[3] and default and unit != default:
         raise Bad(f'is "{printable(text)}", but the unit of its table is {default.name}')
-    if is_unclear(written[2], unit, number):
-        raise Bad(f'is "{printable(text)}", which could be read in two ways; write the number without separators between thousands')
-    size = magnitude(written[2])
+    size, thousands = magnitude(written[2]), in_thousands(written[2])
     if size is None:
         raise Bad(f'is "{printable(text)}", which is no number; {number.advice}')
-    return unit.size * (size if written[1] in ("", "+") else -size), unit
+    signed = unit.size if written[1] in ("", "+") else -unit.size
+    if thousands is not None and is_unclear(unit.size * size, unit.size * thousands, unit, number):
+        forms = clear_forms(signed * size, signed * thousands, unit, is_bare(text))
+        raise Bad(f'is "{printable(text)}", which could be read in two ways; write {forms}')
+    return signed * size, unit
 
 
 def whole(text: str, number: Number, default: Unit | None = None) -> int:

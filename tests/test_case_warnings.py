@@ -13,6 +13,9 @@ from casetext.plausible import TABLE
 
 FUND = read((ROOT / "cases" / "fund.case").read_bytes())
 UP = read((ROOT / "cases" / "up.case").read_bytes())
+SEVEN = read((ROOT / "cases" / "seven.case").read_bytes())
+LONGEST = read((ROOT / "cases" / "longest.case").read_bytes())
+CUT = "the number of rates in days with a seventh decimal (0.00001 %) is 0, below 1; did a spreadsheet cut off the decimals?"
 FALLS = {f"{name}_fall": name for name in ("mature", "emerging", "private", "property", "currency", "commodities")}
 
 
@@ -93,24 +96,30 @@ class Warnings(unittest.TestCase):
         """The thresholds are those of two bytes, and equality does not warn; a mean just beyond one is not shown as it."""
         above = "the lowest mean rate of a term in days is "
         near_0 = "the mean rate of a term in days that is farthest from 0 is "
-        finer = "the number of rates in days with a sixth or seventh decimal is 0, below 1; did a spreadsheet cut off the decimals?"
-        self.warned(self.in_four_bytes(800_000), finer)
+        self.warned(self.in_four_bytes(800_000), CUT)
         self.warned(self.in_four_bytes(*[800_000] * 69, 800_001), above + "about 8.00000014 %, above 8 %")
         self.warned(self.in_four_bytes(799_999))
         self.warned(self.in_four_bytes(29_999), near_0 + "0.29999 %, below 0.3 %; were fractions typed")
         self.warned(self.in_four_bytes(-29_999), near_0 + "0.29999 %")
         self.warned(self.in_four_bytes(-30_001))
-        self.warned(self.in_four_bytes(300_00), finer)
+        self.warned(self.in_four_bytes(30_000), CUT)
         self.warned(self.in_four_bytes(22_613 // 100), near_0 + "0.00226 %, below 0.3 %; were fractions typed as percentages")
 
     def test_cut_decimals(self):
-        """One rate that is no whole step is enough; rates of two bytes are never judged."""
-        finer = "the number of rates in days with a sixth or seventh decimal is 0, below 1"
-        whole = replace(FUND, rate_bytes=4, days=[[100 * rate for rate in day] for day in FUND.days])
-        self.warned(whole, finer)
-        one = replace(whole, days=[whole.days[0][:-1] + [whole.days[0][-1] + 1], *whole.days[1:]])
-        self.warned(one)
+        """One rate with a seventh decimal is enough, and sixth decimals alone are not; rates of two bytes are never judged."""
+        for sixth in (0, 10, -90):
+            days = [[100 * rate + sixth for rate in day] for day in FUND.days]
+            self.warned(replace(FUND, rate_bytes=4, days=days), CUT)
+            for more in (1, -1, 9, 11):
+                one = [days[0][:-1] + [days[0][-1] + more], *days[1:]]
+                self.warned(replace(FUND, rate_bytes=4, days=one))
         self.warned(FUND)
+
+    def test_cut_example(self):
+        """The decimals of seven.case decide its verdict, so that a loss of the last one must be told."""
+        self.warned(SEVEN)
+        self.warned(replace(SEVEN, days=[[rate - rate % 10 for rate in day] for day in SEVEN.days]), CUT)
+        self.assertNotIn(CUT, warnings_of(LONGEST))
 
     def test_worth_in_four_bytes(self):
         """The coverage is that of the same rates in two bytes."""

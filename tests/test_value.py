@@ -448,7 +448,7 @@ class Texts(Checkout):
         row = json.loads(run.stdout)["valuations"][0]
         four = in_four_bytes((self.folder / "fund.case").read_bytes())
         self.assertEqual(row["case_sha256"], hashlib.sha256(four).hexdigest())
-        self.assertEqual(row["warnings"], ["the number of rates in days with a sixth or seventh decimal is 0, below 1; "
+        self.assertEqual(row["warnings"], ["the number of rates in days with a seventh decimal (0.00001 %) is 0, below 1; "
                                            "did a spreadsheet cut off the decimals?"])
         self.assertEqual((run.returncode, self.value(self.text).stdout), (0, self.listing))
 

@@ -38,9 +38,9 @@ def mean_rates(case: Case) -> list[Fraction]:
     return [Fraction(sum(rates), case.days_field.per_step * len(case.days)) for rates in zip(*case.days)]
 
 
-def finer_rates(case: Case) -> int | None:
-    """How many rates of four bytes are no whole steps."""
-    return None if case.rate_bytes == 2 else sum(rate % case.days_field.per_step != 0 for day in case.days for rate in day)
+def finest_rates(case: Case) -> int | None:
+    """How many rates of four bytes have a seventh decimal, the last one that a file holds."""
+    return None if case.rate_bytes == 2 else sum(rate % 10 != 0 for day in case.days for rate in day)
 
 
 def bonds(case: Case) -> int:
@@ -149,7 +149,7 @@ TABLE = [
               "were the rates typed in another unit?", most=8_000),
     Threshold("the mean rate of a term in days that is farthest from 0", lambda case: max(map(abs, mean_rates(case))),
               mean_percent, "were fractions typed as percentages, or basis points as steps?", least=300),
-    Threshold("the number of rates in days with a sixth or seventh decimal", finer_rates, str,
+    Threshold("the number of rates in days with a seventh decimal (0.00001 %)", finest_rates, str,
               "did a spreadsheet cut off the decimals?", least=1),
     below("up_shift", 100, SHIFT_SLIP),
     below("down_shift", 100, SHIFT_SLIP),

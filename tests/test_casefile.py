@@ -101,6 +101,7 @@ class Files(unittest.TestCase):
             self.assertEqual(from_toml(to_toml(held)), held)
             self.assertEqual(write(from_toml(to_toml(held))), data)
             self.assertNotIn("rate_bytes", to_toml(held))
+            self.assertIn("\n# rates to 0.001 %, in the days field of bit 1\n", to_toml(held))
 
     def test_accepted_files_of_four_bytes(self):
         """All of a file but the days as in two bytes; every hundredth of a step of the days there and back."""
@@ -229,7 +230,9 @@ class Explained(unittest.TestCase):
 
     def test_words(self):
         text = explain(UP)[0]
-        for words in ("heads: 1,237", "ufr: 4,321 steps, 4.321 %", "mature_fall: 251 thousandths, 25.1 %",
+        for words in ("map 0x007f: UFR, days, pension flows, bond flows, amounts, shocks, people\n", "       1  days: 3\n",
+                      "     120  day 1, in steps: 206 225 ", "heads: 1,237", "ufr: 4,321 steps, 4.321 %",
+                      "mature_fall: 251 thousandths, 25.1 %",
                       "duration: 73 tenths of a year, 7.3 years", "mean_age: 541 months, 45 years 1 month"):
             self.assertIn(words, text)
         self.assertIn("UFR absent: 4.2 %", explain(C1)[0])
@@ -288,6 +291,7 @@ class CommandLine(unittest.TestCase):
     def test_there_and_back(self):
         status, text, said = self.run_tool("decode", "-", given=FUND)
         self.assertEqual((status, text.decode(), said), (0, to_toml(read(FUND)), ""))
+        self.assertEqual(text.count(b"\n# rates to 0.001 %, in the days field of bit 1\n"), 1)
         self.assertEqual(self.run_tool("encode", "-", given=b"\xef\xbb\xbf" + text), (0, FUND, ""))
         self.assertEqual(self.run_tool("encode", "-", given=text.decode().encode("utf-16")), (0, FUND, ""))
 

@@ -11,7 +11,7 @@ def to_toml(case: Case) -> str:
     if case.ufr is not None:
         lines += [f'ufr = "{shown(case.ufr, RATE)}"', ""]
     percent = case.days_field.rate.kind.units[0]
-    lines += [f"[days]  # zero rates of the terms 1 to {TERMS}, a list for each day", *form_lines(case), f'unit = "{percent.name}"',
+    lines += [f"[days]  # zero rates of the terms 1 to {TERMS}, a list for each day", form_line(case), f'unit = "{percent.name}"',
               "rates = ["]
     for place, day in enumerate(case.days, 1):
         lines += [f"  [  # day {place}", *rows([decimal_text(rate, percent.size) for rate in day], "    "), "  ],"]
@@ -27,9 +27,11 @@ def to_toml(case: Case) -> str:
     return "\n".join(lines) + "\n"
 
 
-def form_lines(case: Case) -> list[str]:
-    """What says that the rates have four bytes; two need no line."""
-    return [] if case.rate_bytes == 2 else [f"rate_bytes = {case.rate_bytes}  # rates to 0.00001 %, in the days field of bit 7"]
+def form_line(case: Case) -> str:
+    """Which days field the file has: four bytes are asked for by the key, two need none."""
+    field = case.days_field
+    said = f"# rates to {shown(1, field.rate.kind)}, in the days field of bit {field.bit}"
+    return said if case.rate_bytes == 2 else f"rate_bytes = {case.rate_bytes}  {said}"
 
 
 def value_text(value: int, number: Number) -> str:

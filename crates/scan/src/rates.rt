@@ -9,7 +9,7 @@ ghost use Prim.Native.Nat.{_*_, _^_, _<_, _≤_};
 ghost use lib.ListN.{length};
 ghost use Rattle.model.specs.Case.{knownForm, unitsPerStep};
 ghost use Rattle.model.specs.Numbers.{number, every};
-ghost use Rattle.scan.specs.inner.Sums.{raisedTwo, raisedFour, mostRaised, rateRight, DayAdded, Summed, EachAtMost, nextRight, forwardRight};
+ghost use Rattle.scan.specs.inner.Sums.{raisedTwo, raisedFour, mostRaised, RateRead, rateRight, DayAdded, Summed, EachAtMost, nextRight, forwardRight};
 
 // Whether each rate is within its limits, and if so P(t) of the terms 1 to 60: over the days, the sum of 100,000 steps and the rate.
 pub struct Sums {
@@ -46,6 +46,18 @@ fn long_rate_at(bytes: &[u8], at: usize) -> u64
     (v + 100 * Case::STEPS_PER_ONE) % 4_294_967_296
 }
 
+// A rate of either kind.
+fn any_rate_at(bytes: &[u8], at: usize, rate_bytes: u64) -> u64
+    requires { ⌜ (at ≤ 100000) × (knownForm «rate_bytes» ≡ true) ⌝ }
+    ensures { λ r. ⌜ RateRead «rate_bytes» (now (bytes .entry)) at r ⌝ }
+{
+    if rate_bytes == 4 {
+        long_rate_at(bytes, at)
+    } else {
+        rate_at(bytes, at)
+    }
+}
+
 // A rate of -1,000 to 10,000 steps, by 100,000 steps and the rate.
 pub fn rate_right(rate: u64, units: u64) -> bool
     requires { ⌜ units ≤ 100 ⌝ }
@@ -55,64 +67,50 @@ pub fn rate_right(rate: u64, units: u64) -> bool
 }
 
 // Adds the rates of the day at a position to the sums, which are of up to 254 days: whether all these rates are within their limits.
-// 33,722,818 is 254 × 132,767.
-fn add_rates(bytes: &[u8], at: usize, sums: &mut [u64; 60]) -> bool
-    requires { ⌜ (at ≤ 94000) × (length (now sums) ≡ 60) × EachAtMost 33722818 (now sums) ⌝ }
-    ensures { λ r. ⌜ DayAdded 2 (now (bytes .entry)) at (now (sums .entry)) (now (sums .exit)) r ⌝ }
+fn add_rates(bytes: &[u8], at: usize, rate_bytes: u64, sums: &mut [u64; 60]) -> bool
+    requires { ⌜ (at ≤ 94000) × (length (now sums) ≡ 60) × EachAtMost (254 * mostRaised «rate_bytes») (now sums) ⌝ }
+    requires form { ⌜ knownForm «rate_bytes» ≡ true ⌝ }
+    ensures { λ r. ⌜ DayAdded «rate_bytes» (now (bytes .entry)) at (now (sums .entry)) (now (sums .exit)) r ⌝ }
 {
+    let units = units_per_step(rate_bytes);
+    let width = rate_bytes as usize;
     let mut within = true;
     let mut t: usize = 0;
     while t < 60 {
-        let rate = rate_at(bytes, at + 2 * t);
+        let rate = any_rate_at(bytes, at + width * t, rate_bytes);
         sums[t] += rate;
-        let right = rate_right(rate, 1);
+        let right = rate_right(rate, units);
         within = both(within, right);
         t += 1;
     }
     within
 }
 
-// The same of rates of 4 bytes. 1,090,921,692,930 is 254 × 4,294,967,295.
-fn add_long_rates(bytes: &[u8], at: usize, sums: &mut [u64; 60]) -> bool
-    requires { ⌜ (at ≤ 94000) × (length (now sums) ≡ 60) × EachAtMost 1090921692930 (now sums) ⌝ }
-    ensures { λ r. ⌜ DayAdded 4 (now (bytes .entry)) at (now (sums .entry)) (now (sums .exit)) r ⌝ }
+// The rates of a day that may end past the end of the file. A day that does not is handed on as a part of its own: its length is then
+// known where the program is compiled, and no byte of it is tested against the file's length.
+fn add_day(file: &[u8], start: usize, rate_bytes: u64, sums: &mut [u64; 60]) -> bool
+    requires { ⌜ (start ≤ 94000) × (length (now sums) ≡ 60) × EachAtMost (254 * mostRaised «rate_bytes») (now sums) ⌝ }
+    requires form { ⌜ knownForm «rate_bytes» ≡ true ⌝ }
+    ensures { λ r. ⌜ DayAdded «rate_bytes» (now (file .entry)) start (now (sums .entry)) (now (sums .exit)) r ⌝ }
 {
-    let mut within = true;
-    let mut t: usize = 0;
-    while t < 60 {
-        let rate = long_rate_at(bytes, at + 4 * t);
-        sums[t] += rate;
-        let right = rate_right(rate, 100);
-        within = both(within, right);
-        t += 1;
-    }
-    within
-}
-
-// The rates of a day of 120 bytes that may end past the end of the file. A day that does not is handed on as a part of its own: its length
-// is then known where the program is compiled, and no byte of it is tested against the file's length.
-fn add_day(file: &[u8], start: usize, sums: &mut [u64; 60]) -> bool
-    requires { ⌜ (start ≤ 94000) × (length (now sums) ≡ 60) × EachAtMost 33722818 (now sums) ⌝ }
-    ensures { λ r. ⌜ DayAdded 2 (now (file .entry)) start (now (sums .entry)) (now (sums .exit)) r ⌝ }
-{
-    let end = start + 120;
+    let end = start + 60 * rate_bytes as usize;
     if end <= file.len() {
-        add_rates(&file[start..end], 0, sums)
+        add_rates(&file[start..end], 0, rate_bytes, sums)
     } else {
-        add_rates(file, start, sums)
+        add_rates(file, start, rate_bytes, sums)
     }
 }
 
-// The same of a day of either kind.
+// The same, with the bytes of a rate as a constant, so that they too are known where the program is compiled.
 fn add_any_day(file: &[u8], start: usize, rate_bytes: u64, sums: &mut [u64; 60]) -> bool
     requires { ⌜ (start ≤ 94000) × (length (now sums) ≡ 60) × EachAtMost (254 * mostRaised «rate_bytes») (now sums) ⌝ }
     requires form { ⌜ knownForm «rate_bytes» ≡ true ⌝ }
     ensures { λ r. ⌜ DayAdded «rate_bytes» (now (file .entry)) start (now (sums .entry)) (now (sums .exit)) r ⌝ }
 {
     if rate_bytes == 4 {
-        add_long_rates(file, start, sums)
+        add_day(file, start, 4, sums)
     } else {
-        add_day(file, start, sums)
+        add_day(file, start, 2, sums)
     }
 }
 

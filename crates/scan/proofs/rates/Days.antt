@@ -4,7 +4,7 @@ use Prim.Native.Nat.{ℕ, zero, suc, _+_, _*_, _≤_, _<_}
 use mathlib.Core.Path.{_≡_, refl, ap, ap₂, sym, _∙_}
 use mathlib.Core.Bool.{Bool, true, false, _&&_, cond}
 use mathlib.Core.List.{List, [], _∷_, _++_}
-use native.Mathlib.Nat.{add-assoc, zero-add, mul-le-mul}
+use native.Mathlib.Nat.{add-assoc, zero-add, mul-le-mul, mul-le-mul-left}
 use native.Mathlib.Numerals.{add-one}
 use native.Mathlib.Omega.{arith}
 use borrow.Author.Tests.{eq-eqb}
@@ -19,9 +19,9 @@ use Rattle.model.specs.Numbers.{number, every, table, twosComplement}
 use Rattle.theory.proofs.acceptance.Runs.{right-at, right-last, values-last, values-length, values-table}
 use Rattle.theory.proofs.general.Differences.{Diff, again, diff-sum}
 use Rattle.theory.proofs.general.Lists.{and-first, and-second, every-same, length-table, getD-table, table-same}
-use Rattle.scan.specs.inner.Sums.{raisedTwo, mostRaised, rateOn, rateRightOn, total, DayAdded, daysFrom, EachAtMost, Summed}
+use Rattle.scan.specs.inner.Sums.{raisedRate, mostRaised, rateOn, rateRightOn, total, DayAdded, daysFrom, EachAtMost, Summed}
 use Rattle.scan.specs.declared.rates.Sums.{Sums}
-use Rattle.scan.proofs.rates.Integers.{raised-right}
+use Rattle.scan.proofs.rates.Integers.{raised-right, raised-few}
 
 -- one day more at the end
 s-more : (days : List (List ℤ)) (day : List ℤ) (t : ℕ) → s (days ++ (day ∷ [])) (suc t) ≡ s days (suc t) +ℤ getD day t (pos 0)
@@ -86,16 +86,17 @@ number-part file start n at (suc w) l =
     (getD-take n (drop start file) (at + w) 0 (omega arith) ∙ getD-drop start file (at + w) 0
     ∙ ap (λ i. getD file i 0) (sym (add-assoc start at w)))
 
-pub day-part : (file : List ℕ) (start n : ℕ) {before after : List ℕ} {right : Bool} → 120 ≤ n
-    → DayAdded 2 (take n (drop start file)) 0 before after right → DayAdded 2 file start before after right
-day-part file start n {before} long h =
-    let same : (t : ℕ) → t < 60 → number (take n (drop start file)) (0 + 2 * t) 2 ≡ number file (start + 2 * t) 2 =
+pub day-part : (w : ℕ) (file : List ℕ) (start n : ℕ) {before after : List ℕ} {right : Bool} → 60 * w ≤ n
+    → DayAdded w (take n (drop start file)) 0 before after right → DayAdded w file start before after right
+day-part w file start n {before} long h =
+    let same : (t : ℕ) → t < 60 → number (take n (drop start file)) (0 + w * t) w ≡ number file (start + w * t) w =
     λ t l.
-    ap (λ at. number (take n (drop start file)) at 2) (zero-add (2 * t)) ∙ number-part file start n (2 * t) 2 (omega arith)
+    ap (λ at. number (take n (drop start file)) at w) (zero-add (w * t))
+    ∙ number-part file start n (w * t) w (omega (arith, mul-le-mul-left w l))
     in
     record {
-      within = h .within ∙ every-same _ _ 60 (λ t l. ap (λ v. dailyRate 2 .right (twosComplement 2 v)) (same t l));
-      sums = h .sums ∙ table-same _ _ 60 (λ t l. ap (λ v. getD before t 0 + raisedTwo v) (same t l));
+      within = h .within ∙ every-same _ _ 60 (λ t l. ap (λ v. dailyRate w .right (twosComplement w v)) (same t l));
+      sums = h .sums ∙ table-same _ _ 60 (λ t l. ap (λ v. getD before t 0 + raisedRate w v) (same t l));
       most = h .most;
     }
 
@@ -144,12 +145,8 @@ set-most (x ∷ xs) (suc i) v (suc t) most h k = set-most xs i v t most h k
 -- the sums of up to 255 days
 pub sums-most : {w : ℕ} {file : List ℕ} {at : ℕ} {r : Sums} (n : ℕ) → n ≤ 255 → Summed w file at n r → EachAtMost 1095216660225 (r .sums)
 sums-most {w} n l h =
-    let most = mul-le-mul {n₁ = mostRaised w} {m₁ = n} {n₂ = 4294967295} {m₂ = 255} (raised-most (eqb w 4)) l in
+    let most = mul-le-mul {n₁ = mostRaised w} {m₁ = n} {n₂ = 4294967295} {m₂ = 255} (raised-few w) l in
     record { each = λ t b. omega (arith, h .most .each t b) }
-  where
-    raised-most : (b : Bool) → cond b 4294967295 132767 ≤ 4294967295
-    raised-most true = omega arith
-    raised-most false = omega arith
 
 -- what a step adds to a sum of up to 255 days
 pub step-most : {units days : ℕ} → units ≤ 100 → days < 256 → units * days ≤ 25500

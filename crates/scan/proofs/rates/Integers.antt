@@ -2,22 +2,23 @@
 -- with 100,000 steps for m.
 -- Assumes nothing.
 use Prim.Native.Nat.{ℕ, _+_, _*_, _-_, _%_, _^_, _≤_, _<_}
-use mathlib.Core.Path.{_≡_, refl, ap, ap₂, sym, _∙_}
+use mathlib.Core.Path.{_≡_, refl, ap, ap₂, sym, _∙_, subst}
 use mathlib.Core.Bool.{Bool, true, false, _&&_, cond}
+use mathlib.Core.List.{List}
 use native.Mathlib.Omega.{arith}
 use borrow.Author.Tests.{ltb-true, ltb-false, leb-true, leb-false, lt-leb}
-use lib.Dec.{T, leb, ltb, leb→le, le→leb}
+use lib.Dec.{T, leb, ltb, eqb, leb→le, le→leb}
 use lib.IntN.{ℤ, pos, negℤ, _+ℤ_, _-ℤ_}
 use lib.Signed.{leZ}
 use Rattle.model.specs.Case.{knownForm, unitsPerStep}
 use Rattle.model.specs.Curve.{natural}
 use Rattle.model.specs.Fields.{withinZ}
 use Rattle.model.specs.Layout.{dailyRate}
-use Rattle.model.specs.Numbers.{twosComplement}
+use Rattle.model.specs.Numbers.{number, twosComplement}
 use Rattle.theory.proofs.acceptance.Form.{by-form}
 use Rattle.theory.proofs.general.Lists.{and-first, and-second, and-false}
 use Rattle.theory.proofs.general.Differences.{Diff, again, diff-pos, diff-sum, diff-neg, diff-minus, diff-le, le-diff, natural-is}
-use Rattle.scan.specs.inner.Sums.{raisedTwo, raisedFour, raisedRate, rateRight}
+use Rattle.scan.specs.inner.Sums.{raisedTwo, raisedFour, raisedRate, mostRaised, rateRight, RateRead}
 
 -- tests of the same truth
 same : (a b : Bool) → (T a → T b) → (T b → T a) → a ≡ b
@@ -130,3 +131,25 @@ pub raised-right : (w v : ℕ) → knownForm w ≡ true → dailyRate w .right (
 raised-right w v known =
     by-form (λ w. dailyRate w .right (twosComplement w v) ≡ true → Diff (twosComplement w v) (raisedRate w v) (100000 * unitsPerStep w))
     w known (λ h. raised-two v) (raised-four v)
+
+-- what is read of a rate, and the same at another name of the number of bytes
+pub read-two : (bytes : List ℕ) (at : ℕ) {r : ℕ} → r ≡ raisedTwo (number bytes at 2) → r ≤ 132767 → RateRead 2 bytes at r
+read-two bytes at e l = record { rate = e; most = l; right = ap (rateRight 1) e ∙ right-two (number bytes at 2) }
+
+pub read-four : (bytes : List ℕ) (at : ℕ) {r : ℕ} → r ≡ raisedFour (number bytes at 4) → r ≤ 4294967295 → number bytes at 4 < 256 ^ 4
+    → RateRead 4 bytes at r
+read-four bytes at e l small = record { rate = e; most = l; right = ap (rateRight 100) e ∙ right-four (number bytes at 4) small }
+
+pub read-as : {v w at r : ℕ} {bytes : List ℕ} → w ≡ v → RateRead v bytes at r → RateRead w bytes at r
+read-as {at = at} {r} {bytes} e h = subst (λ (w : ℕ). RateRead w bytes at r) (sym e) h
+
+-- how large the bytes of a rate and its natural are
+pub bytes-few : (w t : ℕ) → knownForm w ≡ true → t ≤ 60 → w * t ≤ 240
+bytes-few w t known l = by-form (λ (v : ℕ). v * t ≤ 240) w known (omega arith) (omega arith)
+
+pub raised-few : (w : ℕ) → mostRaised w ≤ 4294967295
+raised-few w = go (eqb w 4)
+  where
+    go : (b : Bool) → cond b 4294967295 132767 ≤ 4294967295
+    go true = omega arith
+    go false = omega arith

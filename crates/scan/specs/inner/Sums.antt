@@ -8,6 +8,7 @@ use lib.Dec.{eqb, leb, ltb}
 use lib.ListN.{getD}
 use lib.IntN.{ℤ}
 use Rattle.model.specs.Constants.{stepsPerOne}
+use Rattle.model.specs.Case.{unitsPerStep}
 use Rattle.model.specs.Numbers.{number, every, table}
 use Rattle.model.specs.Fields.{valueAll, rightAll}
 use Rattle.model.specs.Layout.{dailyRate, day}
@@ -52,6 +53,12 @@ total w file at t (suc n) = total w file at t n + rateOn w file (at + w * 60 * n
 -- that rate is within its limits
 abbrev pub rateRightOn : ℕ → List ℕ → ℕ → ℕ → Bool
 rateRightOn w bytes at t = dailyRate w .right (dailyRate w .value bytes (at + w * t))
+
+-- what is read of a rate at a position
+pub record RateRead (w : ℕ) (bytes : List ℕ) (at r : ℕ) : Type 0 where
+  pub rate : r ≡ raisedRate w (number bytes at w)
+  pub most : r ≤ mostRaised w
+  pub right : rateRight (unitsPerStep w) r ≡ dailyRate w .right (dailyRate w .value bytes at)
 
 -- what a day adds to sums
 pub record DayAdded (w : ℕ) (bytes : List ℕ) (at : ℕ) (before after : List ℕ) (right : Bool) : Type 0 where

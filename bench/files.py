@@ -1,9 +1,9 @@
 """Writes the case files of the benchmark: python3 bench/files.py DIRECTORY
 
-small, typical and large are timed; n_*, m_* and k_* show how the work grows with the days, the pension flows and the
-bond flows, the other two counts standing still; curve_* have the counts of n_35, and show how it depends on the curve: of one
-all zero rates are the UFR, of the other they fall from 9 percent towards it; check_* are only checked: funds from the tests'
-generator, and check_low, whose bonds have the largest factors that the limits allow, on the down curve."""
+small, typical and large are timed; four_* are the same with rates in four bytes; n_*, m_* and k_* show how the work grows with the
+days, the pension flows and the bond flows, the other two counts standing still; curve_* have the counts of n_35, and show how it
+depends on the curve: of one all zero rates are the UFR, of the other they fall from 9 percent towards it; check_* are only checked:
+funds from the tests' generator, and check_low, whose bonds have the largest factors that the limits allow, on the down curve."""
 
 import random
 import sys
@@ -37,9 +37,9 @@ def fund(n, m, k):
 
 
 def cases():
-    yield "small", fund(1, 1, 0)
-    yield "typical", fund(65, 80, 30)
-    yield "large", fund(70, 120, 60)
+    for name, case in (("small", fund(1, 1, 0)), ("typical", fund(65, 80, 30)), ("large", fund(70, 120, 60))):
+        yield name, case
+        yield f"four_{name}", files.rewritten_case(case)
     for n in (1, 35, 70):
         yield f"n_{n}", fund(n, 60, 30)
     for m in (1, 60, 120):

@@ -13,7 +13,7 @@ use Rattle.model.specs.Limits.{WithinLimits}
 use Rattle.model.specs.Layout.{stands, presentIn, fileMap, caseOf, Keeps}
 use Rattle.model.specs.Refusals.{firstOf, refusal}
 use Rattle.model.specs.Constants.{lastTerm}
-use Rattle.model.specs.Curve.{base, curve}
+use Rattle.model.specs.Curve.{base}
 use Rattle.model.specs.Rounded as Rounded
 use Rattle.model.specs.Rounded.{rateOf}
 use Rattle.model.specs.Buffers as Buffers

@@ -1,8 +1,8 @@
 """Files at each limit, on both sides, and in each place of the order of checks: groups of rows (what, file), from the paper's own limits.
 
-The refusal of a row is that of tests/reference.py. tests/pinned.py writes the rows down as computed statements about the definitions,
-all of them for the crate `refusals` and the quick ones (QUICK) for `model`, and tests/compare_reader.py puts them to the engine. A number
-that passes its check is mostly shown by a file that ends after the field, which is refused with 1: such a file is short.
+The refusal of a row is that of tests/reference.py. tests/pinned.py writes the rows down as computed statements about the definitions, all
+of them for the crates `refusals` and `fourbytecases` and the quick ones (QUICK) for `model`, and tests/compare_reader.py puts them to the
+engine. A number that passes its check is mostly shown by a file that ends after the field, which is refused with 1: such a file is short.
 Files with four-byte days have groups of their own. Their days are the last field: a rate that passes 5 is shown by what comes behind it, 0 or 6.
 """
 
@@ -268,15 +268,17 @@ QUICK = {
     "order": ["3 before 9", "9 before 4", "4 before the missing rates", "12 before 2", "2 before 6"],
     "four-counts": ["no count", "71"],
     "four-rates": [f"{LEAST - 1}, day 1, term 1", f"{MOST + 1}, day 1, term 1", "short, and the first too high"],
-    "four-forwards": ["1 days, term 2: -200001", "1 days, term 2: 1200000", "1 days, term 2: 1200001"],
-    "four-order": ["3 before 9", "9 before 7", "12 before 4", "5 before 2", "2 before 6"],
+    "four-forwards": ["1 days, term 2: 1200000"],
+    "four-order": [],
 }
 
 
 def quick(groups):
     """The groups again, with their quick rows alone."""
     for name, what, rows in groups:
-        yield name, what, [row for row in rows if name not in QUICK or row[0] in QUICK[name]]
+        chosen = [row for row in rows if name not in QUICK or row[0] in QUICK[name]]
+        if chosen:
+            yield name, what, chosen
 
 
 def quick_groups():

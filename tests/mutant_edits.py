@@ -77,7 +77,7 @@ class Mutant:
 
 
 def where(path):
-    """crates/model/specs/Exact.antt as model/Exact; crates/curve/src/shift.rt as curve/src/shift."""
+    """crates/method/specs/Exact.antt as model/Exact; crates/growths/src/shift.rt as growths/src/shift."""
     crate, folder, rest = path.split("/", 1)[1].split("/", 2)
     rest = os.path.splitext(rest)[0]
     return f"{crate}/{rest}" if folder == "specs" else f"{crate}/{folder}/{rest}"

@@ -47,6 +47,7 @@ from dataclasses import asdict, dataclass
 
 sys.path.insert(0, os.path.dirname(os.path.abspath(__file__)))
 import mutant_edits
+from edits import DEFINED
 from mutant_edits import where
 
 ROOT = os.path.dirname(os.path.dirname(os.path.abspath(__file__)))
@@ -55,14 +56,23 @@ SAME = os.path.join(ROOT, "tests", "mutants_same.txt")
 # The files of definitions that a reader must believe, by crate. Part of `host` is not here: no token of its one definition has a wrong edit.
 DEFINITIONS = {
     "arith": "Rounding Root",
-    "model": "Constants Numbers Case Limits Fields Layout Refusals Saving Fraction Brackets Curve Held Exact Rounded Bisection Margins Demand3 Buffers Rolling Months Window Listing FourBytes",
+    "model": "Constants Numbers Case Limits Fields Layout Refusals",
+    "method": "Fraction Brackets Curve Exact Rounded Margins Demand3 Buffers Window Listing FourBytes",
+    "heldcase": "Held",
+    "savingmodel": "Saving",
+    "rollingmodel": "Rolling",
+    "searchmodel": "Bisection",
+    "monthsmodel": "Months",
     "casefile": "Answers",
     "window": "Holds Shown",
     "engine": "Guarantee",
     "flat": "Flat",
 }
 PROGRAMS = {"valuation", "monthsvaluation", "batch", "answers", "searches"}
-APART = ("theory", "pinned", "refusals")  # crates with no code: theorems, and statements that take long to compute. Their refusals are counted apart
+# Crates with no function, by what they hold: computed statements beside definitions, theorems, and statements that take long to compute.
+# A refusal by one of them is counted apart.
+APART = {"definitions": DEFINED, "theory": ("theory",),
+         "long": ("twelvecases", "pinned", "accepted", "refusals", "rollingcases", "monthscases", "fourbytecases")}
 TIMEOUT = 180  # seconds for one stage
 
 ILL_FORMED, REFUSED, TIME, SURVIVES = "ill-formed", "refused", "time", "survives"
@@ -376,8 +386,9 @@ def column(mutant, outcome, same):
     if outcome.verdict == SURVIVES:
         return "same" if mutant.key in same else "SURVIVES"
     if outcome.verdict == REFUSED:
-        own = outcome.crate == mutant.path.split("/")[1]
-        return "own crate" if own else outcome.crate if outcome.crate in APART else "above"
+        if outcome.crate == mutant.path.split("/")[1]:
+            return "own crate"
+        return next((kind for kind, names in APART.items() if outcome.crate in names), "above")
     return outcome.verdict
 
 

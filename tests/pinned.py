@@ -37,7 +37,7 @@ WRITTEN = """\
 
 PINNED_HEAD = """\
 -- Numbers of case files and cases as computed statements about the definitions: what an edit of a definition is held against. What takes
--- longer to compute is in the crates `pinned` and `refusals`.
+-- longer to compute is in the crates `pinned` and `accepted`.
 """ + WRITTEN + """\
 use Prim.Native.Nat.{ℕ}
 use mathlib.Core.Path.{_≡_, refl}
@@ -48,16 +48,16 @@ use lib.Dec.{lit<, lit≤}
 use lib.ListN.{replicate}
 use lib.IntN.{pos, negℤ}
 use Rattle.arith.specs.Rounding.{low, high}
 use Rattle.model.specs.Constants.{lastTerm}
 use Rattle.model.specs.Case.{FileCase, s}
 use Rattle.model.specs.Layout.{fileOf, caseOf}
-use Rattle.model.specs.Fraction.{_//_, _≐_, whole}
-use Rattle.model.specs.Curve.{Curve, base, up, down, curve, P}
-use Rattle.model.specs.Exact as Exact
-use Rattle.model.specs.Rounded as Rounded
-use Rattle.model.specs.Buffers.{entryOf, factorEntries}
-use Rattle.model.specs.Margins.{WL, WB, NearFirst, NearSecond, firstMargin, secondMargin}
-use Rattle.model.specs.Demand3.{
+use Rattle.method.specs.Fraction.{_//_, _≐_, whole}
+use Rattle.method.specs.Curve.{Curve, base, up, down, curve, P}
+use Rattle.method.specs.Exact as Exact
+use Rattle.method.specs.Rounded as Rounded
+use Rattle.method.specs.Buffers.{entryOf, factorEntries}
+use Rattle.method.specs.Margins.{WL, WB, NearFirst, NearSecond, firstMargin, secondMargin}
+use Rattle.method.specs.Demand3.{
   leastStep,
   mostStep,
   factorWidthMost,
@@ -67,9 +67,10 @@ use Rattle.model.specs.Demand3.{
   AWidthMost,
   SWidthMost,
 }
-use Rattle.model.specs.Listing.{ascii, word}
+use Rattle.method.specs.Listing.{ascii, word}
 use Rattle.model.specs.declared.figures.Verdict.the-variants.{Dekkingstekort, Reservetekort, VrijVermogen}
-use Rattle.model.proofs.Computing.{pairs, all}
+use Rattle.model.proofs.Computing.{pairs}
+use Rattle.method.proofs.Computing.{all}
 """
 
 REFUSED_USES = """\
@@ -103,7 +104,7 @@ use mathlib.Core.List.{List, [], _∷_, _++_}
 use Rattle.model.specs.Layout.{caseOf}
 use Rattle.model.specs.Refusals.{refusal}
 use Rattle.model.proofs.Computing.{pairs, all}
-use Rattle.model.proofs.Pinned.{bentFile, bentCase, upFile, downFile, downCase, deepestFile, deepestCase, long}
+use Rattle.method.proofs.Pinned.{bentFile, bentCase, upFile, upCase, downFile, downCase, deepestFile, deepestCase, long}
 """
 
 FILES_HEAD = """\
@@ -116,18 +117,14 @@ use lib.Dec.{lit<}
 use lib.ListN.{replicate, take}
 use lib.IntN.{pos, negℤ}
 use Rattle.arith.specs.Rounding.{low, high}
-use Rattle.model.specs.Fraction.{_//_, _≐_}
-use Rattle.model.specs.Curve.{base, up, down, curve}
-use Rattle.model.specs.Exact as Exact
-use Rattle.model.specs.Rounded as Rounded
-use Rattle.model.specs.Buffers.{valuationOf}
-use Rattle.model.specs.Rolling.{windowRatesAfter}
-use Rattle.model.specs.Listing.{listing}
-use Rattle.model.proofs.Computing.{text, all}
-use Rattle.model.proofs.Pinned.{bentCurve, upFile, downFile, deepestFile, deepestCase, long}
-use Rattle.model.proofs.SavedCases.{small}
-use Rattle.model.proofs.RollingCases.{flatDays}
-use Rattle.model.proofs.FourByteCases.{finerCase}
+use Rattle.method.specs.Fraction.{_//_, _≐_}
+use Rattle.method.specs.Curve.{base, up, down, curve}
+use Rattle.method.specs.Exact as Exact
+use Rattle.method.specs.Rounded as Rounded
+use Rattle.method.specs.Buffers.{valuationOf}
+use Rattle.method.specs.Listing.{listing}
+use Rattle.method.proofs.Computing.{text, all}
+use Rattle.method.proofs.Pinned.{bentCurve, upFile, downFile, deepestFile, deepestCase, long}
 """
 
 SAVED_HEAD = """\
@@ -139,13 +136,14 @@ use mathlib.Core.Path.{_≡_, refl}
 use mathlib.Core.List.{List, [], _∷_, _++_, map}
 use lib.ListN.{replicate}
 use lib.IntN.{pos, negℤ}
 use Rattle.model.specs.Case.{FileCase}
-use Rattle.model.specs.Saving.{given, caseRefusal, shortest, saveRefusal, saveAnswer, savedAfter}
+use Rattle.savingmodel.specs.Saving.{given, caseRefusal, shortest, saveRefusal, saveAnswer, savedAfter}
 use Rattle.model.specs.declared.case.Amounts.{Amounts}
 use Rattle.model.specs.declared.case.Shocks.{Shocks}
 use Rattle.model.specs.declared.case.CaseFields.{CaseFields}
-use Rattle.model.specs.declared.saved.Saved.the-variants.{Written, Refused}
-use Rattle.model.proofs.Computing.{pairs, all}
+use Rattle.savingmodel.specs.declared.Saved.the-variants.{Written, Refused}
+use Rattle.model.proofs.Computing.{pairs}
+use Rattle.savingmodel.proofs.Computing.{all}
 """
 
 SEARCH_HEAD = """\
@@ -157,9 +155,9 @@ use mathlib.Core.Path.{_≡_, refl}
 use mathlib.Core.Bool.{Bool, true, false}
 use mathlib.Core.List.{List, [], _∷_, map}
 use Rattle.arith.specs.Rounding.{End, low, high}
-use Rattle.model.specs.Bisection.{middle, halved, afterTests, stepsLeft, isLeft, howMany, mostLeft}
-use Rattle.model.specs.declared.steps.StepsLeft.{StepsLeft}
-use Rattle.model.proofs.Computing.{all}
+use Rattle.searchmodel.specs.Bisection.{middle, halved, afterTests, stepsLeft, isLeft, howMany, mostLeft}
+use Rattle.searchmodel.specs.declared.StepsLeft.{StepsLeft}
+use Rattle.searchmodel.proofs.Computing.{all}
 """
 
 ROLLING_WRITTEN = WRITTEN.replace("tests/reference.py", "tests/rolling.py")
@@ -173,10 +171,12 @@ use Prim.Native.String.{String}
 use mathlib.Core.Path.{_≡_, refl}
 use mathlib.Core.Bool.{true, false}
 use mathlib.Core.List.{List, [], _∷_, _++_, map}
+use lib.Dec.{ltb}
 use lib.ListN.{replicate, take, drop}
 use lib.IntN.{ℤ, pos, negℤ}
-use Rattle.model.specs.Saving.{given}
-use Rattle.model.specs.Rolling.{
+use Rattle.model.specs.Refusals.{firstOf}
+use Rattle.savingmodel.specs.Saving.{given}
+use Rattle.rollingmodel.specs.Rolling.{
   daysHeld,
   emptyWindow,
   windowRight,
@@ -193,26 +193,30 @@ use Rattle.model.specs.Rolling.{
   windowFactorsAfter,
   windowRatesAfter,
 }
-use Rattle.model.specs.Listing.{listing}
-use Rattle.model.specs.declared.rolling.RollingWindow.{RollingWindow}
-use Rattle.model.specs.declared.rolling.ChangedWindow.{ChangedWindow}
-use Rattle.model.proofs.Computing.{text, all}
-use Rattle.model.proofs.SavedCases.{fieldsOf, noAmounts, noShocks, small}
+use Rattle.method.specs.Listing.{listing}
+use Rattle.rollingmodel.specs.declared.RollingWindow.{RollingWindow}
+use Rattle.rollingmodel.specs.declared.ChangedWindow.{ChangedWindow}
+use Rattle.method.proofs.Computing.{text}
+use Rattle.rollingmodel.proofs.Computing.{all}
+use Rattle.savingmodel.proofs.SavedCases.{fieldsOf, noAmounts, noShocks, small}
 """
 
 ROLLING_TABLE_HEAD = """\
--- The refusals of rolling windows that take longer to compute: the whole order of checks of a valuation, and a day added to 69.
+-- Rolling windows, what takes longer to compute: a day added to 70 and to 69, the whole order of checks of a valuation, with a case of
+-- two-byte and of four-byte days, and the first zero rate that a valuation leaves.
 """ + ROLLING_WRITTEN + """\
 use Prim.Native.Nat.{ℕ}
 use mathlib.Core.Path.{_≡_, refl}
 use mathlib.Core.List.{List, [], _∷_, _++_}
-use lib.ListN.{replicate}
+use lib.ListN.{replicate, take}
 use lib.IntN.{pos, negℤ}
-use Rattle.model.specs.Saving.{given}
-use Rattle.model.specs.Rolling.{addRefusal, windowRefusal}
-use Rattle.model.proofs.Computing.{all}
-use Rattle.model.proofs.SavedCases.{amountsOf, shocksOf, fieldsOf, noAmounts, noShocks, small}
-use Rattle.model.proofs.RollingCases.{windowOf, someDay, oneDayLeft, flatDays}
+use Rattle.savingmodel.specs.Saving.{given}
+use Rattle.rollingmodel.specs.Rolling.{emptyWindow, addRefusal, windowRefusal, windowRatesAfter}
+use Rattle.rollingmodel.proofs.Computing.{all}
+use Rattle.model.proofs.FourByteCases.{finerCase}
+use Rattle.savingmodel.proofs.SavedCases.{amountsOf, shocksOf, fieldsOf, noAmounts, noShocks, small}
+use Rattle.savingmodel.proofs.FourByteCases.{smallFour}
+use Rattle.rollingmodel.proofs.RollingCases.{windowOf, someDay, highDay, fullWindow, oneDayLeft, flatDays}
 """
 
 MONTHS_WRITTEN = """\
@@ -222,15 +226,16 @@ MONTHS_WRITTEN = """\
 
 MONTHS_HEAD = """\
 -- A UFR from ten years of months: the months of a history, the rounding of their mean, refusals, and the case and the file that are
--- valued with it, as computed statements about the definitions. What takes longer to compute is in the crate `refusals`.
+-- valued with it, as computed statements about the definitions. What takes longer to compute is in the crate `monthscases`.
 """ + MONTHS_WRITTEN + """\
 use Prim.Native.Nat.{ℕ}
 use mathlib.Core.Path.{_≡_, refl}
 use mathlib.Core.List.{List, [], _∷_, _++_, map}
 use lib.ListN.{replicate}
 use lib.IntN.{ℤ, pos, negℤ}
-use Rattle.model.specs.Months.{monthsOf, hundreds, apart, roundedUfr, ufrRefusal, withUfrField, monthsRefusal, monthsCase}
-use Rattle.model.proofs.Computing.{pairs, all}
+use Rattle.monthsmodel.specs.Months.{monthsOf, hundreds, apart, roundedUfr, ufrRefusal, withUfrField, monthsRefusal, monthsCase}
+use Rattle.model.proofs.Computing.{pairs}
+use Rattle.monthsmodel.proofs.Computing.{all}
 """
 
 MONTHS_TABLE_HEAD = """\
@@ -245,72 +250,132 @@ use mathlib.Core.List.{List, [], _∷_, _++_}
 use lib.ListN.{replicate, take, drop}
 use lib.IntN.{pos, negℤ}
 use Rattle.arith.specs.Rounding.{low, high}
-use Rattle.model.specs.Buffers.{entryOf, rateEntryOf}
-use Rattle.model.specs.Months.{monthsOf, oldestFirst, total, ufrRefusal, ufrAnswer}
-use Rattle.model.specs.Months.{monthsRefusal, monthsValuation, monthsFactorsAfter, monthsRatesAfter}
-use Rattle.model.specs.Listing.{listing}
-use Rattle.model.specs.declared.months.Ufr.the-variants.{Found, Refused}
-use Rattle.model.proofs.Computing.{pairs, text, all}
-use Rattle.model.proofs.MonthsCases.{foundHistory, noUfrHistory, ringMonths, plainFile, ownUfrFile}
+use Rattle.method.specs.Buffers.{entryOf, rateEntryOf}
+use Rattle.monthsmodel.specs.Months.{monthsOf, oldestFirst, total, ufrRefusal, ufrAnswer}
+use Rattle.monthsmodel.specs.Months.{monthsRefusal, monthsValuation, monthsFactorsAfter, monthsRatesAfter}
+use Rattle.method.specs.Listing.{listing}
+use Rattle.monthsmodel.specs.declared.Ufr.the-variants.{Found, Refused}
+use Rattle.model.proofs.Computing.{pairs}
+use Rattle.method.proofs.Computing.{text}
+use Rattle.monthsmodel.proofs.Computing.{all}
+use Rattle.monthsmodel.proofs.MonthsCases.{foundHistory, noUfrHistory, ringMonths, plainFile, ownUfrFile}
 """
 
 FOUR_HEAD = """\
--- Rates in four bytes: refusals of files and of cases, the part that holds the rates, the curves and figures of a fund none of whose rates is
--- a whole step, what is saved, rewritings, and windows and months with such a case, as computed statements about the definitions. The whole
--- table of refusals is in the crate `refusals`.
+-- Rates in four bytes: refusals of files, and the part that holds the rates, as computed statements about the definitions. The whole table of
+-- refusals is in the crate `fourbytecases`.
 """ + WRITTEN + """\
 use Prim.Native.Nat.{ℕ, zero, suc}
-use Prim.Native.String.{String}
 use mathlib.Core.Path.{_≡_, refl}
 use mathlib.Core.Bool.{true, false}
 use mathlib.Core.List.{List, [], _∷_, _++_, map}
+use lib.ListN.{replicate}
+use lib.IntN.{pos, negℤ}
+use Rattle.model.specs.Case.{FileCase}
+use Rattle.model.specs.Layout.{fileOf, caseOf}
+use Rattle.model.specs.Refusals.{refusal, daysAt, dayCount, ratesPart}
+use Rattle.model.proofs.Computing.{pairs, all}
+"""
+
+FOUR_FIGURES_HEAD = """\
+-- Rates in four bytes: the curves and figures of a fund none of whose rates is a whole step, and rewritings, as computed statements about the
+-- definitions.
+""" + WRITTEN + """\
+use Prim.Native.Nat.{ℕ}
+use mathlib.Core.Path.{_≡_, refl}
+use mathlib.Core.Bool.{true, false}
+use mathlib.Core.List.{List, [], _∷_, _++_}
 use lib.Dec.{lit<}
-use lib.ListN.{replicate, take}
+use lib.ListN.{replicate}
 use lib.IntN.{pos, negℤ}
 use Rattle.arith.specs.Rounding.{low, high}
 use Rattle.model.specs.Case.{FileCase, withDays, perStep}
-use Rattle.model.specs.Layout.{fileOf, caseOf}
-use Rattle.model.specs.Refusals.{forwardsRight, refusal, daysAt, dayCount, ratesPart}
-use Rattle.model.specs.Saving.{given, caseRefusal, shortest, saveRefusal, saveAnswer, savedAfter}
-use Rattle.model.specs.Fraction.{_//_, _≐_}
-use Rattle.model.specs.Curve.{base, up, down, curve, P}
-use Rattle.model.specs.Exact as Exact
-use Rattle.model.specs.Rounded as Rounded
-use Rattle.model.specs.Rolling.{emptyWindow, windowRefusal, windowValuation, windowFactorsAfter}
-use Rattle.model.specs.Months.{withUfrField, monthsCase}
-use Rattle.model.specs.FourBytes.{rewritten, rewrittenFile}
-use Rattle.model.specs.Listing.{ascii, word, listing}
+use Rattle.model.specs.Refusals.{forwardsRight}
+use Rattle.method.specs.Fraction.{_//_, _≐_}
+use Rattle.method.specs.Curve.{base, up, down, curve, P}
+use Rattle.method.specs.Exact as Exact
+use Rattle.method.specs.Rounded as Rounded
+use Rattle.method.specs.FourBytes.{rewritten, rewrittenFile}
+use Rattle.method.specs.Listing.{ascii, word}
 use Rattle.model.specs.declared.figures.Verdict.the-variants.{Dekkingstekort}
-use Rattle.model.specs.declared.saved.Saved.the-variants.{Written, Refused}
-use Rattle.model.proofs.Computing.{pairs, text, all}
-use Rattle.model.proofs.SavedCases.{amountsOf, shocksOf, fieldsOf, noAmounts, noShocks, small}
-use Rattle.model.proofs.RollingCases.{windowOf, flatDays}
-use Rattle.model.proofs.MonthsCases.{foundHistory}
+use Rattle.model.proofs.FourByteCases.{finerCase, oldCase, newCase, oldFile, newFile}
+use Rattle.method.proofs.Computing.{all}
+"""
+
+FOUR_SAVED_HEAD = """\
+-- Saving a case with rates in four bytes, as computed statements about the definitions.
+""" + WRITTEN + """\
+use Prim.Native.Nat.{ℕ}
+use mathlib.Core.Path.{_≡_, refl}
+use mathlib.Core.List.{List, [], _∷_, _++_, map}
+use lib.ListN.{replicate}
+use lib.IntN.{pos, negℤ}
+use Rattle.model.specs.Case.{FileCase}
+use Rattle.savingmodel.specs.declared.Saved.the-variants.{Written, Refused}
+use Rattle.model.proofs.Computing.{pairs}
+use Rattle.model.proofs.FourByteCases.{quads, finerFile, finerCase, oldCase, newCase, oldFile, newFile}
+use Rattle.savingmodel.specs.Saving.{given, caseRefusal, shortest, saveRefusal, saveAnswer, savedAfter}
+use Rattle.savingmodel.proofs.Computing.{all}
+use Rattle.savingmodel.proofs.SavedCases.{amountsOf, shocksOf, fieldsOf, noAmounts, noShocks}
+"""
+
+FOUR_ROLLING_HEAD = """\
+-- A rolling window valued with a case of four-byte rates, as computed statements about the definitions.
+""" + ROLLING_WRITTEN + """\
+use Prim.Native.Nat.{ℕ}
+use Prim.Native.String.{String}
+use mathlib.Core.Path.{_≡_, refl}
+use mathlib.Core.List.{List, [], _∷_, _++_}
+use lib.ListN.{replicate, take}
+use lib.IntN.{pos, negℤ}
+use Rattle.method.specs.Listing.{listing}
+use Rattle.method.proofs.Computing.{text}
+use Rattle.model.proofs.FourByteCases.{finerCase}
+use Rattle.rollingmodel.specs.Rolling.{windowValuation, windowFactorsAfter}
+use Rattle.rollingmodel.proofs.Computing.{all}
+use Rattle.rollingmodel.proofs.RollingCases.{flatDays}
+"""
+
+FOUR_MONTHS_HEAD = """\
+-- The UFR of months put into files with rates in four bytes, as computed statements about the definitions.
+""" + MONTHS_WRITTEN + """\
+use Prim.Native.Nat.{ℕ}
+use mathlib.Core.Path.{_≡_, refl}
+use mathlib.Core.List.{List, [], _∷_, _++_}
+use Rattle.model.proofs.Computing.{pairs}
+use Rattle.model.proofs.FourByteCases.{quads, finerFile}
+use Rattle.monthsmodel.specs.Months.{withUfrField, monthsCase}
+use Rattle.monthsmodel.proofs.Computing.{all}
+use Rattle.monthsmodel.proofs.MonthsCases.{foundHistory}
 """
 
 FOUR_TABLE_HEAD = """\
--- Rates in four bytes: the refusals of files at each limit, on both sides, and in each place of the order of checks; those with months; and
--- the listings of a file, of the same rewritten, and of a fund none of whose rates is a whole step. All of it as computed statements about
--- the definitions. The days are the last field: a rate that passes 5 is shown by what comes behind it, 0 or 6.
+-- Rates in four bytes: the refusals of files at each limit, on both sides, and in each place of the order of checks; the order of checks of
+-- a case; the listings of a file, of the same rewritten, and of a fund none of whose rates is a whole step; and two of its zero rates. All
+-- of it as computed statements about the definitions. The days are the last field: a rate that passes 5 is shown by what comes behind it,
+-- 0 or 6.
 """ + WRITTEN + """\
 use Prim.Native.Nat.{ℕ}
 use Prim.Native.String.{String}
 use mathlib.Core.Path.{_≡_, refl}
 use mathlib.Core.List.{List, [], _∷_, _++_, map}
-use lib.ListN.{replicate, take}
+use lib.ListN.{replicate}
 use lib.IntN.{pos, negℤ}
+use Rattle.arith.specs.Rounding.{low, high}
 use Rattle.model.specs.Refusals.{refusal, ratesPart}
-use Rattle.model.specs.Saving.{given}
-use Rattle.model.specs.Buffers.{valuationOf}
-use Rattle.model.specs.Rolling.{emptyWindow, windowRefusal, windowRatesAfter}
-use Rattle.model.specs.Months.{monthsRefusal}
-use Rattle.model.specs.FourBytes.{rewrittenFile}
-use Rattle.model.specs.Listing.{listing}
-use Rattle.model.proofs.Computing.{pairs, text, all}
-use Rattle.model.proofs.SavedCases.{fieldsOf, noAmounts, noShocks}
-use Rattle.model.proofs.RollingCases.{windowOf, flatDays}
-use Rattle.model.proofs.MonthsCases.{foundHistory}
-use Rattle.model.proofs.FourByteCases.{quads, finerFile, finerCase, smallFour, oldFile, newFile}
+use Rattle.model.specs.Case.{FileCase}
+use Rattle.savingmodel.specs.Saving.{given, caseRefusal}
+use Rattle.method.specs.Curve.{base, curve}
+use Rattle.method.specs.Rounded as Rounded
+use Rattle.method.specs.Buffers.{valuationOf}
+use Rattle.method.specs.FourBytes.{rewrittenFile}
+use Rattle.method.specs.Listing.{listing}
+use Rattle.model.proofs.Computing.{pairs}
+use Rattle.method.proofs.Computing.{text}
+use Rattle.rollingmodel.proofs.Computing.{all}
+use Rattle.savingmodel.proofs.SavedCases.{amountsOf, shocksOf, fieldsOf, noAmounts, noShocks}
+use Rattle.model.proofs.FourByteCases.{quads, finerFile, finerCase, oldFile, newFile}
+use Rattle.savingmodel.proofs.FourByteCases.{smallFour}
 """
 
 TITLES = {
@@ -330,7 +395,7 @@ def ends(one_end):
     return [one_end(LOWER), one_end(UPPER)]
 
 
-# ---------------------------------------------------------------- crates/model/proofs/Pinned.antt
+# ---------------------------------------------------------------- crates/method/proofs/Pinned.antt
 
 def read_statements(name, case, data):
     """The file, its case by name, and that the case gives the file. The other way is `case_statement`, which takes longer."""
@@ -541,7 +606,6 @@ def pinned():
     sections = [PINNED_HEAD, *bent_statements()]
     for name, case in (("up", examples.up()), ("down", examples.down())):
         sections += fund_statements(name, case)
-    sections.append(case_statement("up"))
     sections += bond_statements() + deepest_statements()
     sections += width_statements() + demand_statements() + shifted_statements() + margin_statements()
     sections += shortage_statements() + undecided_statements()
@@ -580,7 +644,7 @@ def refused():
     return "\n".join([TABLE_HEAD, *(group_statement(*group) for group in limits.groups()), part_statement([RISING, [300] * 60])])
 
 
-# ---------------------------------------------------------------- crates/model/proofs/SavedCases.antt
+# ---------------------------------------------------------------- crates/savingmodel/proofs/SavedCases.antt
 
 def maker(name, kinds, fields, comment):
     """A function that makes a record of its arguments, which are called a, b, c and so on."""
@@ -660,7 +724,7 @@ def saved():
     return "\n".join([SAVED_HEAD, *makers(), *groups, *shortest_statements(), *buffer_statements()])
 
 
-# ---------------------------------------------------------------- crates/model/proofs/SearchCases.antt
+# ---------------------------------------------------------------- crates/searchmodel/proofs/SearchCases.antt
 
 FALL = 10 ** 9  # of a made-up factor, a term
 MADE_UP = f"""\
@@ -797,7 +861,7 @@ def search_cases():
                       *steps_left_statements(), *counted_statements()])
 
 
-# ---------------------------------------------------------------- crates/model/proofs/RollingCases.antt
+# ---------------------------------------------------------------- crates/rollingmodel/proofs/RollingCases.antt
 
 DAY_NAMES = {tuple(day): name for name, day in windows.DAYS.items()}
 
@@ -926,11 +990,18 @@ def value_statements():
                      f"windowRatesAfter {short_factors} ≡ {list_term(same_rates, integer)}")]
 
 
+FULL_WINDOW = """\
+-- 15 before 5, of every window of 70 days that is right
+full-window : (w : RollingWindow) → windowRight w ≡ true → ltb (w .count) 70 ≡ false → addRefusal w highDay ≡ 15
+unfolding addRefusal firstOf
+full-window w right full = simp (right, full)
+"""
+
+
 def rolling_cases():
-    full, _ = windows.full_rows()
     return "\n".join([ROLLING_HEAD, *window_definitions(), *right_statements(),
                       *number_table("add", [add_row(*row) for row in windows.add_rows()], "The order of checks of an addition."),
-                      full_statement("full-window", full),
+                      FULL_WINDOW,
                       *number_table("drop", [drop_row(*row) for row in windows.drop_rows()], "The order of checks of a drop."),
                       *(changed_statement(*row) for row in windows.change_rows()), queue_statement(),
                       *number_table("value", [value_row(*row) for row in windows.quick_value_rows()],
@@ -938,16 +1009,19 @@ def rolling_cases():
                       *value_statements()])
 
 
-# ---------------------------------------------------------------- crates/refusals/proofs/Rolling.antt
+# ---------------------------------------------------------------- crates/rollingcases/proofs/Rolling.antt
 
 def rolling_refused():
-    _, one_less = windows.full_rows()
+    full, one_less = windows.full_rows()
     rows = [value_row(*row) for row in windows.value_rows()]
-    return "\n".join([ROLLING_TABLE_HEAD, full_statement("one-day-left", one_less),
-                      *number_table("value-order", rows, "The order of checks of a valuation.")])
+    return "\n".join([ROLLING_TABLE_HEAD, full_statement("full", full), full_statement("one-day-left", one_less),
+                      *number_table("value-order", rows, "The order of checks of a valuation."), window_rates(),
+                      *number_table("four-windows", [value_row(*row) for row in windows.four_value_rows()],
+                                    "With a case of four-byte days: its own rates and growths by its own step, then those of the window's days."),
+                      in_window_rates()])
 
 
-# ---------------------------------------------------------------- crates/model/proofs/MonthsCases.antt
+# ---------------------------------------------------------------- crates/monthsmodel/proofs/MonthsCases.antt
 
 HISTORIES = {  # by name: what it is, and its bytes
     "foundHistory": ("a UFR of 3,100 is found", histories.FOUND),
@@ -1028,7 +1102,7 @@ def months_cases():
                                     "The order of checks up to the file's first ones.")])
 
 
-# ---------------------------------------------------------------- crates/refusals/proofs/Months.antt
+# ---------------------------------------------------------------- crates/monthscases/proofs/Months.antt
 
 def month_statements():
     """Two's complement, the high byte first; the ring from several places; the sum from the first byte on, and from the oldest month."""
@@ -1105,7 +1179,9 @@ def months_refused():
                                     "The order of checks from the end of the file on."),
                       *months_listing("plain", histories.PLAIN), *months_listing("ownUfr", histories.OWN_UFR), *months_buffers(),
                       untouched_statement("untouched-on-1", dict(histories.quick_value_rows())["1 before 17"]),
-                      untouched_statement("untouched-on-19", rows["19, from another start"])])
+                      untouched_statement("untouched-on-19", rows["19, from another start"]),
+                      *number_table("four-months", [months_row(*row) for row in histories.four_value_rows()],
+                                    "The order of checks of a file with rates in four bytes.")])
 
 
 # ---------------------------------------------------------------- crates/model/proofs/FourByteCases.antt
@@ -1132,7 +1208,12 @@ def finer_statements():
     out = read_statements("finer", case, data) + [case_statement("finer")]
     out.append(computed("finer-part", f"daysAt finerFile ≡ {offset - 1}", f"dayCount finerFile ≡ {len(case.days)}",
                         f"ratesPart finerFile ≡ {file_term(data[offset:offset + length])}"))
-    return out + four_curves("finer", "finerCase", case) + finer_figures(case) + two_day_statements(case)
+    return out
+
+
+def finer_working():
+    case = examples.finer()
+    return four_curves("finer", "finerCase", case) + finer_figures(case) + two_day_statements(case)
 
 
 def four_curves(name, term, case):
@@ -1181,7 +1262,6 @@ def four_case_groups():
     yield "rate-bytes", "No rate has so many bytes: 3.", to_save.rate_bytes_rows()
     yield "four-limits", "Every number at its limits; then rates at theirs, and a unit past them.", [*to_save.end_rows(4), *to_save.four_rate_rows()]
     yield "four-forwards", "Error 6, at its limits times 100 and one past them.", to_save.forward_rows(4)
-    yield "four-case-order", "The order of checks: two faults each.", to_save.order_rows(to_save.SMALL_FOUR, to_save.FOUR_BYTE_FAULTS)
 
 
 def four_short_rows():
@@ -1216,19 +1296,13 @@ def rewriting_statements():
     old = examples.before_rewriting()
     new, old_file = files.rewritten_case(old), encode(old, True, True, True)
     return [case_definition("oldCase", old, "A case with two-byte days, and the same rewritten."), case_definition("newCase", new, "its rewriting"),
-            definition("oldFile", "List ℕ", file_term(old_file), "their files"), definition("newFile", "List ℕ", file_term(files.rewritten(old_file))),
-            computed("rewritten-case", "rewritten oldCase ≡ newCase"),
-            computed("different-bytes", "shortest oldCase ≡ oldFile", "shortest newCase ≡ newFile"),
-            computed("rewritten-file", "rewrittenFile oldFile ≡ newFile")]
+            definition("oldFile", "List ℕ", file_term(old_file), "their files"), definition("newFile", "List ℕ", file_term(files.rewritten(old_file)))]
 
 
 def four_window_statements():
-    """Refusals of valuations with a case of four-byte days; and the listing and the first factor of the fund with the window's days, which are
-    two-byte days."""
-    rows = [value_row(*row) for row in windows.quick_four_value_rows()]
+    """The listing and the first factor of the fund with the window's days, which are two-byte days."""
     lines, into, factors, _ = finer_in_window()
-    return [*number_table("four-value", rows, "Its own rates and growths by its own step."),
-            definition("inWindowListing", "List String", strings(lines), "The fund with the days of a window."),
+    return [definition("inWindowListing", "List String", strings(lines), "The fund with the days of a window."),
             computed("in-window-listing", "listing (windowValuation flatDays finerCase 240 240) ≡ text inWindowListing"),
             computed("in-window-factors", f"take 2 (windowFactorsAfter {into}) ≡ {list_term(factors[:2])}")]
 
@@ -1260,12 +1334,29 @@ def four_month_statements():
 
 def four_byte_cases():
     groups = [group_statement(*group, BOTH) for group in limits.quick(limits.four_byte_groups())]
+    return "\n".join([FOUR_HEAD, QUADS, *groups, *finer_statements(), *rewriting_statements()])
+
+
+def four_figures():
+    return "\n".join([FOUR_FIGURES_HEAD, *finer_working(), computed("rewritten-case", "rewritten oldCase ≡ newCase"),
+                      computed("rewritten-file", "rewrittenFile oldFile ≡ newFile")])
+
+
+def four_saved():
     cases = [statement for name, what, rows in four_case_groups() for statement in case_group(name, what, list(rows))]
-    return "\n".join([FOUR_HEAD, QUADS, *groups, *finer_statements(), *cases, *four_saved_statements(), *rewriting_statements(),
-                      *four_window_statements(), *four_month_statements()])
+    different = computed("different-bytes", "shortest oldCase ≡ oldFile", "shortest newCase ≡ newFile")
+    return "\n".join([FOUR_SAVED_HEAD, *cases, *four_saved_statements(), different])
 
 
-# ---------------------------------------------------------------- crates/refusals/proofs/FourBytes.antt
+def four_windows():
+    return "\n".join([FOUR_ROLLING_HEAD, *four_window_statements()])
+
+
+def four_months():
+    return "\n".join([FOUR_MONTHS_HEAD, *four_month_statements()])
+
+
+# ---------------------------------------------------------------- crates/fourbytecases/proofs/FourBytes.antt
 
 def plain_rewriting():
     """The rewritten file of one without optional fields: three days, and every rate limit in it."""
@@ -1280,21 +1371,21 @@ def four_refused():
     assert reference.listing(named["old"]) == reference.listing(named["new"])
     return "\n".join([FOUR_TABLE_HEAD, *(group_statement(*group, BOTH) for group in limits.four_byte_groups()),
                       part_statement([[1_237 * t - 20_000 for t in range(1, 61)], [300] * 60], 4),
-                      *number_table("four-months", [months_row(*row) for row in histories.four_value_rows()],
-                                    "The order of checks of a valuation with months."),
-                      *number_table("four-windows", [value_row(*row) for row in windows.four_value_rows()],
-                                    "Valuations of a window: the case's own rates and growths by its own step, then those of the window's days."),
-                      in_window_rates(), plain_rewriting(),
-                      *(statement for name, data in named.items() for statement in listing_statement(name, data))])
+                      plain_rewriting(),
+                      *case_group("four-case-order", "The order of checks of a case: two faults each.",
+                                  list(to_save.order_rows(to_save.SMALL_FOUR, to_save.FOUR_BYTE_FAULTS))),
+                      *(statement for name, data in named.items() for statement in listing_statement(name, data)),
+                      # zero rates count steps, of four-byte days too
+                      *(rate_statement("finer", "(curve finerCase base)", Rounded(examples.finer()), t) for t in (1, 2))])
 
 
-# ---------------------------------------------------------------- crates/refusals/proofs/Accepted.antt
+# ---------------------------------------------------------------- crates/accepted/proofs/Accepted.antt
 
 def accepted():
     out = [ACCEPTED_HEAD]
     for name in ("bent", "up", "down", "deepest"):
         out.append(computed(f"{name}-accepted", f"refusal {name}File ≡ 0"))
-    out += [case_statement("bent"), case_statement("down"), case_statement("deepest")]
+    out += [case_statement("bent"), case_statement("up"), case_statement("down"), case_statement("deepest")]
     out.append(definition("longFile", "List ℕ", file_term(encode(examples.long(), True, True, True)), "the long fund as a file"))
     out.append(computed("long-case", "caseOf longFile ≡ long"))
     return "\n".join(out)
@@ -1347,18 +1438,18 @@ def pinned_files():
     for t in (40, 60, 61, 120):
         out.append(computed(f"bent-factor-{t}", *both_ends(f"Rounded.factor bentCurve {{e}} {t}", bent.factors[t])))
     out += [rate_statement("bent", "bentCurve", bent, t) for t in (1, 2, 3)] + [rate_statement("bent", "bentCurve", bent, 21, ("high",))]
-    # zero rates count steps, of four-byte days too
-    finer = [rate_statement("finer", "(curve finerCase base)", Rounded(examples.finer()), t) for t in (1, 2)]
-    return "\n".join(out + shifted_figures() + deepest_figures() + [window_rates(), *finer])
+    return "\n".join(out + shifted_figures() + deepest_figures())
 
 
-PATHS = {"crates/model/proofs/Pinned.antt": pinned, "crates/model/proofs/Refused.antt": refused_quickly,
-         "crates/model/proofs/SavedCases.antt": saved, "crates/model/proofs/SearchCases.antt": search_cases,
-         "crates/model/proofs/RollingCases.antt": rolling_cases, "crates/model/proofs/MonthsCases.antt": months_cases,
-         "crates/pinned/proofs/Files.antt": pinned_files, "crates/refusals/proofs/Accepted.antt": accepted,
-         "crates/refusals/proofs/Refused.antt": refused, "crates/refusals/proofs/Rolling.antt": rolling_refused,
-         "crates/refusals/proofs/Months.antt": months_refused, "crates/model/proofs/FourByteCases.antt": four_byte_cases,
-         "crates/refusals/proofs/FourBytes.antt": four_refused}
+PATHS = {"crates/method/proofs/Pinned.antt": pinned, "crates/model/proofs/Refused.antt": refused_quickly,
+         "crates/savingmodel/proofs/SavedCases.antt": saved, "crates/searchmodel/proofs/SearchCases.antt": search_cases,
+         "crates/rollingmodel/proofs/RollingCases.antt": rolling_cases, "crates/monthsmodel/proofs/MonthsCases.antt": months_cases,
+         "crates/pinned/proofs/Files.antt": pinned_files, "crates/accepted/proofs/Accepted.antt": accepted,
+         "crates/refusals/proofs/Refused.antt": refused, "crates/rollingcases/proofs/Rolling.antt": rolling_refused,
+         "crates/monthscases/proofs/Months.antt": months_refused, "crates/model/proofs/FourByteCases.antt": four_byte_cases, "crates/method/proofs/FourByteCases.antt": four_figures,
+         "crates/savingmodel/proofs/FourByteCases.antt": four_saved, "crates/rollingmodel/proofs/FourByteCases.antt": four_windows,
+         "crates/monthsmodel/proofs/FourByteCases.antt": four_months,
+         "crates/fourbytecases/proofs/FourBytes.antt": four_refused}
 
 
 def others():

@@ -168,8 +168,8 @@ class TestOfTheTest(unittest.TestCase):
         self.assertEqual([fault.split()[-1] for fault in faults("docs/PAGE.md", text)], wrong, text)
 
     def test_right(self):
-        self.check("[a](../README.md) [b](GUARANTEES.md#demand-1) `crates/model/specs/Exact.antt` `crates/*/src/lib.rt` "
-                   "`model/weight_60` `arith/*` `tests/{reference,examples}.py` `target/bin/valuation` `crates/NAME/src` "
+        self.check("[a](../README.md) [b](GUARANTEES.md#demand-1) `crates/method/specs/Exact.antt` `crates/*/src/lib.rt` "
+                   "`method/weight_60` `arith/*` `tests/{reference,examples}.py` `target/bin/valuation` `crates/NAME/src` "
                    "`reference.py` `specs/Exact.antt` `rt check` `a / b` `.case` `x.min(y)` [c](https://example.org/x)", [])
         self.check("    python3 tests/reference.py FILE   # n/m is no path\n", [])
 

@@ -1,45 +1,15 @@
-"""The must-fail edits, without the prover: each can be applied, each comment line begins with #, and each edit of a definition names the
-statements that refuse it."""
+"""The must-fail edits, without the prover: each can be applied, each comment line begins with #, and each names what refuses it: an edit of
+a definition the computed statements, any other the facts of a function that no longer hold. And how the logs are looked at."""
 
 import glob
 import os
 import re
+import sys
 import unittest
 
-ROOT = os.path.abspath(os.path.join(os.path.dirname(os.path.abspath(__file__)), ".."))
-EDITS = sorted(glob.glob(os.path.join(ROOT, "crates", "*", "must-fail", "*.edit")))
-
-
-def read_text(path):
-    with open(path, encoding="utf-8") as file:
-        return file.read()
-
-
-def parts(text):
-    """The comment of an edit, and its triples (file, old, new)."""
-    comment, triples, file, old = [], [], None, None
-    for line in text.splitlines():
-        if line.startswith("file: "):
-            file = line.removeprefix("file: ")
-        elif line.startswith("old: "):
-            old = line.removeprefix("old: ")
-        elif line.startswith("new:"):
-            triples.append((file, old, line.removeprefix("new:").removeprefix(" ")))
-        elif file is None:
-            comment.append(line.removeprefix("# "))
-    return " ".join(comment), triples
-
-
-def refusing(comment):
-    """The names behind 'Refused by' in a comment."""
-    found = re.search(r"Refused by (.*)\.$", comment.strip())
-    return re.split(r", | and ", found.group(1)) if found else []
-
-
-def statements(crate):
-    """The names that the proofs of a crate declare."""
-    return {name for path in glob.glob(os.path.join(ROOT, "crates", crate, "proofs", "**", "*.antt"), recursive=True)
-            for name in re.findall(r"^(?:pub )?(\S+) :", read_text(path), re.M)}
+sys.path.insert(0, os.path.dirname(os.path.abspath(__file__)))
+import edit_logs
+from edits import DEFINED, EDITS, ROOT, facts, functions, parts, place, read_text, refusing, statements
 
 
 class Edits(unittest.TestCase):
@@ -63,18 +33,63 @@ class Edits(unittest.TestCase):
                 self.assertEqual([line for line in rest if not line.startswith("# ")], [])
 
     def test_definitions_name_what_refuses_them(self):
-        known = statements("model")
-        for edit in glob.glob(os.path.join(ROOT, "crates", "model", "must-fail", "*.edit")):
-            with self.subTest(edit=os.path.basename(edit)):
-                names = refusing(parts(read_text(edit))[0])
-                self.assertTrue(names)
-                self.assertEqual([name for name in names if name not in known], [])
+        for crate in DEFINED:
+            known = statements(crate)
+            for edit in glob.glob(os.path.join(ROOT, "crates", crate, "must-fail", "*.edit")):
+                with self.subTest(edit=os.path.relpath(edit, ROOT)):
+                    names = refusing(parts(read_text(edit))[0])
+                    self.assertTrue(names)
+                    self.assertEqual([name for name in names if name not in known], [])
+
+    def test_others_name_facts_of_their_functions(self):
+        for edit in EDITS:
+            crate, name = place(edit)
+            if crate in DEFINED:
+                continue
+            with self.subTest(edit=f"{crate}/{name}"):
+                comment = parts(read_text(edit))[0]
+                self.assertTrue(facts(comment) or refusing(comment))
+                self.assertEqual([function for _, function in facts(comment) if function not in functions(crate)], [])
+                self.assertEqual([name for name in refusing(comment) if name not in statements(crate)], [])
 
     def test_of_the_test(self):
         comment, triples = parts("# A slip. Refused by a-b, c\n# and d.\nfile: specs/X.antt\nold: 1\nnew: 2\nold: 3\nnew:\n")
         self.assertEqual(refusing(comment), ["a-b", "c", "d"])
         self.assertEqual(triples, [("specs/X.antt", "1", "2"), ("specs/X.antt", "3", "")])
         self.assertEqual(refusing("A slip."), [])
+        self.assertEqual(facts("A slip: `a-b`, `c` and `d-2` of m::f and `e` of g no longer hold, nor `h`."),
+                         [("a-b", "m::f"), ("c", "m::f"), ("d-2", "m::f"), ("e", "g")])
+        self.assertEqual(facts("A slip."), [])
+        self.assertIn("Case::default", functions("heldcase"))
+        self.assertIn("rates::add_day", functions("scan"))
+
+
+LOG = """\
+/t/proofs/rates/add_day/Proof.antt:3:5: error: `loop-again`: the two types differ
+/t/proofs/years/+take/Proof.antt:3:5: error: `take-returns`: the two types differ
+/t/proofs/Worked.antt:9:1: error: `c5-factor`: expected type
+fn k::rates::add_day: not proved
+fn k::roots::roots: no proof: expected `roots-spec` in /t/proofs/roots/roots/Proof.antt; `search` does not close `mul-lower`, `returns`
+fn k::other: not proved; it calls `k::roots::roots`, which is not proved
+"""
+
+
+class Logs(unittest.TestCase):
+    def silent(self, comment):
+        return edit_logs.silent("k", f"# {comment}\nfile: src/a.rt\nold: 1\nnew: 2\n", LOG)
+
+    def test_a_fact_has_its_error_where_its_function_is(self):
+        self.assertEqual(self.silent("A slip: `loop-again` of rates::add_day and `take-returns` of years::take no longer hold."), [])
+        self.assertEqual(self.silent("A slip: `loop-again` of rates::sum_days no longer holds."), ["loop-again of rates::sum_days"])
+        self.assertEqual(self.silent("A slip: `returns` of rates::add_day no longer holds."), ["returns of rates::add_day"])
+
+    def test_a_function_without_a_proof_file(self):
+        self.assertEqual(self.silent("A slip: `mul-lower` and `returns` of roots::roots no longer hold."), [])
+        self.assertEqual(self.silent("A slip: `lower` of roots::roots no longer holds."), ["lower of roots::roots"])
+        self.assertEqual(self.silent("A slip: `mul-lower` of other no longer holds."), ["mul-lower of other"])
+
+    def test_a_statement(self):
+        self.assertEqual(self.silent("A slip. Refused by c5-factor and c6-factor."), ["c6-factor"])
 
 
 if __name__ == "__main__":

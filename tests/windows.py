@@ -329,10 +329,3 @@ QUICK = ["27 before 13", "13 before 3", "12 before 6", "6 before 4 of the window
 
 def quick_value_rows():
     return [row for row in value_rows() if row[0] in QUICK]
-
-
-FOUR_QUICK = ["all own rates -100001", "all own rates 1000000", "own growth 1200001", "3 before 9", "12 before 4 of the case"]
-
-
-def quick_four_value_rows():
-    return [row for row in four_value_rows() if row[0] in FOUR_QUICK]

@@ -3,9 +3,9 @@
 use super::numbers::print_number;
 use super::numbers::print_numbers;
 use casefile::Answer;
+use heldcase::Case;
 use libc::STDOUT_FILENO;
 use model::case::Amounts;
-use model::case::Case;
 use model::case::People;
 use model::case::Shocks;
 

@@ -1,6 +1,6 @@
 // Many files in one standard input, each behind its length in four bytes, the highest first.
 use libc::STDIN_FILENO;
-use scan::cursor::number_at;
+use numbers::cursor::number_at;
 ghost use Rattle.io.specs.Counts.{Counts};
 ghost use Rattle.batch.specs.Input.{LengthOrEnd, FileRead};
 

@@ -8,7 +8,7 @@ use lib.ListN.{getD}
 use mir.Syntax.{w8}
 use mir.Val.{Fits}
 use Rattle.model.specs.Numbers.{Bytes}
-use Rattle.model.specs.Held.{held}
+use Rattle.heldcase.specs.Held.{held}
 use Rattle.model.specs.Limits.{WithinLimits}
 use Rattle.model.specs.Layout.{caseOf}
 use Rattle.model.specs.Refusals.{refusal}

@@ -5,10 +5,10 @@ use Prim.Native.Nat.{ℕ, zero, suc, _+_, _*_, _-_, _≤_}
 use native.Mathlib.Nat.{zero-add}
 use native.Mathlib.Omega.{arith}
 use lib.ListN.{length, take, drop}
-use Rattle.model.specs.Held.{held, defaultCase}
+use Rattle.heldcase.specs.Held.{held, defaultCase}
 use Rattle.model.specs.Layout.{caseOf}
 use Rattle.model.specs.Refusals.{refusal, ratesPartAfter, ratesPart, daysAt, dayCount}
-use Rattle.model.specs.declared.case.Case.{Case}
+use Rattle.heldcase.specs.declared.Case.{Case}
 use Rattle.theory.proofs.acceptance.Acceptance.{days-reach}
 use Rattle.model.specs.inner.Positions.{rateBytes}
 use Rattle.casefile.specs.Answers.{answerOf, caseAfter, readingOf, ratesFrom, behind}

@@ -4,10 +4,10 @@ use mathlib.Core.Path.{_≡_}
 use mathlib.Core.List.{List}
 use denote.Ref.{RefT, now}
 use Rattle.model.specs.Numbers.{Bytes}
-use Rattle.model.specs.Held.{held, defaultCase}
+use Rattle.heldcase.specs.Held.{held, defaultCase}
 use Rattle.model.specs.Layout.{Keeps, caseOf}
 use Rattle.model.specs.Refusals.{refusal, ratesPart, daysAt}
-use Rattle.model.specs.declared.case.Case.{Case}
+use Rattle.heldcase.specs.declared.Case.{Case}
 use Rattle.casefile.specs.declared.Answer.{Answer}
 use Rattle.casefile.specs.declared.Answer.the-variants.{Accepted, Refused}
 use Rattle.casefile.specs.declared.Reading.{Reading}

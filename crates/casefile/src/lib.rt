@@ -1,11 +1,9 @@
 // The reader of case files: what a host calls. Each function is defined for every list of bytes. The places of the fields and the sums
 // of the rates are found once, and serve the checks and the case.
-mod case;
-
-use case::case_in;
 use checks::order::refusal_with;
-use model::case::Case;
-use scan::places::find;
+use contents::case_in;
+use heldcase::Case;
+use places::find;
 use scan::rates::sum_days;
 ghost use mathlib.Core.Path.{_≡_};
 ghost use Rattle.model.specs.Refusals.{refusal};

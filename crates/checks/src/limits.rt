@@ -1,7 +1,7 @@
 // Whether the numbers of a field are within their limits. The rates are tested where they are summed, the flows as a run.
-use scan::cursor::number_at;
-use scan::runs::both;
-use scan::runs::each_at_most;
+use numbers::cursor::number_at;
+use numbers::runs::both;
+use numbers::runs::each_at_most;
 ghost use mathlib.Core.Path.{_≡_};
 ghost use mathlib.Core.Bool.{not};
 ghost use Prim.Native.Nat.{_+_, _<_, _≤_};

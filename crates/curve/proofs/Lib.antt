@@ -1,5 +1,3 @@
--- Laws that several modules cite, and Curves, which other crates cite too. What serves one module is in that module's folder.
-pub mod YearLaws
-pub mod Weighing
-pub mod Curves
-pub mod UnadjustedLaws
+-- Laws of the growth that a factor is divided by, and of one factor from the one before it.
+pub mod Growths
+pub mod Discounts

@@ -18,9 +18,9 @@ use Rattle.model.specs.Case.{FileCase}
 use Rattle.model.specs.Layout.{caseOf}
 use Rattle.model.specs.Fields.{Check}
 use Rattle.model.specs.Refusals.{firstOf, checks, refusal}
-use Rattle.model.specs.Curve.{base, curve}
-use Rattle.model.specs.Rounded as Rounded
-use Rattle.model.specs.Buffers.{valuationRefusal, byTerm, factorEntries, rateEntries, factorsAfter, ratesAfter, answered, valuationOf, refusalNumber}
+use Rattle.method.specs.Curve.{base, curve}
+use Rattle.method.specs.Rounded as Rounded
+use Rattle.method.specs.Buffers.{valuationRefusal, byTerm, factorEntries, rateEntries, factorsAfter, ratesAfter, answered, valuationOf, refusalNumber}
 use Rattle.model.specs.declared.figures.Figures.{Figures}
 use Rattle.model.specs.declared.figures.Verdict.{Verdict}
 use Rattle.model.specs.declared.figures.Valuation.the-variants.{Valued}

@@ -8,7 +8,7 @@ use native.Mathlib.Omega.{arith}
 use lib.IntN.{ℤ}
 use lib.ListN.{length}
 use Rattle.model.specs.Layout.{Keeps}
-use Rattle.model.specs.Buffers.{valuationOf, refusalNumber}
+use Rattle.method.specs.Buffers.{valuationOf, refusalNumber}
 use Rattle.engine.specs.Guarantee.{Call}
 
 shortest-buffers : (file : List ℕ) (factors : List ℕ) (rates : List ℤ) → Call file factors rates → length factors ≡ 240 → length rates ≡ 240

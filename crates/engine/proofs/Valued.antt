@@ -8,12 +8,12 @@ use borrow.Author.Tests.{le-leb, lt-leb}
 use lib.Dec.{leb}
 use lib.IntN.{ℤ}
 use lib.ListN.{length, drop}
-use Rattle.model.specs.Curve.{base}
+use Rattle.method.specs.Curve.{base}
 use Rattle.model.specs.Layout.{caseOf}
 use Rattle.model.specs.Fields.{Check}
 use Rattle.model.specs.Refusals.{firstOf, checks, refusal}
-use Rattle.model.specs.Rounded as Rounded
-use Rattle.model.specs.Buffers.{valuationRefusal, factorsAfter, ratesAfter, answered, valuationOf}
+use Rattle.method.specs.Rounded as Rounded
+use Rattle.method.specs.Buffers.{valuationRefusal, factorsAfter, ratesAfter, answered, valuationOf}
 use Rattle.model.specs.declared.figures.Valuation.{Valuation}
 use Rattle.model.specs.declared.figures.Valuation.the-variants.{Refused, Valued}
 use Rattle.theory.proofs.general.Lists.{and-false}

@@ -11,10 +11,10 @@ use Rattle.arith.specs.Rounding.{low, high}
 use Rattle.model.specs.Numbers.{Bytes}
 use Rattle.model.specs.Layout.{Keeps}
 use Rattle.model.specs.Layout.{caseOf}
-use Rattle.model.specs.Curve.{base, curve}
-use Rattle.model.specs.Rounded as Rounded
-use Rattle.model.specs.Demand3.{Given, Demand3}
-use Rattle.model.specs.Buffers.{valuationRefusal, valuationOf, refusalNumber, factorsAfter, ratesAfter, entryOf, rateEntryOf}
+use Rattle.method.specs.Curve.{base, curve}
+use Rattle.method.specs.Rounded as Rounded
+use Rattle.method.specs.Demand3.{Given, Demand3}
+use Rattle.method.specs.Buffers.{valuationRefusal, valuationOf, refusalNumber, factorsAfter, ratesAfter, entryOf, rateEntryOf}
 use Rattle.model.specs.declared.figures.Figures.{Figures}
 use Rattle.model.specs.declared.figures.Verdict.{Verdict}
 use Rattle.model.specs.declared.figures.Valuation.the-variants.{Refused, Valued}

@@ -6,7 +6,7 @@ use working::money_of;
 use working::value_case;
 ghost use mathlib.Core.Path.{_≡_};
 ghost use lib.ListN.{length};
-ghost use Rattle.model.specs.Buffers.{answered, valuationOf, factorsAfter, ratesAfter};
+ghost use Rattle.method.specs.Buffers.{answered, valuationOf, factorsAfter, ratesAfter};
 ghost use Rattle.model.specs.Layout.{caseOf};
 ghost use Rattle.model.specs.Refusals.{refusal};
 ghost use Rattle.engine.specs.Guarantee.{Call};

@@ -1,6 +1,6 @@
 // The days: their count, and their rates one after another, each of 2 or 4 bytes.
 use encode::put_bytes;
-use given::rates::day_count;
+use givenrates::day_count;
 ghost use mathlib.Core.Path.{_≡_};
 ghost use mathlib.Core.Bool.{true, cond};
 ghost use mathlib.Core.List.{[]};
@@ -9,9 +9,9 @@ ghost use lib.Dec.{eqb};
 ghost use lib.IntN.{pos, _+ℤ_};
 ghost use lib.ListN.{length};
 ghost use Rattle.model.specs.Case.{knownForm};
-ghost use Rattle.model.specs.Curve.{natural};
+ghost use Rattle.method.specs.Curve.{natural};
 ghost use Rattle.model.specs.Fields.{bytesAll, rightAll};
-ghost use Rattle.model.specs.Saving.{daysOf};
+ghost use Rattle.savingmodel.specs.Saving.{daysOf};
 ghost use Rattle.model.specs.Layout.{dailyRate, days};
 ghost use Rattle.model.specs.inner.Positions.{daysField};
 ghost use Rattle.output.specs.inner.Wrote.{Wrote};

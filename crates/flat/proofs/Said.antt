@@ -4,9 +4,9 @@ use mathlib.Core.List.{List}
 use Prim.Native.Nat.{ℕ, zero, suc}
 use borrow.Author.Tests.{ne-eqb}
 use Rattle.model.specs.Case.{FileCase}
-use Rattle.model.specs.Buffers.{answered, valuationRefusal, valuationOf}
+use Rattle.method.specs.Buffers.{answered, valuationRefusal, valuationOf}
 use Rattle.model.specs.Layout.{caseOf}
-use Rattle.model.specs.Rounded as Rounded
+use Rattle.method.specs.Rounded as Rounded
 use Rattle.model.specs.declared.figures.Figures.{Figures}
 use Rattle.model.specs.declared.figures.Verdict.{Verdict}
 use Rattle.model.specs.declared.figures.Verdict.the-variants.{Dekkingstekort, Reservetekort, VrijVermogen, Onbeslist}

@@ -9,10 +9,10 @@ use Rattle.model.specs.declared.figures.Verdict.{Verdict}
 use Rattle.model.specs.declared.figures.Verdict.the-variants.{Dekkingstekort, Reservetekort, VrijVermogen, Onbeslist}
 use Rattle.model.specs.declared.figures.Valuation.{Valuation}
 use Rattle.model.specs.declared.figures.Valuation.the-variants.{Refused, Valued}
-use Rattle.model.specs.declared.months.Ufr.{Ufr}
-use Rattle.model.specs.declared.months.Ufr.the-variants as Ufr
-use Rattle.model.specs.declared.saved.Saved.{Saved}
-use Rattle.model.specs.declared.saved.Saved.the-variants as Saved
+use Rattle.monthsmodel.specs.declared.Ufr.{Ufr}
+use Rattle.monthsmodel.specs.declared.Ufr.the-variants as Ufr
+use Rattle.savingmodel.specs.declared.Saved.{Saved}
+use Rattle.savingmodel.specs.declared.Saved.the-variants as Saved
 use Rattle.model.specs.declared.window.Point.{Point}
 use Rattle.model.specs.declared.window.Point.the-variants.{Factor, Money, Blank}
 use Rattle.flat.specs.declared.HostBracket.{HostBracket}

@@ -4,9 +4,9 @@ use model::figures::Bracket;
 use model::figures::Figures;
 use model::figures::Valuation;
 use model::figures::Verdict;
-use model::months::Ufr;
-use model::saved::Saved;
 use model::window::Point;
+use monthsmodel::Ufr;
+use savingmodel::Saved;
 ghost use mathlib.Core.Path.{_≡_};
 ghost use Rattle.flat.specs.Flat.{hostBracket, bracketFrom, hostFigures, figuresFrom, noFigures, verdictNumber, verdictFrom, hostValuation, valuationFrom, hostPoint, hostSaved, hostUfr};
 

@@ -2,5 +2,4 @@
 // of any length, with any numbers. Here its numbers are put in the order of the layout, and checked.
 mod limits;
 pub mod order;
-pub mod rates;
 pub mod runs;

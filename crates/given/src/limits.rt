@@ -5,7 +5,7 @@ use crate::runs::shocks_in_order;
 use model::case::Amounts;
 use model::case::People;
 use model::case::Shocks;
-use scan::runs::both;
+use numbers::runs::both;
 ghost use mathlib.Core.Path.{_≡_};
 ghost use Rattle.model.specs.Layout.{amounts, shocks, people};
 

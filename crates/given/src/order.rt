@@ -2,14 +2,14 @@
 use crate::limits::amounts_right;
 use crate::limits::people_right;
 use crate::limits::shocks_right;
-use crate::rates::day_count;
-use crate::rates::sum_rates;
 use crate::runs::each_at_most;
 use checks::order::first;
+use givenrates::day_count;
+use givenrates::sum_rates;
 use model::case::CaseFields;
+use numbers::runs::both;
 use scan::rates::forwards_within;
 use scan::rates::units_per_step;
-use scan::runs::both;
 ghost use mathlib.Core.Path.{_≡_};
 ghost use mathlib.Core.Bool.{cond};
 ghost use mathlib.Core.List.{[], _∷_};
@@ -18,7 +18,7 @@ ghost use lib.ListN.{length};
 ghost use Rattle.model.specs.Case.{knownForm};
 ghost use Rattle.model.specs.Fields.{within, rightAll};
 ghost use Rattle.model.specs.Layout.{flow};
-ghost use Rattle.model.specs.Saving.{given, caseRefusal};
+ghost use Rattle.savingmodel.specs.Saving.{given, caseRefusal};
 ghost use Rattle.checks.specs.inner.After.{afterAll};
 
 // Pension or bond flows: their count, and the flows.

@@ -1,11 +1,11 @@
 // Numbers by name in the order of the layout, and runs of numbers in memory.
 use model::case::Amounts;
 use model::case::Shocks;
-use scan::runs::both;
+use numbers::runs::both;
 ghost use mathlib.Core.Path.{_≡_};
 ghost use Rattle.model.specs.Fields.{numberOf, rightAll};
 ghost use Rattle.model.specs.Layout.{amountsInOrder, shocksInOrder};
-ghost use Rattle.model.specs.Saving.{allZero};
+ghost use Rattle.savingmodel.specs.Saving.{allZero};
 
 pub fn amounts_in_order(a: Amounts) -> [u64; 8]
     ensures { λ r. ⌜ r ≡ amountsInOrder a ⌝ }

@@ -14,29 +14,29 @@ use flat::flat_saved;
 use flat::flat_ufr;
 use flat::flat_valuation;
 use flat::valuation_from;
+use history::ufr_of;
 use listing::write_listing;
 use model::case::CaseFields;
-use model::rolling::ChangedWindow;
-use model::rolling::Day;
-use model::rolling::RollingWindow;
-use months::ufr_of;
 use months::value_with_months;
+use places::find;
 use rolling::add_day;
 use rolling::drop_day;
 use rolling::empty;
+use rollingmodel::ChangedWindow;
+use rollingmodel::Day;
+use rollingmodel::RollingWindow;
 use rollingvalue::value_window;
-use scan::places::find;
 use window::window_point;
 use writer::save;
 ghost use mathlib.Core.Path.{_≡_};
 ghost use lib.ListN.{length, take, drop};
-ghost use Rattle.model.specs.Buffers.{valuationOf, factorsAfter, ratesAfter};
-ghost use Rattle.model.specs.Months.{ufrAnswer, monthsValuation, monthsFactorsAfter, monthsRatesAfter};
+ghost use Rattle.method.specs.Buffers.{valuationOf, factorsAfter, ratesAfter};
+ghost use Rattle.monthsmodel.specs.Months.{ufrAnswer, monthsValuation, monthsFactorsAfter, monthsRatesAfter};
 ghost use Rattle.model.specs.Refusals.{refusal, ratesPart};
-ghost use Rattle.model.specs.Rolling.{emptyWindow, addDay, dropDay, windowValuation, windowFactorsAfter, windowRatesAfter};
-ghost use Rattle.model.specs.Window.{windowPoint};
-ghost use Rattle.model.specs.Listing.{listingAfter, listingLength};
-ghost use Rattle.model.specs.Saving.{given, saveAnswer, savedAfter};
+ghost use Rattle.rollingmodel.specs.Rolling.{emptyWindow, addDay, dropDay, windowValuation, windowFactorsAfter, windowRatesAfter};
+ghost use Rattle.method.specs.Window.{windowPoint};
+ghost use Rattle.method.specs.Listing.{listingAfter, listingLength};
+ghost use Rattle.savingmodel.specs.Saving.{given, saveAnswer, savedAfter};
 ghost use Rattle.flat.specs.Flat.{hostValuation, hostPoint, figuresFrom, valuationFrom, hostSaved, hostUfr};
 ghost use Rattle.host.specs.Part.{hostPart};
 
@@ -198,7 +198,7 @@ pub extern "C" fn ginghamowl_rolling_value(
     flat_valuation(valuation)
 }
 
-// The UFR that a history of months gives, as `months::ufr_of` finds it.
+// The UFR that a history of months gives, as `history::ufr_of` finds it.
 #[no_mangle]
 pub extern "C" fn ginghamowl_ufr_of(history: &[u8], start: u64) -> HostUfr
     ensures { λ r. ⌜ r ≡ hostUfr (ufrAnswer (now (history .entry)) start) ⌝ }

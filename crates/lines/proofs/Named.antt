@@ -4,7 +4,7 @@ use mathlib.Core.List.{List, _++_, append-assoc}
 use Prim.Native.Nat.{ℕ}
 use Prim.Native.String.{String}
 use native.Mathlib.Omega.{arith}
-use Rattle.model.specs.Listing.{ascii, line}
+use Rattle.method.specs.Listing.{ascii, line}
 use Rattle.model.specs.declared.figures.Bracket.{Bracket}
 use Rattle.model.specs.declared.figures.Figures.{Figures}
 use Rattle.output.specs.inner.Wrote.{Wrote}

@@ -5,7 +5,7 @@ use Prim.Native.Nat.{ℕ, _≤_, _<_}
 use native.Mathlib.Omega.{arith}
 use lib.ListN.{length, take, drop}
 use lib.Seq.{length-sets, length-take-le, take-at}
-use Rattle.model.specs.Listing.{listing, listingAfter, listingLength}
+use Rattle.method.specs.Listing.{listing, listingAfter, listingLength}
 use Rattle.model.specs.declared.figures.Valuation.{Valuation}
 use Rattle.theory.proofs.general.Conditions.{cond-le, cond-gt}
 use Rattle.output.specs.inner.Wrote.{Wrote}

@@ -1,7 +1,7 @@
 -- The lines of the figures and that of the verdict join to the listing of `model`. Assumes nothing.
 use mathlib.Core.Path.{_≡_}
 use mathlib.Core.List.{_++_, append-assoc}
-use Rattle.model.specs.Listing.{listing}
+use Rattle.method.specs.Listing.{listing}
 use Rattle.model.specs.declared.figures.Figures.{Figures}
 use Rattle.model.specs.declared.figures.Verdict.{Verdict}
 use Rattle.model.specs.declared.figures.Valuation.the-variants.{Valued}

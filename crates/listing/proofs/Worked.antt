@@ -2,7 +2,7 @@
 use mathlib.Core.Path.{_≡_, refl}
 use Prim.Native.Nat.{ℕ}
 use Rattle.model.specs.Numbers.{table}
-use Rattle.model.specs.Listing.{ascii, digits, decimal, word, line, listing}
+use Rattle.method.specs.Listing.{ascii, digits, decimal, word, line, listing}
 use Rattle.model.specs.declared.figures.Bracket.{Bracket}
 use Rattle.model.specs.declared.figures.Figures.{Figures}
 use Rattle.model.specs.declared.figures.Verdict.the-variants.{VrijVermogen}

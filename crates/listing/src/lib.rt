@@ -9,7 +9,7 @@ use output::put_word;
 ghost use mathlib.Core.Path.{_≡_};
 ghost use Prim.Native.Nat.{_+_, _≤_};
 ghost use lib.ListN.{length, take};
-ghost use Rattle.model.specs.Listing.{listing, listingAfter, listingLength};
+ghost use Rattle.method.specs.Listing.{listing, listingAfter, listingLength};
 ghost use Rattle.output.specs.inner.Wrote.{Wrote};
 ghost use Rattle.listing.specs.inner.Judged.{judged};
 

@@ -1,8 +1,8 @@
 // S1: the larger fall of bonds less liabilities from the base curve to the up or the down curve.
 ghost use mathlib.Core.Path.{_≡_};
 ghost use Prim.Native.Nat.{_-_, max};
-ghost use Rattle.model.specs.Rounded.{fallOf, interestLoss};
-ghost use Rattle.model.specs.Brackets.{bracket, endOf};
+ghost use Rattle.method.specs.Rounded.{fallOf, interestLoss};
+ghost use Rattle.method.specs.Brackets.{bracket, endOf};
 ghost use Rattle.worth.specs.inner.OnCurves.{on};
 ghost use Rattle.worth.specs.inner.Ranges.{WorthFits, WorthsFit};
 ghost use Rattle.losses.specs.inner.Ranges.{LossFits};

@@ -2,8 +2,8 @@
 ghost use mathlib.Core.Path.{_≡_};
 ghost use Rattle.model.specs.Case.{ageGap};
 ghost use Rattle.model.specs.Limits.{PeopleWithin};
-ghost use Rattle.model.specs.Brackets.{bracket, endOf};
-ghost use Rattle.model.specs.Rounded.{mortalityLoss};
+ghost use Rattle.method.specs.Brackets.{bracket, endOf};
+ghost use Rattle.method.specs.Rounded.{mortalityLoss};
 ghost use Rattle.worth.specs.inner.Ranges.{WorthFits};
 ghost use Rattle.losses.specs.inner.Ranges.{LossFits};
 use super::roots::roots;

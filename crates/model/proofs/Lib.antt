@@ -1,13 +1,7 @@
--- Statements about the definitions of specs/ that are computed: each number here is worked out by the definitions themselves. The theorems
--- are in the crate `theory`, and what takes long to compute is in the crates `pinned` and `refusals`.
+-- What is computed of the definitions of specs/: each number is worked out by the definitions themselves. Computing: which definitions.
+-- Read: what a file is read as. Refused, FourByteCases: refusals, and the rates of a file. Changed: cases with another field.
 pub mod Computing
 pub mod Changed
-pub mod Worked
+pub mod Read
 pub mod Refused
-pub mod Pinned
-pub mod SavedCases
-pub mod SearchCases
-pub mod RollingCases
-pub mod MonthsCases
 pub mod FourByteCases
-pub mod Widths

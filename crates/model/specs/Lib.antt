@@ -1,4 +1,5 @@
--- Document 01 as definitions, a file a section, in its order; Saving, Rolling, Bisection, Months and FourBytes are requests One, Two, Three, Five and Six of document 02. All of it has to be believed, except what is in inner.
+-- The case file of document 01 as definitions, a file a section, in its order; its working is in the crate `method`, and each request of
+-- document 02 has a crate of its own. All of it has to be believed, except what is in inner.
 pub mod Constants
 pub mod Numbers
 pub mod Case
@@ -6,20 +7,4 @@ pub mod Limits
 pub mod Fields
 pub mod Layout
 pub mod Refusals
-pub mod Saving
-pub mod Fraction
-pub mod Brackets
-pub mod Curve
-pub mod Held
-pub mod Exact
-pub mod Rounded
-pub mod Bisection
-pub mod Margins
-pub mod Demand3
-pub mod Buffers
-pub mod Rolling
-pub mod Months
-pub mod Window
-pub mod Listing
-pub mod FourBytes
 pub mod inner

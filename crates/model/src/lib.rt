@@ -1,9 +1,5 @@
-// The types of the domain that every later crate shares, with their constants. Document 01 as
-// definitions, and the theorems about them, stand in specs/ and proofs/.
+// The case file of document 01: its definitions in specs/, what is computed of them in proofs/, and here the types of a case, of what a
+// valuation gives and of the host's window. There is no function here: an edit of one of these definitions is put to these statements alone.
 pub mod case;
 pub mod figures;
-pub mod months;
-pub mod rolling;
-pub mod saved;
-pub mod steps;
 pub mod window;

@@ -9,19 +9,19 @@ use borrow.Author.Tests.{le-leb, lt-leb}
 use lib.Dec.{leb, lit<}
 use lib.IntN.{ℤ}
 use lib.ListN.{length, drop}
-use Rattle.model.specs.Buffers.{valuationRefusal}
+use Rattle.method.specs.Buffers.{valuationRefusal}
 use Rattle.model.specs.Case.{FileCase, perStep, withUfr}
-use Rattle.model.specs.Curve.{base, curve, P}
-use Rattle.model.specs.Held.{held}
+use Rattle.method.specs.Curve.{base, curve, P}
+use Rattle.heldcase.specs.Held.{held}
 use Rattle.model.specs.Layout.{caseOf}
 use Rattle.model.specs.Limits.{WithinLimits}
-use Rattle.model.specs.Months.{ufrRefusal, ufrFound, foundOr, ufrAnswer, monthsRefusal, monthsCase, monthsValuation, monthsFactorsAfter, monthsRatesAfter}
+use Rattle.monthsmodel.specs.Months.{ufrRefusal, ufrFound, foundOr, ufrAnswer, monthsRefusal, monthsCase, monthsValuation, monthsFactorsAfter, monthsRatesAfter}
 use Rattle.model.specs.Refusals.{firstOf, refusal}
-use Rattle.model.specs.declared.case.Case.{Case}
+use Rattle.heldcase.specs.declared.Case.{Case}
 use Rattle.model.specs.declared.figures.Valuation.{Valuation}
 use Rattle.model.specs.declared.figures.Valuation.the-variants.{Refused, Valued}
-use Rattle.model.specs.declared.months.Ufr.{Ufr}
-use Rattle.model.specs.declared.months.Ufr.the-variants.{Found, Refused as RefusedHistory}
+use Rattle.monthsmodel.specs.declared.Ufr.{Ufr}
+use Rattle.monthsmodel.specs.declared.Ufr.the-variants.{Found, Refused as RefusedHistory}
 use Rattle.theory.proofs.curve.Changed.{ufr-P}
 use Rattle.theory.proofs.general.Lists.{and-false, table-same}
 use Rattle.theory.proofs.months.Valued.{own-first, history-after, within-limits}

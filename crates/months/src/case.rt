@@ -1,5 +1,5 @@
 // The case as the engine holds it, with another UFR: nothing else that it holds depends on the UFR.
-use model::case::Case;
+use heldcase::Case;
 ghost use mathlib.Core.Path.{_≡_};
 ghost use Rattle.months.specs.inner.Changed.{changed};
 

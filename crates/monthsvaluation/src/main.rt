@@ -3,7 +3,7 @@
 use libc::STDIN_FILENO;
 use libc::STDOUT_FILENO;
 use model::figures::Valuation;
-use model::months::Ufr;
+use monthsmodel::Ufr;
 use output::put;
 use output::put_number;
 
@@ -14,7 +14,7 @@ const MOST_HISTORY: usize = 241;
 
 // One line: UFR and its steps. A refused history has none.
 fn print_ufr(history: &[u8], start: u64) {
-    let found = months::ufr_of(history, start);
+    let found = history::ufr_of(history, start);
     if let Ufr::Found(ufr) = found {
         let mut text = [0u8; 25];
         let at_number = put(&mut text, 0, b"UFR");
@@ -43,7 +43,7 @@ fn print_with_start(file: &[u8], history: &[u8]) {
     if n < 8 {
         return;
     }
-    let start = scan::cursor::number_at(&place, 0, 8);
+    let start = numbers::cursor::number_at(&place, 0, 8);
     print_valuation(file, history, start);
 }
 

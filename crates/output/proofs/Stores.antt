@@ -9,7 +9,7 @@ use lib.Dec.{lit<}
 use lib.ListN.{length, set, take, drop, getD, length-append}
 use lib.Seq.{sets, sets-eq, take-suc, length-take-le}
 use borrow.Author.Tests.{lt-ltb, le-ltb}
-use Rattle.model.specs.Listing.{digits}
+use Rattle.method.specs.Listing.{digits}
 use Rattle.output.specs.inner.Wrote.{Wrote}
 
 sets-join : (t u b : List ℕ) (at : ℕ) → sets b at (t ++ u) ≡ sets (sets b at t) (at + length t) u

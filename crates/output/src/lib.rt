@@ -1,7 +1,7 @@
 // Bytes, numbers in base ten, lines of a bracket and the words of a verdict, written into a lent buffer.
 ghost use Prim.Native.Nat.{_+_, _^_, _≤_, _<_};
 ghost use lib.ListN.{length};
-ghost use Rattle.model.specs.Listing.{digits, word};
+ghost use Rattle.method.specs.Listing.{digits, word};
 ghost use Rattle.output.specs.inner.Lines.{spaced, named};
 ghost use Rattle.output.specs.inner.Wrote.{Wrote};
 use model::figures::Bracket;

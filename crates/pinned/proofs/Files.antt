@@ -8,18 +8,14 @@ use lib.Dec.{lit<}
 use lib.ListN.{replicate, take}
 use lib.IntN.{pos, negℤ}
 use Rattle.arith.specs.Rounding.{low, high}
-use Rattle.model.specs.Fraction.{_//_, _≐_}
-use Rattle.model.specs.Curve.{base, up, down, curve}
-use Rattle.model.specs.Exact as Exact
-use Rattle.model.specs.Rounded as Rounded
-use Rattle.model.specs.Buffers.{valuationOf}
-use Rattle.model.specs.Rolling.{windowRatesAfter}
-use Rattle.model.specs.Listing.{listing}
-use Rattle.model.proofs.Computing.{text, all}
-use Rattle.model.proofs.Pinned.{bentCurve, upFile, downFile, deepestFile, deepestCase, long}
-use Rattle.model.proofs.SavedCases.{small}
-use Rattle.model.proofs.RollingCases.{flatDays}
-use Rattle.model.proofs.FourByteCases.{finerCase}
+use Rattle.method.specs.Fraction.{_//_, _≐_}
+use Rattle.method.specs.Curve.{base, up, down, curve}
+use Rattle.method.specs.Exact as Exact
+use Rattle.method.specs.Rounded as Rounded
+use Rattle.method.specs.Buffers.{valuationOf}
+use Rattle.method.specs.Listing.{listing}
+use Rattle.method.proofs.Computing.{text, all}
+use Rattle.method.proofs.Pinned.{bentCurve, upFile, downFile, deepestFile, deepestCase, long}
 
 abbrev pub upListing : List String
 upListing =
@@ -160,17 +156,3 @@ deepest-down-B : (Rounded.B deepestCase down low ≡ 33607442050)
     × (Rounded.B deepestCase down high ≡ 33607442052)
 unfolding all
 deepest-down-B = (refl, refl)
-
-window-rates : take 2 (windowRatesAfter flatDays small (replicate 240 7) (replicate 240 (pos 7))) ≡ (pos 100 ∷ pos 101 ∷ [])
-unfolding all
-window-rates = refl
-
-finer-zero-rate-1 : (Rounded.zeroRate (curve finerCase base) low 1 ≡ negℤ (pos 81))
-    × (Rounded.zeroRate (curve finerCase base) high 1 ≡ negℤ (pos 80))
-unfolding all
-finer-zero-rate-1 = (refl, refl)
-
-finer-zero-rate-2 : (Rounded.zeroRate (curve finerCase base) low 2 ≡ negℤ (pos 38))
-    × (Rounded.zeroRate (curve finerCase base) high 2 ≡ negℤ (pos 37))
-unfolding all
-finer-zero-rate-2 = (refl, refl)

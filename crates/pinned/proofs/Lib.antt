@@ -1,4 +1,2 @@
--- Computed statements that take longer: the twelve cases, listings, numbers of curves. tests/pinned.py writes Files.
-pub mod TwelveCases
-pub mod LikeC1
+-- Listings and numbers of curves that take long to compute. tests/pinned.py writes them.
 pub mod Files

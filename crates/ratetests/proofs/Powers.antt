@@ -8,9 +8,9 @@ use Rattle.arith.specs.inner.Range.{Small}
 use Rattle.arith.specs.Rounding.{End, low, high, divide}
 use Rattle.arith.proofs.Ends.{_and_, _times_, from, cancel, divide-end}
 use Rattle.arith.proofs.Rounding.{divide-floor, divide-le}
-use Rattle.model.specs.Brackets.{bracket, endOf}
+use Rattle.method.specs.Brackets.{bracket, endOf}
 use Rattle.model.specs.Constants.{unit, stepsPerOne}
-use Rattle.model.specs.Fraction.{Fraction, _//_, _^ᶠ_}
+use Rattle.method.specs.Fraction.{Fraction, _//_, _^ᶠ_}
 use Rattle.model.specs.Numbers.{every}
 use Rattle.model.specs.declared.figures.Bracket.{Bracket}
 use Rattle.theory.proofs.curve.Bracket.{Bounded}

@@ -10,7 +10,7 @@ use Rattle.arith.specs.inner.Range.{Small}
 use Rattle.arith.specs.Rounding.{End, low, high, divide}
 use Rattle.model.specs.Constants.{unit, stepsPerOne}
 use Rattle.model.specs.Numbers.{every}
-use Rattle.model.specs.Rounded.{scaled, tested}
+use Rattle.method.specs.Rounded.{scaled, tested}
 use Rattle.model.specs.declared.figures.Bracket.{Bracket}
 use Rattle.theory.proofs.general.Lists.{every-le}
 use Rattle.theory.proofs.general.Powers.{pow-pos}

@@ -3,12 +3,12 @@
 mod power;
 
 ghost use mathlib.Core.Path.{_≡_};
-ghost use Rattle.model.specs.Rounded.{tested};
+ghost use Rattle.method.specs.Rounded.{tested};
 ghost use Rattle.ratetests.specs.inner.Ranges.{StepWithin};
 ghost use Rattle.ratetests.specs.inner.Results.{endBy, passed, Results};
 use arith::scale::times_ceil;
 use arith::scale::times_floor;
-use model::case::Case;
+use heldcase::Case;
 use model::figures::Bracket;
 use power::power_bounds;
 

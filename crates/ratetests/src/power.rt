@@ -3,12 +3,12 @@
 ghost use mathlib.Core.Path.{_≡_};
 ghost use Prim.Native.Nat.{_*_, _^_, _≤_};
 ghost use Rattle.arith.specs.Rounding.{divide};
-ghost use Rattle.model.specs.Brackets.{bracket, endOf};
+ghost use Rattle.method.specs.Brackets.{bracket, endOf};
 ghost use Rattle.ratetests.specs.inner.Ranges.{StepWithin, ProductWithin};
 ghost use Rattle.ratetests.specs.inner.Powers.{Encloses, powerMost};
 use crate::FIRST_DIVISOR;
 use arith::scale::times_floor;
-use model::case::Case;
+use heldcase::Case;
 use model::figures::Bracket;
 
 // 1, in units of 2^-30.

@@ -1,7 +1,2 @@
--- The whole table of refusals, those of rolling windows, of valuations with months and of rates in four bytes, and files that are accepted.
--- tests/pinned.py writes them.
+-- The whole table of refusals. tests/pinned.py writes it.
 pub mod Refused
-pub mod Rolling
-pub mod Months
-pub mod FourBytes
-pub mod Accepted

@@ -9,8 +9,8 @@ use lib.IntN.{ℤ}
 use Rattle.model.specs.Fields.{rightAll}
 use Rattle.model.specs.Layout.{dailyRate, day}
 use Rattle.model.specs.Refusals.{firstOf}
-use Rattle.model.specs.Rolling.{windowRight, addRefusal, dropRefusal, added, dropped, addDay, dropDay}
-use Rattle.model.specs.declared.rolling.RollingWindow.{RollingWindow}
+use Rattle.rollingmodel.specs.Rolling.{windowRight, addRefusal, dropRefusal, added, dropped, addDay, dropDay}
+use Rattle.rollingmodel.specs.declared.RollingWindow.{RollingWindow}
 
 -- a day of 60 rates is right if each of them is
 pub day-right : (new : List ℤ) → length new ≡ 60 → day 2 .right new ≡ rightAll (dailyRate 2) new

@@ -11,18 +11,18 @@ use lib.IntN.{ℤ, pos}
 use Rattle.model.specs.Fields.{rightAll}
 use Rattle.model.specs.Layout.{dailyRate, day}
 use Rattle.model.specs.Numbers.{table}
-use Rattle.model.specs.Rolling.{slot, dayIn, daysHeld, sumsOf, windowRight, withDayIn, added, dropped}
-use Rattle.model.specs.declared.rolling.RollingWindow.{RollingWindow}
+use Rattle.rollingmodel.specs.Rolling.{slot, dayIn, daysHeld, sumsOf, windowRight, withDayIn, added, dropped}
+use Rattle.rollingmodel.specs.declared.RollingWindow.{RollingWindow}
 use Rattle.theory.proofs.acceptance.Runs.{right-more}
 use Rattle.theory.proofs.general.Lists.{and-second}
 use Rattle.theory.proofs.rolling.Held.{held-count}
 use Rattle.theory.proofs.rolling.Right.{right-facts}
 use Rattle.scan.specs.inner.Sums.{EachAtMost}
 use Rattle.scan.specs.declared.rates.Sums.{Sums}
-use Rattle.given.specs.inner.Raised.{raisedOr, summed, withDay}
-use Rattle.given.proofs.rates.Days.{summed-more, summed-most}
-use Rattle.rolling.specs.inner.Ring.{storedSum, EachAtLeast}
-use Rattle.rolling.proofs.Stored.{oldest-first, first-within, without-first, stored-are}
+use Rattle.givenrates.specs.inner.Raised.{raisedOr, summed, withDay}
+use Rattle.givenrates.proofs.Days.{summed-more, summed-most}
+use Rattle.ring.specs.inner.Ring.{storedSum, EachAtLeast}
+use Rattle.ring.proofs.Stored.{oldest-first, first-within, without-first, stored-are}
 
 -- ---- a day more
 

@@ -1,26 +1,23 @@
 // A rolling window of up to 70 trading days: the state goes in and comes out by value, and nothing is asked of it.
-mod slots;
-mod sums;
-
-use given::rates::add_day as add_rates;
-use model::rolling::ChangedWindow;
-use model::rolling::Day;
-use model::rolling::RollingWindow;
+use givenrates::add_day as add_rates;
+use numbers::runs::both;
+use ring::slots::day_in;
+use ring::slots::put_day;
+use ring::slots::slot_of;
+use ring::sums::same_sums;
+use ring::sums::stored_sums;
+use ring::sums::sum_held;
+use ring::sums::sums_without;
+use rollingmodel::ChangedWindow;
+use rollingmodel::Day;
+use rollingmodel::RollingWindow;
 use scan::rates::Sums;
-use scan::runs::both;
-use slots::day_in;
-use slots::put_day;
-use slots::slot_of;
-use sums::same_sums;
-use sums::stored_sums;
-use sums::sum_held;
-use sums::sums_without;
 ghost use mathlib.Core.Path.{_≡_};
 ghost use mathlib.Core.Bool.{true};
 ghost use mathlib.Core.List.{[], _∷_, _++_};
 ghost use Prim.Native.Nat.{_<_};
-ghost use Rattle.model.specs.Rolling.{daysHeld, windowRight, emptyWindow, added, dropped, addDay, dropDay};
-ghost use Rattle.given.specs.inner.Raised.{summed};
+ghost use Rattle.rollingmodel.specs.Rolling.{daysHeld, windowRight, emptyWindow, added, dropped, addDay, dropDay};
+ghost use Rattle.givenrates.specs.inner.Raised.{summed};
 
 pub fn empty() -> RollingWindow
     ensures { λ r. ⌜ r ≡ emptyWindow ⌝ }

@@ -9,18 +9,18 @@ use native.Mathlib.Omega.{arith}
 use lib.ListN.{length, getD, drop}
 use lib.IntN.{ℤ, pos, _+ℤ_}
 use Rattle.model.specs.Case.{FileCase, perStep, withDays, s}
-use Rattle.model.specs.Curve.{base, curve, natural, P}
-use Rattle.model.specs.Held.{held}
+use Rattle.method.specs.Curve.{base, curve, natural, P}
+use Rattle.heldcase.specs.Held.{held}
 use Rattle.model.specs.Limits.{WithinLimits}
 use Rattle.model.specs.Numbers.{every, table}
 use Rattle.model.specs.Refusals.{forwardsRight}
-use Rattle.model.specs.Rolling.{daysHeld, windowRight, windowRefusal, windowValuation, windowFactorsAfter, windowRatesAfter}
-use Rattle.model.specs.Saving.{given}
-use Rattle.model.specs.declared.case.Case.{Case}
+use Rattle.rollingmodel.specs.Rolling.{daysHeld, windowRight, windowRefusal, windowValuation, windowFactorsAfter, windowRatesAfter}
+use Rattle.savingmodel.specs.Saving.{given}
+use Rattle.heldcase.specs.declared.Case.{Case}
 use Rattle.model.specs.declared.case.CaseFields.{CaseFields}
 use Rattle.model.specs.declared.figures.Valuation.{Valuation}
 use Rattle.model.specs.declared.figures.Valuation.the-variants.{Refused, Valued}
-use Rattle.model.specs.declared.rolling.RollingWindow.{RollingWindow}
+use Rattle.rollingmodel.specs.declared.RollingWindow.{RollingWindow}
 use Rattle.theory.proofs.curve.CaseCurves.{base-sum}
 use Rattle.theory.proofs.general.Differences.{Diff}
 use Rattle.theory.proofs.general.Lists.{table-same, table-of}
@@ -30,8 +30,8 @@ use Rattle.scan.specs.declared.rates.Sums.{Sums}
 use Rattle.scan.specs.inner.Sums.{forwardRight, EachAtMost}
 use Rattle.scan.proofs.rates.Forwards.{forwards-are}
 use Rattle.scan.proofs.rates.Integers.{natural-raised}
-use Rattle.given.specs.inner.Raised.{summed}
-use Rattle.given.proofs.rates.Days.{summed-length, summed-most, summed-diff}
+use Rattle.givenrates.specs.inner.Raised.{summed}
+use Rattle.givenrates.proofs.Days.{summed-length, summed-most, summed-diff}
 use Rattle.working.specs.inner.Ranges.{CaseFits}
 use Rattle.working.specs.inner.Working.{factorsOn, ratesOn, moneyOf}
 use Rattle.working.proofs.HeldCase.{held-fits, held-valued}

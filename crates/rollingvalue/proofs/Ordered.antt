@@ -9,9 +9,9 @@ use lib.Dec.{leb, ltb}
 use Rattle.model.specs.Case.{FileCase}
 use Rattle.model.specs.Fields.{Check}
 use Rattle.model.specs.Refusals.{firstOf, forwardsRight}
-use Rattle.model.specs.Rolling.{daysHeld, windowRight, windowRefusal}
-use Rattle.model.specs.Saving.{caseChecks, caseRefusal}
-use Rattle.model.specs.declared.rolling.RollingWindow.{RollingWindow}
+use Rattle.rollingmodel.specs.Rolling.{daysHeld, windowRight, windowRefusal}
+use Rattle.savingmodel.specs.Saving.{caseChecks, caseRefusal}
+use Rattle.rollingmodel.specs.declared.RollingWindow.{RollingWindow}
 use Rattle.theory.proofs.acceptance.Checks.{after-none, after-some}
 use Rattle.theory.proofs.general.Lists.{and-false}
 use Rattle.theory.proofs.saving.Saved.{case-numbered}

@@ -1,9 +1,9 @@
 // The case as the engine holds it, from the fields that a host hands in and the sums of some days.
-use model::case::Case;
+use heldcase::Case;
 use model::case::CaseFields;
 ghost use mathlib.Core.Path.{_≡_};
 ghost use lib.ListN.{getD, length};
-ghost use Rattle.model.specs.Held.{padded};
+ghost use Rattle.heldcase.specs.Held.{padded};
 ghost use Rattle.rollingvalue.specs.inner.Joined.{joined};
 
 fn flow_or_zero(flows: &[u64], i: usize) -> u64

@@ -5,17 +5,17 @@ use case::join;
 use given::order::case_check;
 use model::case::CaseFields;
 use model::figures::Valuation;
-use model::rolling::RollingWindow;
 use rolling::check;
+use rollingmodel::RollingWindow;
 use scan::rates::Sums;
 use scan::rates::forwards_within;
 use working::value_case;
 ghost use mathlib.Core.Path.{_≡_};
 ghost use mathlib.Core.Bool.{true};
 ghost use lib.ListN.{length};
-ghost use Rattle.model.specs.Rolling.{daysHeld, windowRight, windowRefusal, windowValuation, windowFactorsAfter, windowRatesAfter};
-ghost use Rattle.model.specs.Saving.{given};
-ghost use Rattle.given.specs.inner.Raised.{summed};
+ghost use Rattle.rollingmodel.specs.Rolling.{daysHeld, windowRight, windowRefusal, windowValuation, windowFactorsAfter, windowRatesAfter};
+ghost use Rattle.savingmodel.specs.Saving.{given};
+ghost use Rattle.givenrates.specs.inner.Raised.{summed};
 
 // The number that a valuation is refused with, and 0 where it is not: 27, then 13 by the lengths of the two buffers, then the case's own,
 // then 4 and 6 of the window. `held` is what the check of the window has found.

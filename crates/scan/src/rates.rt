@@ -1,8 +1,8 @@
 // The rates of a run of days, 60 a day, each of 2 or 4 bytes and read once: whether all are within their limits, and their sums. They are
 // summed as naturals, 100,000 steps and the rate, in the units of the rate.
-use crate::cursor::number_at;
-use crate::runs::both;
-use model::case::Case;
+use heldcase::Case;
+use numbers::cursor::number_at;
+use numbers::runs::both;
 ghost use mathlib.Core.Path.{_≡_};
 ghost use mathlib.Core.Bool.{true};
 ghost use Prim.Native.Nat.{_*_, _^_, _<_, _≤_};

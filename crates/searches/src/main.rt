@@ -2,16 +2,16 @@
 // term by term and the lower rate first: L or U, the term, and the first and the last step that is left after 0, 1, .. 15 tests. Of a
 // refused file it prints R and the number.
 ghost use Prim.Native.Nat.{_≤_};
-ghost use Rattle.zerorates.specs.inner.Known.{Known};
+ghost use Rattle.search.specs.inner.Known.{Known};
 use libc::STDOUT_FILENO;
 use model::figures::Bracket;
 use model::figures::Valuation;
 use output::put_number;
-use zerorates::known::Interval;
-use zerorates::known::LAST_GUESS;
-use zerorates::known::known_near;
-use zerorates::search::TESTS;
-use zerorates::search::steps_left;
+use search::known::Interval;
+use search::known::LAST_GUESS;
+use search::known::known_near;
+use search::search::steps_left;
+use zerorates::rates::TESTS;
 
 // The row of one search, after its letter. Each number of tests is a search of its own, from the beginning. Of the 33 numbers none takes
 // more than 21 bytes.

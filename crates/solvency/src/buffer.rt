@@ -2,8 +2,8 @@
 ghost use mathlib.Core.Path.{_≡_};
 ghost use Prim.Native.Nat.{_+_, _*_, _^_, _≤_, _<_};
 ghost use Rattle.arith.specs.inner.Value.{val};
-ghost use Rattle.model.specs.Brackets.{bracket, endOf};
-ghost use Rattle.model.specs.Rounded as Rounded;
+ghost use Rattle.method.specs.Brackets.{bracket, endOf};
+ghost use Rattle.method.specs.Rounded as Rounded;
 ghost use Rattle.worth.specs.inner.Ranges.{UpTo};
 ghost use Rattle.losses.specs.inner.Ranges.{LossFits};
 ghost use Rattle.solvency.specs.inner.Ranges.{SixFit};

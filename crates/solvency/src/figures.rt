@@ -1,9 +1,9 @@
 // The assets, all ten figures, and the verdict that they give.
 ghost use mathlib.Core.Path.{_≡_};
 ghost use Rattle.model.specs.Limits.{AmountsWithin, ShocksWithin, PeopleWithin};
-ghost use Rattle.model.specs.Brackets.{bracket, endOf};
-ghost use Rattle.model.specs.Rounded as Rounded;
-ghost use Rattle.model.specs.Rounded.{figuresOf};
+ghost use Rattle.method.specs.Brackets.{bracket, endOf};
+ghost use Rattle.method.specs.Rounded as Rounded;
+ghost use Rattle.method.specs.Rounded.{figuresOf};
 ghost use Rattle.worth.specs.inner.OnCurves.{on};
 ghost use Rattle.solvency.specs.inner.ByWorths.{moneyBy};
 ghost use Rattle.worth.specs.inner.Ranges.{WorthFits, WorthsFit};

@@ -1,7 +1,7 @@
 // The verdict.
 ghost use mathlib.Core.Path.{_≡_};
-ghost use Rattle.model.specs.Brackets.{endOf};
-ghost use Rattle.model.specs.Rounded.{judge};
+ghost use Rattle.method.specs.Brackets.{endOf};
+ghost use Rattle.method.specs.Rounded.{judge};
 ghost use Rattle.solvency.specs.inner.Ranges.{Judgeable};
 use model::figures::Bracket;
 use model::figures::Verdict;

@@ -1,2 +1,2 @@
-// The theorems about the definitions of `model`, in proofs/. This crate has no code: an edit of a definition is put to the computed
-// statements of `model` without them.
+// The theorems about the definitions, in proofs/. There is no code here, and no definition: an edit of a definition is put to the computed
+// statements of its own crate, without them.

@@ -7,7 +7,7 @@ use native.Mathlib.Omega.{arith}
 use lib.Dec.{leb}
 use lib.ListN.{length, getD}
 use borrow.Author.Tests.{le-leb, lt-leb}
-use Rattle.model.specs.Window.{holds, figuresInOrder, factorPoint, moneyPoint, factorBracket, windowPoint}
+use Rattle.method.specs.Window.{holds, figuresInOrder, factorPoint, moneyPoint, factorBracket, windowPoint}
 use Rattle.model.specs.declared.figures.Bracket.{Bracket}
 use Rattle.model.specs.declared.figures.Figures.{Figures}
 use Rattle.model.specs.declared.window.Point.{Point}

@@ -12,13 +12,13 @@ use lib.ListN.{length, drop, getD, length-append}
 use Rattle.arith.specs.Rounding.{End, low, high}
 use Rattle.model.specs.Case.{FileCase}
 use Rattle.model.specs.Limits.{WithinLimits}
-use Rattle.model.specs.Curve.{base, curve}
-use Rattle.model.specs.Rounded as Rounded
-use Rattle.model.specs.Brackets.{bracket}
+use Rattle.method.specs.Curve.{base, curve}
+use Rattle.method.specs.Rounded as Rounded
+use Rattle.method.specs.Brackets.{bracket}
 use Rattle.model.specs.Layout.{caseOf}
 use Rattle.model.specs.Refusals.{firstOf, refusal}
-use Rattle.model.specs.Buffers.{byTerm, factorEntries, factorsAfter, valuationRefusal}
-use Rattle.model.specs.Window.{double, figuresInOrder, factorPoint, factorBracket}
+use Rattle.method.specs.Buffers.{byTerm, factorEntries, factorsAfter, valuationRefusal}
+use Rattle.method.specs.Window.{double, figuresInOrder, factorPoint, factorBracket}
 use Rattle.model.specs.declared.figures.Bracket.{Bracket}
 use Rattle.model.specs.declared.figures.Figures.{Figures}
 use Rattle.model.specs.declared.window.Point.the-variants.{Factor, Money}

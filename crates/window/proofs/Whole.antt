@@ -6,7 +6,7 @@ use lib.Dec.{T, le→leb, lit<}
 use lib.IntN.{pos}
 use lib.Ieee.{binary64, inFloat}
 use lib.Ieee.Back.{unsigned-back}
-use Rattle.model.specs.Window.{double}
+use Rattle.method.specs.Window.{double}
 use Rattle.window.specs.Holds.{Holds}
 
 pub small : (n : ℕ) → n ≤ 2 ^ 53 → T (inFloat binary64 (pos n))

@@ -5,9 +5,9 @@ use mathlib.Core.Path.{_≡_}
 use mathlib.Core.List.{List}
 use Rattle.arith.specs.Rounding.{End, low, high}
 use Rattle.model.specs.Case.{FileCase}
-use Rattle.model.specs.Curve.{base, curve}
-use Rattle.model.specs.Rounded as Rounded
-use Rattle.model.specs.Window.{double, windowPoint}
+use Rattle.method.specs.Curve.{base, curve}
+use Rattle.method.specs.Rounded as Rounded
+use Rattle.method.specs.Window.{double, windowPoint}
 use Rattle.model.specs.declared.figures.Figures.{Figures}
 use Rattle.model.specs.declared.window.Point.the-variants.{Factor, Money, Blank}
 use Rattle.window.specs.Holds.{Holds}

@@ -6,7 +6,7 @@ use model::window::Point;
 ghost use mathlib.Core.Path.{_≡_};
 ghost use Prim.Native.Nat.{_≤_, _<_, _^_};
 ghost use lib.ListN.{getD};
-ghost use Rattle.model.specs.Window.{figuresInOrder, factorPoint, moneyPoint, windowPoint};
+ghost use Rattle.method.specs.Window.{figuresInOrder, factorPoint, moneyPoint, windowPoint};
 ghost use Rattle.window.specs.Holds.{Holds};
 
 // Up to 2^53 a double holds every whole number.

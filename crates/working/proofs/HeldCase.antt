@@ -11,19 +11,19 @@ use Rattle.arith.specs.Rounding.{End}
 use Rattle.model.specs.Constants.{lastTerm}
 use Rattle.model.specs.Case.{FileCase}
 use Rattle.model.specs.Limits.{WithinLimits, FlowsWithin}
-use Rattle.model.specs.Curve.{Move, base, curve}
-use Rattle.model.specs.Held.{padded, held}
-use Rattle.model.specs.Buffers.{byTerm, factorEntries, rateEntries, written, answered}
-use Rattle.model.specs.Rounded as Rounded
-use Rattle.model.specs.Rounded.{rateOf}
-use Rattle.model.specs.declared.case.Case.{Case}
+use Rattle.method.specs.Curve.{Move, base, curve}
+use Rattle.heldcase.specs.Held.{padded, held}
+use Rattle.method.specs.Buffers.{byTerm, factorEntries, rateEntries, written, answered}
+use Rattle.method.specs.Rounded as Rounded
+use Rattle.method.specs.Rounded.{rateOf}
+use Rattle.heldcase.specs.declared.Case.{Case}
 use Rattle.model.specs.declared.figures.Valuation.{Valuation}
 use Rattle.model.specs.declared.figures.Valuation.the-variants.{Valued}
 use Rattle.theory.proofs.general.Lists.{length-table, getD-table}
 use Rattle.theory.proofs.curve.CaseCurves.{curve-within}
 use Rattle.theory.proofs.curve.Agree.{same-unadjusted}
 use Rattle.theory.proofs.money.Worth.{same-worth}
-use Rattle.curve.specs.inner.Shifted.{curveHeld}
+use Rattle.growths.specs.inner.Shifted.{curveHeld}
 use Rattle.working.proofs.HeldCurves.{held-per-step-most, held-agree, held-curve-within, held-base-within, held-factor}
 use Rattle.solvency.specs.declared.figures.Money.{Money}
 use Rattle.solvency.specs.inner.ByWorths.{moneyBy}

@@ -7,15 +7,15 @@ use lib.Dec.{lit<}
 use lib.ListN.{getD}
 use Rattle.model.specs.Case.{FileCase, perStep}
 use Rattle.model.specs.Limits.{WithinLimits}
-use Rattle.model.specs.Curve.{Move, base, curve, P}
-use Rattle.model.specs.inner.Shifts.{added, taken}
-use Rattle.model.specs.Held.{held}
-use Rattle.model.specs.Rounded as Rounded
+use Rattle.method.specs.Curve.{Move, base, curve, P}
+use Rattle.method.specs.inner.Shifts.{added, taken}
+use Rattle.heldcase.specs.Held.{held}
+use Rattle.method.specs.Rounded as Rounded
 use Rattle.theory.proofs.general.Lists.{getD-table}
-use Rattle.model.specs.inner.CurveWithin.{CurveWithin, BaseWithin}
+use Rattle.method.specs.inner.CurveWithin.{CurveWithin, BaseWithin}
 use Rattle.theory.proofs.curve.CaseCurves.{N-is, ufr-is, P-zero, P-shifted, per-step-most, curve-within, base-within}
-use Rattle.curve.specs.inner.Shifted.{shiftedSum, shiftedSums, movedSums, curveHeld}
-use Rattle.curve.proofs.Curves.{N-of, ufr-of, P-of}
+use Rattle.growths.specs.inner.Shifted.{shiftedSum, shiftedSums, movedSums, curveHeld}
+use Rattle.growths.proofs.Curves.{N-of, ufr-of, P-of}
 use Rattle.theory.proofs.curve.Agree.{Agree, same-factors, same-within, same-base}
 
 -- ---- the curves of a case

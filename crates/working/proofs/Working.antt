@@ -9,23 +9,23 @@ use lib.IntN.{ℤ}
 use lib.ListN.{length, take, getD, drop, length-append}
 use lib.Seq.{length-take-le}
 use Rattle.arith.specs.Rounding.{End, low, high}
-use Rattle.model.specs.Curve.{Move, base, up, down, P}
-use Rattle.model.specs.inner.Shifts.{added, taken}
-use Rattle.model.specs.Buffers.{byTerm, entryOf}
-use Rattle.model.specs.Rounded as Rounded
-use Rattle.model.specs.Rounded.{worth, rateOf}
-use Rattle.model.specs.declared.case.Case.{Case}
+use Rattle.method.specs.Curve.{Move, base, up, down, P}
+use Rattle.method.specs.inner.Shifts.{added, taken}
+use Rattle.method.specs.Buffers.{byTerm, entryOf}
+use Rattle.method.specs.Rounded as Rounded
+use Rattle.method.specs.Rounded.{worth, rateOf}
+use Rattle.heldcase.specs.declared.Case.{Case}
 use Rattle.model.specs.declared.figures.Valuation.the-variants.{Valued}
 use Rattle.theory.proofs.general.Lists.{getD-table}
 use Rattle.theory.proofs.general.Entries.{length-byTerm, entry-is, entry-in}
 use Rattle.theory.proofs.curve.Unadjusted.{unadjusted-most}
 use Rattle.theory.proofs.money.MoneySizes.{factor-most}
 use Rattle.theory.proofs.money.Worth.{same-worth}
-use Rattle.curve.specs.declared.shift.CurveSums.{CurveSums}
-use Rattle.curve.specs.inner.Shifted.{curveOf, shiftedSum, shiftedSums, movedSums, curveHeld}
-use Rattle.curve.specs.inner.Ranges.{ShiftWithin, FactorsWithin}
-use Rattle.curve.proofs.Curves.{N-of, P-of}
-use Rattle.zerorates.specs.inner.Ranges.{RatesWithin}
+use Rattle.growths.specs.declared.shift.CurveSums.{CurveSums}
+use Rattle.growths.specs.inner.Shifted.{curveOf, shiftedSum, shiftedSums, movedSums, curveHeld}
+use Rattle.growths.specs.inner.Ranges.{ShiftWithin, FactorsWithin}
+use Rattle.growths.proofs.Curves.{N-of, P-of}
+use Rattle.search.specs.inner.Ranges.{RatesWithin}
 use Rattle.zerorates.proofs.RateEntries.{rates-of-entries, entries-within}
 use Rattle.worth.specs.inner.OnCurves.{on, worths, entriesOn, factorsIn}
 use Rattle.solvency.specs.inner.ByWorths.{moneyBy}

@@ -1,24 +1,22 @@
 // The rounded working of a case that the engine holds: the factors of its three curves, adjusted for its pension flows and unadjusted for
 // its bonds, its zero rates, its figures and its verdict.
-mod fill;
-
 ghost use mathlib.Core.Path.{_≡_};
 ghost use Prim.Native.Nat.{_≤_};
 ghost use mathlib.Core.List.{_++_};
 ghost use lib.ListN.{length, drop};
-ghost use Rattle.model.specs.Curve.{base};
+ghost use Rattle.method.specs.Curve.{base};
 ghost use Rattle.model.specs.declared.figures.Valuation.the-variants.{Valued};
 ghost use Rattle.worth.specs.inner.OnCurves.{factorsIn};
 ghost use Rattle.worth.specs.inner.Ranges.{CurvesFit};
 ghost use Rattle.working.specs.inner.Working.{sumsOn, factorsOn, curvesBy, bondCurvesBy, ratesOn, moneyOn, moneyOf};
 ghost use Rattle.working.specs.inner.Ranges.{CaseFits, SumsFit};
-use curve::factor::factors;
-use curve::shift::CurveSums;
-use curve::shift::shifted_curve;
-use curve::unadjusted::unadjusted_factors;
-use fill::fill_factors;
-use fill::fill_rates;
-use model::case::Case;
+use bondcurve::unadjusted_factors;
+use curve::factors;
+use growths::shift::CurveSums;
+use growths::shift::shifted_curve;
+use heldcase::Case;
+use lent::fill_factors;
+use lent::fill_rates;
 use model::figures::Valuation;
 use solvency::figures::Money;
 use solvency::figures::money_by;

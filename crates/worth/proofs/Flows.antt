@@ -1,6 +1,6 @@
 -- The worth of flows, one flow more: what the loop over them adds.
 -- Assumes nothing.
-use Rattle.model.specs.Buffers.{entryOf}
+use Rattle.method.specs.Buffers.{entryOf}
 use Prim.Native.Nat.{ℕ, suc, _+_, _*_, _-_, _^_, _≤_, _<_}
 use mathlib.Core.Path.{_≡_, refl}
 use mathlib.Core.List.{List, [], _∷_, _++_}
@@ -13,8 +13,8 @@ use lib.Seq.{take-suc, length-take-le}
 use Rattle.arith.specs.inner.Range.{InRange}
 use Rattle.arith.specs.Rounding.{End, low, high, divide}
 use Rattle.arith.proofs.Rounding.{divide-le}
-use Rattle.model.specs.Rounded.{worth}
-use Rattle.model.specs.Brackets.{bracket}
+use Rattle.method.specs.Rounded.{worth}
+use Rattle.method.specs.Brackets.{bracket}
 use Rattle.model.specs.declared.figures.Bracket.{Bracket}
 use Rattle.worth.specs.inner.Ranges.{FactorsFit}
 

@@ -1,9 +1,9 @@
 // What flows are worth at the factors of a curve: pension flows at adjusted factors, bond flows at unadjusted ones.
-ghost use Rattle.model.specs.Buffers.{entryOf};
+ghost use Rattle.method.specs.Buffers.{entryOf};
 ghost use mathlib.Core.Path.{_≡_};
 ghost use lib.ListN.{take};
-ghost use Rattle.model.specs.Rounded.{worth};
-ghost use Rattle.model.specs.Brackets.{bracket};
+ghost use Rattle.method.specs.Rounded.{worth};
+ghost use Rattle.method.specs.Brackets.{bracket};
 ghost use Rattle.worth.specs.inner.OnCurves.{worths, entriesOn};
 ghost use Rattle.worth.specs.inner.Ranges.{FlowsFit, FactorsFit, CurvesFit, WorthFits, WorthsFit};
 use arith::scale::mul_div_ceil;

@@ -11,10 +11,10 @@ use lib.ListN.{length}
 use lib.IntN.{ℤ}
 use Rattle.model.specs.Case.{FileCase, knownForm, unitsPerStep}
 use Rattle.model.specs.Layout.{Present, fileOf}
-use Rattle.model.specs.Saving.{daysOf, given, needed, shortest, caseRefusal, saveRefusal, saveAnswer, savedAfter}
+use Rattle.savingmodel.specs.Saving.{daysOf, given, needed, shortest, caseRefusal, saveRefusal, saveAnswer, savedAfter}
 use Rattle.model.specs.declared.case.CaseFields.{CaseFields}
-use Rattle.model.specs.declared.saved.Saved.{Saved}
-use Rattle.model.specs.declared.saved.Saved.the-variants.{Written, Refused}
+use Rattle.savingmodel.specs.declared.Saved.{Saved}
+use Rattle.savingmodel.specs.declared.Saved.the-variants.{Written, Refused}
 use Rattle.theory.proofs.acceptance.Form.{by-form}
 use Rattle.theory.proofs.acceptance.Within.{days-limited}
 use Rattle.theory.proofs.saving.Saved.{case-within, refused-first, saved-fits, saved-too-long}
@@ -24,8 +24,8 @@ use Rattle.fields.specs.declared.Included.{Included}
 use Rattle.fields.specs.inner.Days.{RightDays}
 use Rattle.fields.specs.inner.Present.{presentOf}
 use Rattle.fields.proofs.rates.Days.{rates-count}
-use Rattle.writer.specs.inner.Form.{savedLength}
-use Rattle.writer.proofs.Parts.{case-length}
+use Rattle.form.specs.inner.Form.{savedLength}
+use Rattle.form.proofs.Parts.{case-length}
 
 abbrev pub SavedAs : FileCase → List ℕ → Saved → List ℕ → Type 0
 SavedAs k held r after = (r ≡ saveAnswer k (length held)) × (after ≡ savedAfter k held)

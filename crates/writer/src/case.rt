@@ -1,5 +1,4 @@
 // The bytes of a case: the map and the fields, in bit order.
-use crate::form::map_of;
 use encode::put_bytes;
 use fields::Included;
 use fields::flows::put_bonds;
@@ -9,6 +8,7 @@ use fields::numbers::put_people;
 use fields::numbers::put_shocks;
 use fields::numbers::put_ufr;
 use fields::rates::put_days_field;
+use form::map_of;
 use model::case::CaseFields;
 ghost use mathlib.Core.Path.{_≡_};
 ghost use mathlib.Core.Bool.{true};
@@ -16,11 +16,11 @@ ghost use Prim.Native.Nat.{_+_, _≤_};
 ghost use lib.ListN.{length};
 ghost use Rattle.model.specs.Case.{knownForm};
 ghost use Rattle.model.specs.Layout.{fileOf};
-ghost use Rattle.model.specs.Saving.{given};
+ghost use Rattle.savingmodel.specs.Saving.{given};
 ghost use Rattle.output.specs.inner.Wrote.{Wrote};
 ghost use Rattle.fields.specs.inner.Days.{RightDays};
 ghost use Rattle.fields.specs.inner.Present.{presentOf};
-ghost use Rattle.writer.specs.inner.Form.{listsLength, listsBytes, othersLength, othersBytes, savedLength};
+ghost use Rattle.form.specs.inner.Form.{listsLength, listsBytes, othersLength, othersBytes, savedLength};
 
 // The days, if they have two bytes a rate, the pension flows and the bond flows.
 fn put_lists(

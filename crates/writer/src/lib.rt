@@ -1,16 +1,15 @@
 // A case written back in its shortest form, into a lent buffer.
 mod case;
-mod form;
 
 use case::put_case;
 use form::needed;
 use form::saved_length;
 use given::order::case_check;
 use model::case::CaseFields;
-use model::saved::Saved;
+use savingmodel::Saved;
 ghost use mathlib.Core.Path.{_≡_};
 ghost use lib.ListN.{length};
-ghost use Rattle.model.specs.Saving.{given, saveAnswer, savedAfter};
+ghost use Rattle.savingmodel.specs.Saving.{given, saveAnswer, savedAfter};
 
 // A refusal writes no byte: the case is checked, and the room, before the first is written.
 pub fn save(f: CaseFields, rates: &[i32], pension: &[u64], bonds: &[u64], out: &mut [u8]) -> Saved

@@ -1,3 +1,2 @@
--- RateEntries: the conclusions for the callers of this crate. Left: what two modules cite. What serves one module is in its folder.
+-- RateEntries: the conclusions for the callers of this crate.
 pub mod RateEntries
-mod Left

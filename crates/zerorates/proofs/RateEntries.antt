@@ -4,15 +4,15 @@ use mathlib.Core.Path.{_≡_, refl, ap}
 use native.Mathlib.Omega.{arith}
 use lib.Dec.{leb, leb→le}
 use Rattle.arith.specs.Rounding.{End, low, high}
-use Rattle.model.specs.Curve.{Curve}
-use Rattle.model.specs.Rounded as Rounded
-use Rattle.model.specs.Rounded.{stepAt, tested, rateOf}
-use Rattle.model.specs.Brackets.{largest, smallest}
-use Rattle.model.specs.Buffers.{byTerm, entryOf}
-use Rattle.model.specs.inner.CurveWithin.{BaseWithin}
+use Rattle.method.specs.Curve.{Curve}
+use Rattle.method.specs.Rounded as Rounded
+use Rattle.method.specs.Rounded.{stepAt, tested, rateOf}
+use Rattle.method.specs.Brackets.{largest, smallest}
+use Rattle.method.specs.Buffers.{byTerm, entryOf}
+use Rattle.method.specs.inner.CurveWithin.{BaseWithin}
 use Rattle.theory.proofs.general.Entries.{entry-is}
 use Rattle.theory.proofs.curve.ZeroRate.{first-passes, last-passes}
-use Rattle.zerorates.specs.inner.Ranges.{RatesWithin}
+use Rattle.search.specs.inner.Ranges.{RatesWithin}
 
 -- lists of the same figures
 same-terms : {A : Type 0} (f g : End → ℕ → A) (n : ℕ) → ((e : End) (t : ℕ) → 1 ≤ t → t ≤ n → f e t ≡ g e t) → byTerm f n ≡ byTerm g n

@@ -1,4 +1,2 @@
 // The zero rates of the terms 1 to 120, found by bisection from the discount factors.
-pub mod known;
 pub mod rates;
-pub mod search;

@@ -1,15 +1,17 @@
 // The zero rates of the terms, from the factors.
 ghost use mathlib.Core.Path.{_≡_};
 ghost use Prim.Native.Nat.{_≤_};
-ghost use Rattle.model.specs.Rounded.{stepAt, rateOf};
-ghost use Rattle.model.specs.Buffers.{byTerm, entryOf};
-ghost use Rattle.zerorates.specs.inner.Ranges.{RatesWithin};
-use super::known::guess_rate;
-use super::known::known_near;
-use super::search::TESTS;
-use super::search::steps_left;
-use model::case::Case;
+ghost use Rattle.method.specs.Rounded.{stepAt, rateOf};
+ghost use Rattle.method.specs.Buffers.{byTerm, entryOf};
+ghost use Rattle.search.specs.inner.Ranges.{RatesWithin};
+use heldcase::Case;
 use model::figures::Bracket;
+use search::known::guess_rate;
+use search::known::known_near;
+use search::search::steps_left;
+
+// So many tests leave one step of all: each halves what is left, and 2^15 is above 22,001.
+pub const TESTS: usize = 15;
 
 // The rate of a step.
 fn rate_at(step: u64) -> i64

@@ -6,8 +6,8 @@ use Prim.Native.Nat.{ℕ, _+_, _*_}
 use lib.ListN.{getD}
 use Rattle.model.specs.Fields.{Check}
 use Rattle.model.specs.inner.Positions.{bondCount, amountsAt, shocksAt}
-use Rattle.scan.specs.inner.Found.{Found}
-use Rattle.scan.specs.declared.places.Places.{Places}
+use Rattle.places.specs.inner.Found.{Found}
+use Rattle.places.specs.declared.Places.{Places}
 use Rattle.checks.specs.inner.After.{afterAll}
 
 pub there : (b : Bool) (q : ℕ) (cs : List Check) {n : ℕ} → b ≡ true → n ≡ afterAll q cs → n ≡ afterAll q (cond b cs [])

@@ -12,9 +12,9 @@ use Rattle.model.specs.Layout.{day, days, caseOf}
 use Rattle.model.specs.Refusals.{forwardsRight, daysAt, dayCount}
 use Rattle.theory.proofs.acceptance.Form.{days-read, step-read}
 use Rattle.model.specs.inner.Positions.{rateBytes, pensionAt, pensionCount, bondsAt, pensionField}
-use Rattle.scan.specs.inner.Found.{Found}
+use Rattle.places.specs.inner.Found.{Found}
 use Rattle.scan.specs.inner.Sums.{daysFrom, Summed, forwardRight}
-use Rattle.scan.specs.declared.places.Places.{Places}
+use Rattle.places.specs.declared.Places.{Places}
 use Rattle.scan.specs.declared.rates.Sums.{Sums}
 use Rattle.scan.proofs.rates.Days.{sums-are}
 use Rattle.scan.proofs.rates.Forwards.{forwards-are}

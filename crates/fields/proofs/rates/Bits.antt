@@ -14,7 +14,7 @@ use mir.Syntax.{w32, w64}
 use mir.Val.{SFits, toZ, ofZ}
 use mir.ValLaws.{toZ-ofZ}
 use Rattle.model.specs.Case.{knownForm}
-use Rattle.model.specs.Curve.{natural}
+use Rattle.method.specs.Curve.{natural}
 use Rattle.model.specs.Numbers.{bytesOf, unsigned}
 use Rattle.model.specs.Layout.{dailyRate}
 use Rattle.theory.proofs.acceptance.Form.{by-form}

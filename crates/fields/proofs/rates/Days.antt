@@ -9,11 +9,11 @@ use lib.Dec.{eqb}
 use lib.ListN.{length, take, drop, take-append-drop, length-drop}
 use lib.IntN.{ℤ}
 use Rattle.model.specs.Fields.{Fixed, bytesAll, rightAll}
-use Rattle.model.specs.Saving.{daysIn, daysOf}
+use Rattle.savingmodel.specs.Saving.{daysIn, daysOf}
 use Rattle.model.specs.Layout.{dailyRate, day}
 use Rattle.theory.proofs.general.Lists.{and-first, and-second, and-both}
 use Rattle.encode.proofs.Runs.{run-parts}
-use Rattle.given.proofs.rates.Days.{whole-days, whole-count, no-count}
+use Rattle.givenrates.proofs.Days.{whole-days, whole-count, no-count}
 
 -- ---- runs that are right
 

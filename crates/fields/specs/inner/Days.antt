@@ -6,7 +6,7 @@ use mathlib.Core.List.{List}
 use lib.ListN.{length}
 use lib.IntN.{ℤ}
 use Rattle.model.specs.Fields.{rightAll}
-use Rattle.model.specs.Saving.{daysOf}
+use Rattle.savingmodel.specs.Saving.{daysOf}
 use Rattle.model.specs.Layout.{day}
 
 -- it has a day or more, and its rates, of w bytes, are within their limits

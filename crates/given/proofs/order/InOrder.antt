@@ -12,7 +12,7 @@ use Rattle.model.specs.Case.{FileCase, knownForm, perStep, withDays}
 use Rattle.model.specs.Fields.{Check, within, rightAll}
 use Rattle.model.specs.Layout.{day, days, flow, amounts, shocks, people, Present, Parts, firstFields, layout, daysIf, partsOf}
 use Rattle.model.specs.Refusals.{firstOf, forwardsRight}
-use Rattle.model.specs.Saving.{needed, caseChecks, caseRefusal}
+use Rattle.savingmodel.specs.Saving.{needed, caseChecks, caseRefusal}
 use Rattle.model.specs.inner.Positions.{ufrField, daysField, pensionField, bondsField, amountsField}
 use Rattle.theory.proofs.acceptance.Checks.{Hold, numbered, hold-parts, none-hold, after-none, after-some}
 use Rattle.theory.proofs.acceptance.Form.{by-form, laterFields}

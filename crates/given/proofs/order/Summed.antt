@@ -13,16 +13,16 @@ use Rattle.model.specs.Case.{unitsPerStep}
 use Rattle.model.specs.Fields.{Check, within, rightAll}
 use Rattle.model.specs.Numbers.{every}
 use Rattle.model.specs.Refusals.{forwardsRight}
-use Rattle.model.specs.Saving.{daysIn, daysOf}
+use Rattle.savingmodel.specs.Saving.{daysIn, daysOf}
 use Rattle.model.specs.Layout.{day}
 use Rattle.theory.proofs.general.Lists.{and-second, and-false}
 use Rattle.scan.specs.inner.Sums.{forwardRight, EachAtMost}
 use Rattle.scan.specs.declared.rates.Sums.{Sums}
 use Rattle.scan.proofs.rates.Forwards.{forwards-are}
 use Rattle.checks.specs.inner.After.{after, afterAll}
-use Rattle.given.specs.inner.Raised.{summed}
-use Rattle.given.proofs.rates.Signed.{units-few}
-use Rattle.given.proofs.rates.Days.{days-count, days-are, summed-most, summed-diff}
+use Rattle.givenrates.specs.inner.Raised.{summed}
+use Rattle.givenrates.proofs.Signed.{units-few}
+use Rattle.givenrates.proofs.Days.{days-count, days-are, summed-most, summed-diff}
 
 -- a number that is there is kept
 decided : (q : ℕ) (b c : Bool) → after (after q false 4) b 5 ≡ after (after q false 4) c 5

@@ -7,8 +7,8 @@ use native.Mathlib.Omega.{arith}
 use borrow.Author.Tests.{lt-leb, ne-eqb}
 use lib.Dec.{leb, eqb}
 use Rattle.model.specs.Fields.{within, numberOf, rightAll}
-use Rattle.model.specs.Saving.{allZero}
-use Rattle.scan.proofs.runs.Loops.{at-most}
+use Rattle.savingmodel.specs.Saving.{allZero}
+use Rattle.numbers.proofs.runs.Loops.{at-most}
 
 pub any-width : (w u most : ℕ) (vs : List ℕ) → rightAll (numberOf w 0 most) vs ≡ rightAll (numberOf u 0 most) vs
 any-width w u most [] = refl

@@ -1,7 +1,7 @@
 -- `host::ginghamowl_listing` meets its contract. Assumes nothing.
 use mathlib.Core.Path.{ap, _∙_}
 use lib.ListN.{length}
-use Rattle.model.specs.Listing.{listingAfter, listingLength}
+use Rattle.method.specs.Listing.{listingAfter, listingLength}
 use borrow.Author.Needs.{needs}
 use Rattle.host.proofs.ginghamowl_listing.Statement.{statement}
 use Rattle.host.proofs.ginghamowl_listing.Tie as tie

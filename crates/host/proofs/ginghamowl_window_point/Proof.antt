@@ -1,6 +1,6 @@
 -- `host::ginghamowl_window_point` meets its contract. Assumes nothing.
 use mathlib.Core.Path.{ap, _∙_}
-use Rattle.model.specs.Window.{windowPoint}
+use Rattle.method.specs.Window.{windowPoint}
 use Rattle.flat.specs.Flat.{hostPoint}
 use borrow.Author.Needs.{needs}
 use Rattle.host.proofs.ginghamowl_window_point.Statement.{statement}

@@ -1,7 +1,7 @@
 -- `put_first_losses`: three lines, by the names of the paper.
 use mathlib.Core.Path.{refl}
 use Rattle.model.specs.Numbers.{table}
-use Rattle.model.specs.Listing.{ascii}
+use Rattle.method.specs.Listing.{ascii}
 use Rattle.lines.specs.inner.Parts.{firstLosses}
 use Rattle.output.proofs.Stores.{then}
 use Rattle.lines.proofs.Named.{as-line}

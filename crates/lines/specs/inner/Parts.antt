@@ -2,7 +2,7 @@
 -- and that the lines begin the listing of `model` in `listing`.
 use Prim.Native.Nat.{ℕ}
 use mathlib.Core.List.{List, _++_}
-use Rattle.model.specs.Listing.{line}
+use Rattle.method.specs.Listing.{line}
 use Rattle.model.specs.declared.figures.Figures.{Figures}
 
 -- the parts: L B A, S1 S2 S3, S4 S5 S6 S

@@ -2,7 +2,7 @@
 use native.Mathlib.Omega.{arith}
 use mathlib.Core.Path.{refl}
 use Rattle.model.specs.Numbers.{table}
-use Rattle.model.specs.Listing.{ascii, decimal, listing}
+use Rattle.method.specs.Listing.{ascii, decimal, listing}
 use Rattle.output.proofs.Stores.{then, as-text}
 use borrow.Author.Needs.{needs}
 use Rattle.listing.proofs.put_refused.Statement.{statement}

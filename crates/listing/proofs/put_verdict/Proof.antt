@@ -1,6 +1,6 @@
 -- `put_verdict`: V, a space, the word and the end of the line.
 use Rattle.model.specs.Numbers.{table}
-use Rattle.model.specs.Listing.{ascii}
+use Rattle.method.specs.Listing.{ascii}
 use Rattle.listing.specs.inner.Judged.{judged}
 use Rattle.output.proofs.Stores.{then}
 use borrow.Author.Needs.{needs}

@@ -8,7 +8,7 @@ use Rattle.arith.specs.inner.Range.{InRange}
 use Rattle.arith.specs.Rounding.{End, low, high, divide}
 use Rattle.arith.proofs.Rounding.{divide-le, divide-common}
 use Rattle.model.specs.Limits.{AmountsWithin, ShocksWithin}
-use Rattle.model.specs.Rounded.{creditLoss}
+use Rattle.method.specs.Rounded.{creditLoss}
 use Rattle.model.specs.declared.case.Amounts.{Amounts}
 use Rattle.model.specs.declared.case.Shocks.{Shocks}
 use Rattle.worth.specs.inner.Ranges.{UpTo}

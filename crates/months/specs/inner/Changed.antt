@@ -1,6 +1,6 @@
 -- The case as the engine holds it, with another UFR.
 use Prim.Native.Nat.{ℕ}
-use Rattle.model.specs.declared.case.Case.{Case}
+use Rattle.heldcase.specs.declared.Case.{Case}
 
 abbrev pub changed : ℕ → Case → Case
 changed ufr c = record {

@@ -1,6 +1,6 @@
 -- `put_number`: the space, then the digits.
 use Rattle.model.specs.Numbers.{table}
-use Rattle.model.specs.Listing.{ascii, decimal}
+use Rattle.method.specs.Listing.{ascii, decimal}
 use Rattle.output.specs.inner.Lines.{spaced}
 use Rattle.output.proofs.Stores.{then}
 use borrow.Author.Needs.{needs}

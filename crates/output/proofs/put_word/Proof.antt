@@ -2,7 +2,7 @@
 use native.Mathlib.Omega.{arith}
 use mathlib.Core.Path.{refl}
 use Rattle.model.specs.Numbers.{table}
-use Rattle.model.specs.Listing.{ascii, word}
+use Rattle.method.specs.Listing.{ascii, word}
 use Rattle.output.proofs.Stores.{as-text}
 use borrow.Author.Needs.{needs}
 use Rattle.output.proofs.put_word.Statement.{statement}

@@ -1,7 +1,7 @@
 -- A number and a line, as bytes. That a line is the one of `model` is proved in `lines`.
 use Prim.Native.Nat.{ℕ}
 use mathlib.Core.List.{List, _++_}
-use Rattle.model.specs.Listing.{ascii, decimal}
+use Rattle.method.specs.Listing.{ascii, decimal}
 use Rattle.model.specs.declared.figures.Bracket.{Bracket}
 
 -- a number with a space before it

@@ -2,7 +2,7 @@
 use Prim.Native.Nat.{_-_, _≤_}
 use mathlib.Core.Path.{_≡_, sym}
 use native.Mathlib.Omega.{arith}
-use Rattle.model.specs.Rounded.{tested}
+use Rattle.method.specs.Rounded.{tested}
 use Rattle.ratetests.specs.inner.Results.{endBy}
 use Rattle.ratetests.proofs.Tested.{tested-none, test-fits, test-more, test-all}
 use Rattle.ratetests.proofs.rounded_result.Statement.{statement}

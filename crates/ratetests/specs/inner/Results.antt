@@ -2,8 +2,8 @@
 use Prim.Native.Nat.{ℕ, _≤_}
 use mathlib.Core.Bool.{Bool, cond}
 use Rattle.arith.specs.Rounding.{End, low, high}
-use Rattle.model.specs.Rounded.{tested}
-use Rattle.model.specs.Bisection.{rateTest}
+use Rattle.method.specs.Rounded.{tested}
+use Rattle.searchmodel.specs.Bisection.{rateTest}
 use Rattle.model.specs.declared.figures.Bracket.{Bracket}
 
 -- the end to which a result is rounded

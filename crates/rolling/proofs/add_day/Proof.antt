@@ -4,9 +4,9 @@ use native.Mathlib.Omega.{arith}
 use borrow.Author.Tests.{not-true, not-false}
 use lib.ListN.{length}
 use borrow.Author.Needs.{needs}
-use Rattle.model.specs.Rolling.{daysHeld}
+use Rattle.rollingmodel.specs.Rolling.{daysHeld}
 use Rattle.theory.proofs.rolling.Held.{held-count}
-use Rattle.given.proofs.rates.Days.{summed-most}
+use Rattle.givenrates.proofs.Days.{summed-most}
 use Rattle.rolling.proofs.Windows.{with-new, new-told}
 use Rattle.rolling.proofs.Answered.{add-27, add-15, add-5, add-0}
 use Rattle.rolling.proofs.add_day.Statement.{statement}

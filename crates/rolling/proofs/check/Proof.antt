@@ -4,7 +4,7 @@ use mathlib.Core.Path.{sym, subst}
 use native.Mathlib.Omega.{arith}
 use lib.Dec.{T}
 use borrow.Author.Needs.{needs}
-use Rattle.rolling.proofs.Stored.{held-most, count-wrong, start-wrong, both-right, right-summed}
+use Rattle.ring.proofs.Stored.{held-most, count-wrong, start-wrong, both-right, right-summed}
 use Rattle.rolling.proofs.check.Statement.{statement}
 use Rattle.rolling.proofs.check.Tie as tie
 

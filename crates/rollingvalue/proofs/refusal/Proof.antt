@@ -4,7 +4,7 @@ use mathlib.Core.Path.{_≡_, sym, _∙_}
 use native.Mathlib.Omega.{arith}
 use borrow.Author.Tests.{not-true, not-false}
 use borrow.Author.Needs.{needs}
-use Rattle.model.specs.Saving.{given}
+use Rattle.savingmodel.specs.Saving.{given}
 use Rattle.theory.proofs.rolling.Right.{right-facts}
 use Rattle.rollingvalue.proofs.Ordered.{value-27, short-factors, short-rates, value-case, value-4, value-6, value-0}
 use Rattle.rollingvalue.proofs.Joined.{sums-most, forwards-held}

@@ -2,8 +2,8 @@
 use Prim.Native.Nat.{ℕ}
 use mathlib.Core.List.{List}
 use lib.ListN.{length}
-use Rattle.model.specs.Held.{padded}
-use Rattle.model.specs.declared.case.Case.{Case}
+use Rattle.heldcase.specs.Held.{padded}
+use Rattle.heldcase.specs.declared.Case.{Case}
 use Rattle.model.specs.declared.case.CaseFields.{CaseFields}
 
 abbrev pub joined : CaseFields → ℕ → List ℕ → List ℕ → List ℕ → Case

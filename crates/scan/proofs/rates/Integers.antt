@@ -11,7 +11,7 @@ use lib.Dec.{T, leb, ltb, eqb, leb→le, le→leb}
 use lib.IntN.{ℤ, pos, negℤ, _+ℤ_, _-ℤ_}
 use lib.Signed.{leZ}
 use Rattle.model.specs.Case.{knownForm, unitsPerStep}
-use Rattle.model.specs.Curve.{natural}
+use Rattle.method.specs.Curve.{natural}
 use Rattle.model.specs.Fields.{withinZ}
 use Rattle.model.specs.Layout.{dailyRate}
 use Rattle.model.specs.Numbers.{number, twosComplement}

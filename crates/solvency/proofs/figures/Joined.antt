@@ -3,11 +3,11 @@ use Prim.Native.Nat.{ℕ, _^_}
 use mathlib.Core.Path.{_≡_, refl, ap, _∙_}
 use native.Mathlib.Omega.{arith}
 use Rattle.arith.specs.Rounding.{End}
-use Rattle.model.specs.Curve.{base}
+use Rattle.method.specs.Curve.{base}
 use Rattle.model.specs.Limits.{AmountsWithin}
-use Rattle.model.specs.Rounded as Rounded
-use Rattle.model.specs.Rounded.{judge, figuresOf, verdictOf, bufferOf, interestLoss, equityLoss, currencyLoss, commodityLoss, creditLoss, mortalityLoss}
-use Rattle.model.specs.Brackets.{bracket, endOf}
+use Rattle.method.specs.Rounded as Rounded
+use Rattle.method.specs.Rounded.{judge, figuresOf, verdictOf, bufferOf, interestLoss, equityLoss, currencyLoss, commodityLoss, creditLoss, mortalityLoss}
+use Rattle.method.specs.Brackets.{bracket, endOf}
 use Rattle.model.specs.declared.case.Amounts.{Amounts}
 use Rattle.model.specs.declared.case.Shocks.{Shocks}
 use Rattle.model.specs.declared.case.People.{People}

@@ -1,8 +1,8 @@
 -- The figures and the verdict together, by what flows are worth on the three curves.
 use Prim.Native.Nat.{ℕ}
 use Rattle.arith.specs.Rounding.{End}
-use Rattle.model.specs.Curve.{Move}
-use Rattle.model.specs.Rounded.{figuresOf, verdictOf}
+use Rattle.method.specs.Curve.{Move}
+use Rattle.method.specs.Rounded.{figuresOf, verdictOf}
 use Rattle.model.specs.declared.case.Amounts.{Amounts}
 use Rattle.model.specs.declared.case.Shocks.{Shocks}
 use Rattle.model.specs.declared.case.People.{People}

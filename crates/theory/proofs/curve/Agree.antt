@@ -7,10 +7,10 @@ use native.Mathlib.Decide.{decLe}
 use native.Mathlib.Nat.{mul-le-mul-left, mul-lt-mul-of-pos-right, mul-pos}
 use Rattle.arith.specs.Rounding.{End, low, high, other, divide}
 use Rattle.arith.proofs.Rounding.{divide-floor, divide-ceiling, divide-low-is, divide-high-is}
-use Rattle.model.specs.Curve.{Curve, P}
-use Rattle.model.specs.Rounded as Rounded
-use Rattle.model.specs.Rounded.{scaled}
-use Rattle.model.specs.inner.CurveWithin.{CurveWithin, BaseWithin}
+use Rattle.method.specs.Curve.{Curve, P}
+use Rattle.method.specs.Rounded as Rounded
+use Rattle.method.specs.Rounded.{scaled}
+use Rattle.method.specs.inner.CurveWithin.{CurveWithin, BaseWithin}
 use Rattle.theory.proofs.curve.Growth.{growth-suc, P-pos}
 use Rattle.theory.proofs.curve.Unadjusted.{unadjusted-is}
 use Rattle.theory.proofs.curve.Factor.{weighed-to-60, weighed-from-61, rounded-factor-first, rounded-factor-next}

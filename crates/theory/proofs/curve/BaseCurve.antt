@@ -12,12 +12,12 @@ use native.Mathlib.Nat.{mul-le-mul, mul-le-mul-left, mul-le-mul-right, le-of-mul
 use native.Mathlib.Decide.{decLe}
 use Rattle.arith.specs.Rounding.{End, low, high, other, divide}
 use Rattle.arith.proofs.Ends.{_≤⟨_⟩_, _and_, _times_, from, reverse, equal, divide-order}
-use Rattle.model.specs.Curve.{Curve, P, weight}
-use Rattle.model.specs.Exact.{G}
+use Rattle.method.specs.Curve.{Curve, P, weight}
+use Rattle.method.specs.Exact.{G}
 use Rattle.model.specs.Constants.{unit}
-use Rattle.model.specs.Rounded as Rounded
-use Rattle.model.specs.Rounded.{scaled, ufrGrowth}
-use Rattle.model.specs.inner.CurveWithin.{BaseWithin}
+use Rattle.method.specs.Rounded as Rounded
+use Rattle.method.specs.Rounded.{scaled, ufrGrowth}
+use Rattle.method.specs.inner.CurveWithin.{BaseWithin}
 use Rattle.theory.proofs.curve.Bracket.{Bounded}
 use Rattle.theory.proofs.curve.Steps.{across, mixed, scaled-order}
 use Rattle.theory.proofs.curve.Growth.{growth-in, growth-width, G-pos, G-suc, P-pos}

@@ -12,10 +12,10 @@ use borrow.Author.Tests.{le-leb, lt-leb, leb-true, leb-false}
 use lib.Dec.{leb, T, leb→le, le→leb, lit<, lit≤}
 use Rattle.arith.specs.Rounding.{End, low, high}
 use Rattle.arith.proofs.Rounding.{divide-ceiling}
-use Rattle.model.specs.Rounded.{stepAt, tested, lowerTest, upperTest, rateOf}
-use Rattle.model.specs.Brackets.{largest, smallest}
-use Rattle.model.specs.Bisection.{middle, leaves, halved, afterTests, rateTest, stepsLeft, isLeft, howMany, countLeft, mostLeft, ShortSearch}
-use Rattle.model.specs.declared.steps.StepsLeft.{StepsLeft}
+use Rattle.method.specs.Rounded.{stepAt, tested, lowerTest, upperTest, rateOf}
+use Rattle.method.specs.Brackets.{largest, smallest}
+use Rattle.searchmodel.specs.Bisection.{middle, leaves, halved, afterTests, rateTest, stepsLeft, isLeft, howMany, countLeft, mostLeft, ShortSearch}
+use Rattle.searchmodel.specs.declared.StepsLeft.{StepsLeft}
 use Rattle.theory.proofs.general.Powers.{pow-pos}
 use Rattle.theory.proofs.general.Search.{largest-found, smallest-found, largest-splits, smallest-splits}
 use Rattle.theory.proofs.curve.RateTests.{tested-anti}

@@ -3,7 +3,7 @@
 use Prim.Native.Nat.{ℕ, _*_}
 use Rattle.arith.specs.Rounding.{End}
 use Rattle.arith.proofs.Ends.{_≤⟨_⟩_}
-use Rattle.model.specs.Fraction.{Fraction}
+use Rattle.method.specs.Fraction.{Fraction}
 
 -- a record, so that the numbers are read off a proof
 pub record Bounded (e : End) (u n : ℕ) (x : Fraction) : Type 0 where

@@ -15,10 +15,10 @@ use lib.Signed.{_≤ℤ_}
 use Rattle.model.specs.Constants.{stepsPerOne}
 use Rattle.model.specs.Case.{FileCase, unitsPerStep, perStep, s}
 use Rattle.model.specs.Limits.{Between, DayWithin, DaysWithin, WithinLimits, forward}
-use Rattle.model.specs.Curve.{Move, base, up, down, shift, movedSum, curve, natural, P}
-use Rattle.model.specs.inner.Shifts.{added, taken}
+use Rattle.method.specs.Curve.{Move, base, up, down, shift, movedSum, curve, natural, P}
+use Rattle.method.specs.inner.Shifts.{added, taken}
 use Rattle.theory.proofs.general.Differences.{Diff, again, diff-pos, diff-sum, diff-neg, diff-minus, diff-times, diff-le, le-diff, natural-is}
-use Rattle.model.specs.inner.CurveWithin.{CurveWithin, BaseWithin}
+use Rattle.method.specs.inner.CurveWithin.{CurveWithin, BaseWithin}
 
 diff-minus-pos : (n : ℕ) → Diff (negℤ (pos n)) 0 n
 diff-minus-pos n = diff-neg (pos n) n 0 (diff-pos n)

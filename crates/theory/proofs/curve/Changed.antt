@@ -8,7 +8,7 @@ use lib.IntN.{ℤ, pos, _+ℤ_, _*ℤ_}
 use lib.ListN.{length}
 use Rattle.model.specs.Case.{FileCase, knownForm, unitsPerStep, perStep, s, withUfr, withDays, withPension}
 use Rattle.model.specs.Limits.{FlowsWithin, DaysWithin, WithinLimits}
-use Rattle.model.specs.Curve.{Move, base, up, down, shift, movedSum, curve, P}
+use Rattle.method.specs.Curve.{Move, base, up, down, shift, movedSum, curve, P}
 
 module _ (k : FileCase) (w : WithinLimits k) where
   pub within-ufr : (ufr : ℕ) → ufr ≤ 5000 → WithinLimits (withUfr ufr k)

@@ -8,14 +8,14 @@ use native.Mathlib.Nat.{mul-le-mul-left, mul-pos}
 use native.Mathlib.Decide.{decLe}
 use Rattle.arith.specs.Rounding.{End, low, high, other, divide}
 use Rattle.arith.proofs.Ends.{_≤⟨_⟩_}
-use Rattle.model.specs.Fraction.{_÷ᶠ_, _≈_}
-use Rattle.model.specs.Curve.{Curve, P, weight}
-use Rattle.model.specs.Exact as Exact
-use Rattle.model.specs.Exact.{G, onePlusUfr, productOf}
+use Rattle.method.specs.Fraction.{_÷ᶠ_, _≈_}
+use Rattle.method.specs.Curve.{Curve, P, weight}
+use Rattle.method.specs.Exact as Exact
+use Rattle.method.specs.Exact.{G, onePlusUfr, productOf}
 use Rattle.model.specs.Constants.{unit}
-use Rattle.model.specs.Rounded as Rounded
-use Rattle.model.specs.Rounded.{scaled, ufrGrowth}
-use Rattle.model.specs.inner.CurveWithin.{CurveWithin}
+use Rattle.method.specs.Rounded as Rounded
+use Rattle.method.specs.Rounded.{scaled, ufrGrowth}
+use Rattle.method.specs.inner.CurveWithin.{CurveWithin}
 use Rattle.theory.proofs.curve.Bracket.{Bounded}
 use Rattle.theory.proofs.general.Conditions.{cond-le, cond-gt}
 use Rattle.theory.proofs.curve.Steps.{same, cross, weigh, mixed, ends, across, exactly}

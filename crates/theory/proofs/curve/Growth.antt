@@ -7,13 +7,13 @@ use mathlib.Core.Path.{_≡_}
 use native.Mathlib.Omega.{arith}
 use native.Mathlib.Nat.{mul-le-mul-left, mul-le-mul-right, pow-suc, mul-pos}
 use Rattle.arith.specs.Rounding.{End, low, high, divide}
-use Rattle.model.specs.Fraction.{_//_, _*ᶠ_, _÷ᶠ_, _^ᶠ_, _≈_}
-use Rattle.model.specs.Curve.{Curve, P}
-use Rattle.model.specs.Exact.{G, onePlusR}
+use Rattle.method.specs.Fraction.{_//_, _*ᶠ_, _÷ᶠ_, _^ᶠ_, _≈_}
+use Rattle.method.specs.Curve.{Curve, P}
+use Rattle.method.specs.Exact.{G, onePlusR}
 use Rattle.model.specs.Constants.{unit}
-use Rattle.model.specs.Rounded as Rounded
-use Rattle.model.specs.Rounded.{scaled}
-use Rattle.model.specs.inner.CurveWithin.{CurveWithin}
+use Rattle.method.specs.Rounded as Rounded
+use Rattle.method.specs.Rounded.{scaled}
+use Rattle.method.specs.inner.CurveWithin.{CurveWithin}
 use Rattle.theory.proofs.curve.Bracket.{Bounded}
 use Rattle.theory.proofs.general.Powers.{pow-pos, forward}
 use Rattle.theory.proofs.curve.Steps.{step, same, scaled-in, scaled-width, wider}

@@ -8,9 +8,9 @@ use mathlib.Core.Path.{_≡_, refl}
 use native.Mathlib.Omega.{arith}
 use native.Mathlib.Nat.{mul-le-mul-left, mul-le-mul-right, le-of-mul-le-mul-right, le-trans}
 use Rattle.arith.specs.Rounding.{End, low, high, divide}
-use Rattle.model.specs.Curve.{weight, weights}
+use Rattle.method.specs.Curve.{weight, weights}
 use Rattle.model.specs.Constants.{unit, stepsPerOne}
-use Rattle.model.specs.Rounded.{scaled, tested}
+use Rattle.method.specs.Rounded.{scaled, tested}
 use Rattle.model.specs.Numbers.{every}
 use Rattle.theory.proofs.curve.Steps.{widthAfter, scaled-wide, scaled-in, scaled-mono, scaled-ends}
 use Rattle.theory.proofs.general.Lists.{every-le}

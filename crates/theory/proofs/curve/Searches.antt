@@ -10,9 +10,9 @@ use Rattle.model.specs.Case.{FileCase}
 use Rattle.model.specs.Limits.{WithinLimits}
 use Rattle.model.specs.Layout.{caseOf}
 use Rattle.model.specs.Refusals.{refusal}
-use Rattle.model.specs.Curve.{base, curve}
-use Rattle.model.specs.Rounded as Rounded
-use Rattle.model.specs.Bisection.{ShortSearch}
+use Rattle.method.specs.Curve.{base, curve}
+use Rattle.method.specs.Rounded as Rounded
+use Rattle.searchmodel.specs.Bisection.{ShortSearch}
 use Rattle.theory.proofs.acceptance.Acceptance.{within-limits}
 use Rattle.theory.proofs.curve.CaseCurves.{base-within}
 use Rattle.theory.proofs.curve.Bisection.{short-search}

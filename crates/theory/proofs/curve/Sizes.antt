@@ -10,11 +10,11 @@ use native.Mathlib.Decide.{decLe}
 use Rattle.arith.specs.Rounding.{low, high, divide}
 use Rattle.arith.proofs.Rounding.{divide-le}
 use Rattle.model.specs.Constants.{unit}
-use Rattle.model.specs.Curve.{Curve, P, weight, weights}
-use Rattle.model.specs.Rounded as Rounded
-use Rattle.model.specs.Rounded.{scaled, ufrGrowth}
+use Rattle.method.specs.Curve.{Curve, P, weight, weights}
+use Rattle.method.specs.Rounded as Rounded
+use Rattle.method.specs.Rounded.{scaled, ufrGrowth}
 use Rattle.model.specs.Numbers.{every}
-use Rattle.model.specs.inner.CurveWithin.{CurveWithin}
+use Rattle.method.specs.inner.CurveWithin.{CurveWithin}
 use Rattle.theory.proofs.general.Lists.{every-le}
 use Rattle.theory.proofs.general.Powers.{pow-pos, backward}
 use Rattle.theory.proofs.curve.Steps.{scaled-in, scaled-width}

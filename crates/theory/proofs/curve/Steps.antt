@@ -11,9 +11,9 @@ use native.Mathlib.Decide.{decLe}
 use Rattle.arith.specs.Rounding.{End, low, high, other, divide}
 use Rattle.arith.proofs.Rounding.{divide-floor, divide-ceiling}
 use Rattle.arith.proofs.Ends.{_≤⟨_⟩_, _and_, _less_, _times_, from, cancel, reverse, equal, divide-end, divide-best, divide-order}
-use Rattle.model.specs.Fraction.{Fraction, _//_, _+ᶠ_, _∸ᶠ_, _*ᶠ_, _÷ᶠ_, _^ᶠ_, _≈_}
+use Rattle.method.specs.Fraction.{Fraction, _//_, _+ᶠ_, _∸ᶠ_, _*ᶠ_, _÷ᶠ_, _^ᶠ_, _≈_}
 use Rattle.model.specs.Constants.{unit}
-use Rattle.model.specs.Rounded.{scaled}
+use Rattle.method.specs.Rounded.{scaled}
 use Rattle.theory.proofs.general.Powers.{pow-pos}
 use Rattle.theory.proofs.curve.Bracket.{Bounded}
 

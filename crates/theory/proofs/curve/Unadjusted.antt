@@ -8,14 +8,14 @@ use native.Mathlib.Omega.{arith}
 use native.Mathlib.Nat.{pow-zero, le-trans, mul-pos}
 use Rattle.arith.specs.Rounding.{End, low, high, divide}
 use Rattle.model.specs.Constants.{unit}
-use Rattle.model.specs.Fraction.{_^ᶠ_, _≈_}
-use Rattle.model.specs.Curve.{Curve, P}
-use Rattle.model.specs.Exact as Exact
-use Rattle.model.specs.Exact.{G, onePlusR, productOf}
-use Rattle.model.specs.Rounded as Rounded
-use Rattle.model.specs.Rounded.{scaled}
+use Rattle.method.specs.Fraction.{_^ᶠ_, _≈_}
+use Rattle.method.specs.Curve.{Curve, P}
+use Rattle.method.specs.Exact as Exact
+use Rattle.method.specs.Exact.{G, onePlusR, productOf}
+use Rattle.method.specs.Rounded as Rounded
+use Rattle.method.specs.Rounded.{scaled}
 use Rattle.model.specs.Numbers.{every}
-use Rattle.model.specs.inner.CurveWithin.{CurveWithin}
+use Rattle.method.specs.inner.CurveWithin.{CurveWithin}
 use Rattle.theory.proofs.curve.Bracket.{Bounded}
 use Rattle.theory.proofs.general.Lists.{every-le}
 use Rattle.theory.proofs.general.Powers.{pow-pos}

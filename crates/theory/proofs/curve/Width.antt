@@ -10,12 +10,12 @@ use native.Mathlib.Nat.{add-suc, le-dest, mul-le-mul, mul-le-mul-left, mul-le-mu
 use native.Mathlib.Decide.{decLe}
 use Rattle.arith.specs.Rounding.{low, high, divide}
 use Rattle.arith.proofs.Rounding.{divide-floor, divide-ceiling, divide-le}
-use Rattle.model.specs.Curve.{Curve, P, weight, weights}
+use Rattle.method.specs.Curve.{Curve, P, weight, weights}
 use Rattle.model.specs.Constants.{unit}
-use Rattle.model.specs.Rounded as Rounded
-use Rattle.model.specs.Rounded.{scaled, ufrGrowth}
+use Rattle.method.specs.Rounded as Rounded
+use Rattle.method.specs.Rounded.{scaled, ufrGrowth}
 use Rattle.model.specs.Numbers.{every}
-use Rattle.model.specs.inner.CurveWithin.{CurveWithin}
+use Rattle.method.specs.inner.CurveWithin.{CurveWithin}
 use Rattle.theory.proofs.curve.Steps.{wider, scaled-width, scaled-mono, ends}
 use Rattle.theory.proofs.curve.Growth.{growth-width, P-pos}
 use Rattle.theory.proofs.curve.Factor.{least, weighed-least, weighed-to-60, weighed-from-61, weighed-in, growth-fraction-pos, rounded-factor-to-20, rounded-factor-first, rounded-factor-next}

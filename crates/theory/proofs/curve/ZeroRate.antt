@@ -14,15 +14,15 @@ use lib.IntN.{ℤ, pos, negℤ, _+ℤ_}
 use lib.Signed.{_≤ℤ_, _<ℤ_}
 use Rattle.arith.specs.Rounding.{End, low, high, other, divide}
 use Rattle.arith.proofs.Ends.{_≤⟨_⟩_, _and_, _times_, from, cancel, reverse}
-use Rattle.model.specs.Curve.{Curve, natural, weight, weights}
-use Rattle.model.specs.Exact as Exact
+use Rattle.method.specs.Curve.{Curve, natural, weight, weights}
+use Rattle.method.specs.Exact as Exact
 use Rattle.model.specs.Constants.{unit, stepsPerOne}
-use Rattle.model.specs.Rounded as Rounded
-use Rattle.model.specs.Rounded.{scaled, tested, stepAt, lowerTest, upperTest}
-use Rattle.model.specs.Fraction.{Fraction}
-use Rattle.model.specs.inner.CurveWithin.{BaseWithin}
+use Rattle.method.specs.Rounded as Rounded
+use Rattle.method.specs.Rounded.{scaled, tested, stepAt, lowerTest, upperTest}
+use Rattle.method.specs.Fraction.{Fraction}
+use Rattle.method.specs.inner.CurveWithin.{BaseWithin}
 use Rattle.model.specs.Limits.{Between}
-use Rattle.model.specs.Demand3.{RateOrdered, RateBounds}
+use Rattle.method.specs.Demand3.{RateOrdered, RateBounds}
 use Rattle.theory.proofs.general.Differences.{Diff, again, diff-pos, diff-sum, diff-neg, diff-minus, le-diff, lt-diff, natural-is}
 use Rattle.model.specs.Numbers.{every}
 use Rattle.theory.proofs.curve.Steps.{scaled-in}

@@ -9,15 +9,15 @@ use lib.IntN.{pos, _+ℤ_}
 use Rattle.arith.specs.Rounding.{End, low, high}
 use Rattle.arith.proofs.Ends.{from}
 use Rattle.model.specs.Constants.{unit, lastTerm}
-use Rattle.model.specs.Fraction.{Fraction, _*ᶠ_, whole}
+use Rattle.method.specs.Fraction.{Fraction, _*ᶠ_, whole}
 use Rattle.model.specs.Case.{FileCase}
 use Rattle.model.specs.Limits.{WithinLimits}
-use Rattle.model.specs.Curve.{Curve, base, curve, P}
-use Rattle.model.specs.Exact as Exact
-use Rattle.model.specs.Rounded as Rounded
-use Rattle.model.specs.Brackets.{bracket, endOf}
-use Rattle.model.specs.Demand3.{Bounds, In, SquareIn, Given, Demand3}
-use Rattle.model.specs.inner.CurveWithin.{CurveWithin}
+use Rattle.method.specs.Curve.{Curve, base, curve, P}
+use Rattle.method.specs.Exact as Exact
+use Rattle.method.specs.Rounded as Rounded
+use Rattle.method.specs.Brackets.{bracket, endOf}
+use Rattle.method.specs.Demand3.{Bounds, In, SquareIn, Given, Demand3}
+use Rattle.method.specs.inner.CurveWithin.{CurveWithin}
 use Rattle.theory.proofs.curve.Bracket.{Bounded}
 use Rattle.theory.proofs.general.Differences.{not-cut}
 use Rattle.theory.proofs.curve.CaseCurves.{curve-within, base-within}

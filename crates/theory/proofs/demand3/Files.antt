@@ -5,7 +5,7 @@ use mathlib.Core.List.{List}
 use Prim.Native.Nat.{ℕ}
 use Rattle.model.specs.Layout.{caseOf}
 use Rattle.model.specs.Refusals.{refusal}
-use Rattle.model.specs.Demand3.{Given, Demand3}
+use Rattle.method.specs.Demand3.{Given, Demand3}
 use Rattle.theory.proofs.acceptance.Acceptance.{within-limits}
 use Rattle.theory.proofs.demand3.Demand3Proved.{IsRounded, demand3}
 

@@ -9,13 +9,13 @@ use native.Mathlib.Omega.{arith}
 use lib.IntN.{pos, negℤ, _+ℤ_}
 use lib.Signed.{_≤ℤ_, _<ℤ_}
 use Rattle.arith.specs.Rounding.{End, low, high}
-use Rattle.model.specs.Fraction.{Fraction}
+use Rattle.method.specs.Fraction.{Fraction}
 use Rattle.model.specs.Case.{FileCase}
-use Rattle.model.specs.Curve.{Move, base, curve, natural, P}
-use Rattle.model.specs.Exact as Exact
-use Rattle.model.specs.Brackets.{endOf}
-use Rattle.model.specs.Margins.{WL, WB, NearFirst, NearSecond}
-use Rattle.model.specs.Demand3.{In, Given, Demand3}
+use Rattle.method.specs.Curve.{Move, base, curve, natural, P}
+use Rattle.method.specs.Exact as Exact
+use Rattle.method.specs.Brackets.{endOf}
+use Rattle.method.specs.Margins.{WL, WB, NearFirst, NearSecond}
+use Rattle.method.specs.Demand3.{In, Given, Demand3}
 use Rattle.model.specs.declared.figures.Verdict.the-variants.{Onbeslist}
 
 -- a fraction between two numbers that count it, `scale` to 1

@@ -5,10 +5,10 @@ use mathlib.Core.List.{List, _++_}
 use Prim.Native.Nat.{ℕ, zero, suc}
 use native.Mathlib.Omega.{arith}
 use lib.IntN.{ℤ, pos}
-use Rattle.model.specs.Buffers.{answered, factorEntries, rateEntries, entryOf, rateEntryOf}
+use Rattle.method.specs.Buffers.{answered, factorEntries, rateEntries, entryOf, rateEntryOf}
 use Rattle.model.specs.Case.{FileCase}
-use Rattle.model.specs.Curve.{base, curve}
-use Rattle.model.specs.Rounded as Rounded
+use Rattle.method.specs.Curve.{base, curve}
+use Rattle.method.specs.Rounded as Rounded
 use Rattle.model.specs.declared.figures.Figures.{Figures}
 use Rattle.model.specs.declared.figures.Verdict.{Verdict}
 use Rattle.model.specs.declared.figures.Valuation.{Valuation}

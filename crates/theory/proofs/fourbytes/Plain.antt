@@ -12,9 +12,9 @@ use lib.Signed.{_≤ℤ_}
 use Rattle.model.specs.Case.{FileCase, perStep, s}
 use Rattle.model.specs.Limits.{DaysWithin, WithinLimits, forward}
 use Rattle.model.specs.Layout.{stands, fileMap, caseOf}
-use Rattle.model.specs.Curve.{Move, base, up, down, movedSum, curve}
+use Rattle.method.specs.Curve.{Move, base, up, down, movedSum, curve}
 use Rattle.model.specs.Refusals.{refusal, ratesPart, daysAt, dayCount}
-use Rattle.model.specs.Saving.{shortest}
+use Rattle.savingmodel.specs.Saving.{shortest}
 use Rattle.theory.proofs.acceptance.Acceptance.{days-reach}
 use Rattle.theory.proofs.saving.Saved.{saved-once}
 

@@ -11,9 +11,9 @@ use lib.Signed.{_≤ℤ_}
 use Rattle.arith.specs.Rounding.{End}
 use Rattle.model.specs.Case.{FileCase, unitsPerStep, perStep, s}
 use Rattle.model.specs.Limits.{Between, DayWithin, DaysWithin, WithinLimits, forward}
-use Rattle.model.specs.Curve.{Move, base, up, down, shift, movedSum, curve, natural, P}
-use Rattle.model.specs.Rounded as Rounded
-use Rattle.model.specs.FourBytes.{rewritten}
+use Rattle.method.specs.Curve.{Move, base, up, down, shift, movedSum, curve, natural, P}
+use Rattle.method.specs.Rounded as Rounded
+use Rattle.method.specs.FourBytes.{rewritten}
 use Rattle.theory.proofs.general.Differences.{times-sum, times-minus, times-times, times-pos, natural-times, times-le, times-neg}
 use Rattle.theory.proofs.curve.CaseCurves.{curve-within}
 use Rattle.theory.proofs.curve.Changed.{within-days}

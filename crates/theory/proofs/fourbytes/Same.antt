@@ -13,13 +13,13 @@ use Rattle.model.specs.Limits.{WithinLimits}
 use Rattle.model.specs.Layout.{stands, presentIn, fileMap, caseOf, Keeps}
 use Rattle.model.specs.Refusals.{firstOf, refusal}
 use Rattle.model.specs.Constants.{lastTerm}
-use Rattle.model.specs.Curve.{base}
-use Rattle.model.specs.Rounded as Rounded
-use Rattle.model.specs.Rounded.{rateOf}
-use Rattle.model.specs.Buffers as Buffers
-use Rattle.model.specs.Buffers.{valuationRefusal, byTerm, factorEntries, rateEntries, written, answered, valuationOf}
-use Rattle.model.specs.Listing.{listing}
-use Rattle.model.specs.FourBytes.{rewritten, rewrittenFile, SameAsBefore}
+use Rattle.method.specs.Curve.{base}
+use Rattle.method.specs.Rounded as Rounded
+use Rattle.method.specs.Rounded.{rateOf}
+use Rattle.method.specs.Buffers as Buffers
+use Rattle.method.specs.Buffers.{valuationRefusal, byTerm, factorEntries, rateEntries, written, answered, valuationOf}
+use Rattle.method.specs.Listing.{listing}
+use Rattle.method.specs.FourBytes.{rewritten, rewrittenFile, SameAsBefore}
 use Rattle.model.specs.declared.figures.Valuation.the-variants.{Valued}
 use Rattle.theory.proofs.acceptance.Acceptance.{within-limits, agrees-shown, two-bytes, keeps-accepted}
 use Rattle.theory.proofs.fourbytes.Rewritten.{within-rewritten, factors-same, figures-same, verdict-same}

@@ -2,7 +2,7 @@
 use Prim.Native.Nat.{ℕ}
 use mathlib.Core.Path.{_≡_, ap}
 use Rattle.arith.specs.Rounding.{End, low, high}
-use Rattle.model.specs.Brackets.{bracket, endOf}
+use Rattle.method.specs.Brackets.{bracket, endOf}
 use Rattle.model.specs.declared.figures.Bracket.{Bracket}
 
 -- brackets with the same ends

@@ -8,7 +8,7 @@ use native.Mathlib.Nat.{not-suc-le-zero, mul-le-mul-left}
 use lib.Dec.{T, ltb, leb→le, le→leb, ltb→lt, lt→ltb, nltb→le}
 use lib.IntN.{ℤ, pos, negsuc, negℤ, _+ℤ_, _-ℤ_, _*ℤ_, subℕ}
 use lib.Signed.{leZ, _≤ℤ_, _<ℤ_}
-use Rattle.model.specs.Curve.{natural}
+use Rattle.method.specs.Curve.{natural}
 
 -- z is a - b
 abbrev pub Diff : ℤ → ℕ → ℕ → Type 0

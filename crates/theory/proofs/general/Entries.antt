@@ -10,7 +10,7 @@ use native.Mathlib.Nat.{not-suc-le-zero, le-of-suc-le-suc, eq-or-lt-of-le}
 use lib.ListN.{length, getD, drop, set, length-append, List·getD-append}
 use lib.Seq.{getD-append-add, append-snoc}
 use Rattle.arith.specs.Rounding.{End, low, high}
-use Rattle.model.specs.Buffers.{byTerm, entryOf, entryOr}
+use Rattle.method.specs.Buffers.{byTerm, entryOf, entryOr}
 use Rattle.theory.proofs.general.Lists.{one-filled}
 
 module _ {A : Type 0} (f : End → ℕ → A) where

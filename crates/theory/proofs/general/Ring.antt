@@ -9,7 +9,7 @@ use native.Mathlib.Omega.{arith}
 use lib.ListN.{length, getD, take, drop, length-append, length-drop, List·getD-append}
 use lib.Seq.{length-take-le, getD-take, getD-drop, getD-append-add, ext-getD}
 use Rattle.model.specs.Numbers.{table}
-use Rattle.model.specs.Rolling.{slot}
+use Rattle.rollingmodel.specs.Rolling.{slot}
 use Rattle.theory.proofs.general.Lists.{length-table, getD-table}
 
 module _ (m start : ℕ) where

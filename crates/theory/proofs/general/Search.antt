@@ -9,7 +9,7 @@ use native.Mathlib.Nat.{not-suc-le-zero}
 use native.Mathlib.Decide.{decLe}
 use borrow.Author.Tests.{le-leb, lt-leb}
 use lib.Dec.{leb, T}
-use Rattle.model.specs.Brackets.{largest, smallest}
+use Rattle.method.specs.Brackets.{largest, smallest}
 
 -- where index i passes, so does the one found, on the right side of i
 pub largest-found : (f : ℕ → Bool) (n none i : ℕ) → i < n → T (f i) → T (f (largest f n none)) × (largest f n none < n) × (i ≤ largest f n none)

@@ -6,13 +6,13 @@ use mathlib.Core.Path.{_≡_, ap, fun-ext}
 use native.Mathlib.Omega.{arith}
 use lib.ListN.{length}
 use Rattle.arith.specs.Rounding.{End}
-use Rattle.model.specs.Fraction.{Fraction, _//_, _÷ᶠ_, _^ᶠ_, whole}
+use Rattle.method.specs.Fraction.{Fraction, _//_, _÷ᶠ_, _^ᶠ_, whole}
 use Rattle.model.specs.Case.{FileCase, perStep, withUfr}
-use Rattle.model.specs.Curve.{Move, curve, P}
-use Rattle.model.specs.Exact as Exact
-use Rattle.model.specs.Exact.{G, productOf}
-use Rattle.model.specs.Rounded as Rounded
-use Rattle.model.specs.Rounded.{scaled, figuresOf, verdictOf}
+use Rattle.method.specs.Curve.{Move, curve, P}
+use Rattle.method.specs.Exact as Exact
+use Rattle.method.specs.Exact.{G, productOf}
+use Rattle.method.specs.Rounded as Rounded
+use Rattle.method.specs.Rounded.{scaled, figuresOf, verdictOf}
 use Rattle.theory.proofs.curve.Changed.{ufr-P}
 use Rattle.theory.proofs.curve.Factor.{factor-to-20, rounded-factor-to-20}
 use Rattle.theory.proofs.money.Worth.{same-worth, same-exact-worth}

@@ -9,14 +9,14 @@ use native.Mathlib.Decide.{decLe}
 use Rattle.arith.specs.Rounding.{End, low, high, other, divide}
 use Rattle.arith.specs.Root.{root}
 use Rattle.arith.proofs.Ends.{_and_, _times_, from, cancel, divide-end, root-end}
-use Rattle.model.specs.Fraction.{Fraction, _//_, _+ᶠ_, _*ᶠ_, square, whole, larger, _≤ᶠ_}
+use Rattle.method.specs.Fraction.{Fraction, _//_, _+ᶠ_, _*ᶠ_, square, whole, larger, _≤ᶠ_}
 use Rattle.model.specs.Case.{FileCase, allExceptCurrency, ageGap}
 use Rattle.model.specs.Limits.{WithinLimits}
-use Rattle.model.specs.Curve.{Move, base, up, down, curve}
-use Rattle.model.specs.Exact as Exact
-use Rattle.model.specs.Exact.{loss, S², S6²}
-use Rattle.model.specs.Rounded as Rounded
-use Rattle.model.specs.Rounded.{mortality}
+use Rattle.method.specs.Curve.{Move, base, up, down, curve}
+use Rattle.method.specs.Exact as Exact
+use Rattle.method.specs.Exact.{loss, S², S6²}
+use Rattle.method.specs.Rounded as Rounded
+use Rattle.method.specs.Rounded.{mortality}
 use Rattle.theory.proofs.curve.Bracket.{Bounded}
 use Rattle.theory.proofs.curve.CaseCurves.{curve-within}
 use Rattle.theory.proofs.general.Conditions.{cond-le, cond-gt}

@@ -9,10 +9,10 @@ use Rattle.arith.proofs.Rounding.{divide-le}
 use Rattle.arith.proofs.Root.{root-le}
 use Rattle.model.specs.Case.{FileCase, ageGap}
 use Rattle.model.specs.Limits.{WithinLimits}
-use Rattle.model.specs.Curve.{Curve, Move, base, up, down, curve}
-use Rattle.model.specs.Rounded as Rounded
-use Rattle.model.specs.Rounded.{mortality, buffer}
-use Rattle.model.specs.inner.CurveWithin.{CurveWithin}
+use Rattle.method.specs.Curve.{Curve, Move, base, up, down, curve}
+use Rattle.method.specs.Rounded as Rounded
+use Rattle.method.specs.Rounded.{mortality, buffer}
+use Rattle.method.specs.inner.CurveWithin.{CurveWithin}
 use Rattle.theory.proofs.curve.CaseCurves.{curve-within}
 use Rattle.theory.proofs.curve.Factor.{factor-ends}
 use Rattle.theory.proofs.curve.Sizes.{factor-size}

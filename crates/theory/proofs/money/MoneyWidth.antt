@@ -12,10 +12,10 @@ use Rattle.arith.proofs.Rounding.{divide-width}
 use Rattle.arith.proofs.Root.{unsquare, root-floor, root-le}
 use Rattle.model.specs.Case.{FileCase, ageGap}
 use Rattle.model.specs.Limits.{WithinLimits}
-use Rattle.model.specs.Curve.{Move, base, up, down, curve}
-use Rattle.model.specs.Rounded as Rounded
-use Rattle.model.specs.Rounded.{mortality, buffer}
-use Rattle.model.specs.Margins.{WL, WB}
+use Rattle.method.specs.Curve.{Move, base, up, down, curve}
+use Rattle.method.specs.Rounded as Rounded
+use Rattle.method.specs.Rounded.{mortality, buffer}
+use Rattle.method.specs.Margins.{WL, WB}
 use Rattle.theory.proofs.curve.CaseCurves.{curve-within}
 use Rattle.theory.proofs.money.Worth.{adjusted-known, unadjusted-known, worth-width}
 

@@ -11,13 +11,13 @@ use native.Mathlib.Nat.{mul-le-mul, mul-le-mul-right, mul-lt-mul-of-pos-right, m
 use native.Mathlib.Decide.{decLe}
 use Rattle.arith.specs.Rounding.{End, low, high}
 use Rattle.arith.proofs.Ends.{_≤⟨_⟩_, _and_, _times_, from}
-use Rattle.model.specs.Fraction.{Fraction, _∸ᶠ_, _*ᶠ_, square, whole, _≤ᶠ_}
+use Rattle.method.specs.Fraction.{Fraction, _∸ᶠ_, _*ᶠ_, square, whole, _≤ᶠ_}
 use Rattle.model.specs.Case.{FileCase}
 use Rattle.model.specs.Limits.{WithinLimits}
-use Rattle.model.specs.Curve.{base}
-use Rattle.model.specs.Exact as Exact
-use Rattle.model.specs.Rounded as Rounded
-use Rattle.model.specs.Margins.{WL, WB, NearFirst, NearSecond, firstMargin, secondMargin}
+use Rattle.method.specs.Curve.{base}
+use Rattle.method.specs.Exact as Exact
+use Rattle.method.specs.Rounded as Rounded
+use Rattle.method.specs.Margins.{WL, WB, NearFirst, NearSecond, firstMargin, secondMargin}
 use Rattle.model.specs.declared.figures.Verdict.the-variants.{Dekkingstekort, Reservetekort, VrijVermogen, Onbeslist}
 use Rattle.theory.proofs.curve.Bracket.{Bounded}
 use Rattle.theory.proofs.general.Conditions.{cond-le, cond-gt}

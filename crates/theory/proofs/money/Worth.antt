@@ -11,12 +11,12 @@ use Rattle.arith.specs.Rounding.{End, low, high, divide}
 use Rattle.arith.proofs.Rounding.{divide-floor, divide-ceiling, divide-le}
 use Rattle.arith.proofs.Ends.{_and_, _times_, from, cancel, divide-end}
 use Rattle.model.specs.Constants.{unit}
-use Rattle.model.specs.Fraction.{Fraction, _*ᶠ_, whole}
-use Rattle.model.specs.Curve.{Curve}
-use Rattle.model.specs.Exact as Exact
-use Rattle.model.specs.Rounded as Rounded
-use Rattle.model.specs.Margins.{weightedSum, W}
-use Rattle.model.specs.inner.CurveWithin.{CurveWithin}
+use Rattle.method.specs.Fraction.{Fraction, _*ᶠ_, whole}
+use Rattle.method.specs.Curve.{Curve}
+use Rattle.method.specs.Exact as Exact
+use Rattle.method.specs.Rounded as Rounded
+use Rattle.method.specs.Margins.{weightedSum, W}
+use Rattle.method.specs.inner.CurveWithin.{CurveWithin}
 use Rattle.theory.proofs.curve.Bracket.{Bounded}
 use Rattle.theory.proofs.curve.Steps.{exactly, sum}
 use Rattle.theory.proofs.curve.Unadjusted.{unadjusted-in, unadjusted-den, unadjusted-width}

@@ -5,9 +5,9 @@ use mathlib.Core.List.{List}
 use Prim.Native.Nat.{ℕ}
 use lib.ListN.{length, drop}
 use lib.IntN.{ℤ}
-use Rattle.model.specs.Buffers.{entryOf, rateEntryOf}
-use Rattle.model.specs.Demand3.{Demand3}
-use Rattle.model.specs.Months.{monthsRefusal, monthsCase, monthsValuation, monthsFactorsAfter, monthsRatesAfter}
+use Rattle.method.specs.Buffers.{entryOf, rateEntryOf}
+use Rattle.method.specs.Demand3.{Demand3}
+use Rattle.monthsmodel.specs.Months.{monthsRefusal, monthsCase, monthsValuation, monthsFactorsAfter, monthsRatesAfter}
 use Rattle.model.specs.declared.figures.Figures.{Figures}
 use Rattle.model.specs.declared.figures.Verdict.{Verdict}
 use Rattle.model.specs.declared.figures.Valuation.the-variants.{Valued}

@@ -13,7 +13,7 @@ use Rattle.model.specs.Numbers.{bytesOf, Bytes}
 use Rattle.model.specs.Case.{FileCase, knownForm, withUfr}
 use Rattle.model.specs.Layout.{shocks, people, Present, mapOf, stands, fileMap, daysIf, fileOf, caseOf, Keeps}
 use Rattle.model.specs.Refusals.{refusal, ufrEnd}
-use Rattle.model.specs.Months.{withUfrField}
+use Rattle.monthsmodel.specs.Months.{withUfrField}
 use Rattle.model.specs.inner.Positions.{daysField, pensionField, bondsField, amountsField}
 use Rattle.theory.proofs.acceptance.Acceptance.{accepted-keeps, keeps-accepted}
 use Rattle.theory.proofs.acceptance.Bitmap.{announced}

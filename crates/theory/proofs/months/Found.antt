@@ -9,9 +9,9 @@ use borrow.Author.Tests.{leb-true}
 use lib.Dec.{T, leb, eqb}
 use lib.ListN.{length}
 use lib.IntN.{ℤ, pos, negsuc, _*ℤ_}
-use Rattle.model.specs.Curve.{natural}
+use Rattle.method.specs.Curve.{natural}
 use Rattle.model.specs.Fields.{withinZ}
-use Rattle.model.specs.Months.{monthsOf, oldestFirst, total, hundreds, roundedUfr, historyChecks, ufrRefusal, ufrFound}
+use Rattle.monthsmodel.specs.Months.{monthsOf, oldestFirst, total, hundreds, roundedUfr, historyChecks, ufrRefusal, ufrFound}
 use Rattle.theory.proofs.acceptance.Checks.{Hold, none-hold}
 use Rattle.theory.proofs.general.Lists.{and-second}
 use Rattle.theory.proofs.months.Rotated.{oldest-sum}

@@ -5,7 +5,7 @@ use mathlib.Core.Path.{_≡_, sym}
 use native.Mathlib.Nat.{le-antisymm}
 use native.Mathlib.Omega.{arith}
 use lib.IntN.{ℤ, pos, negsuc, natAbs, _+ℤ_, _-ℤ_, _*ℤ_}
-use Rattle.model.specs.Months.{floorZ, hundreds, apart, Nearest}
+use Rattle.monthsmodel.specs.Months.{floorZ, hundreds, apart, Nearest}
 use Rattle.theory.proofs.general.Differences.{Diff, above, below, diff-self, again, one-diff, diff-pos, diff-sum, diff-minus, diff-times, diff-le, le-diff}
 
 -- z ÷ 12,000 rounded down, of either sign

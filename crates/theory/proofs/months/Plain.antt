@@ -10,9 +10,10 @@ use lib.IntN.{ℤ, pos, negsuc, natAbs, _+ℤ_, _-ℤ_, _*ℤ_}
 use lib.ListN.{length}
 use Rattle.model.specs.Numbers.{Bytes}
 use Rattle.model.specs.Refusals.{refusal}
-use Rattle.model.specs.Buffers.{factorsAfter, ratesAfter, valuationOf}
-use Rattle.model.specs.Months.{apart, Nearest, ufrRefusal, monthsValuation, monthsFactorsAfter, monthsRatesAfter, withUfrField}
-use Rattle.model.proofs.Computing.{pairs, all}
+use Rattle.method.specs.Buffers.{factorsAfter, ratesAfter, valuationOf}
+use Rattle.monthsmodel.specs.Months.{apart, Nearest, ufrRefusal, monthsValuation, monthsFactorsAfter, monthsRatesAfter, withUfrField}
+use Rattle.model.proofs.Computing.{pairs}
+use Rattle.monthsmodel.proofs.Computing.{all}
 use Rattle.theory.proofs.general.Differences.{Diff, again, diff-pos, diff-sum, diff-minus, diff-le}
 use Rattle.theory.proofs.months.Nearest.{diff-apart}
 use Rattle.theory.proofs.months.Valued.{as-if-field}

@@ -5,7 +5,7 @@ use mathlib.Core.Path.{_≡_, sym, ap, _∙_}
 use mathlib.Core.List.{List, [], _∷_, _++_}
 use lib.ListN.{take, drop, take-append-drop}
 use lib.IntN.{ℤ, pos, _+ℤ_, +ℤ-assoc, +ℤ-comm, +ℤ-idl}
-use Rattle.model.specs.Months.{month, monthsOf, oldestFirst, total}
+use Rattle.monthsmodel.specs.Months.{month, monthsOf, oldestFirst, total}
 use Rattle.theory.proofs.acceptance.Runs.{values-length}
 use Rattle.theory.proofs.general.Ring.{rotated}
 

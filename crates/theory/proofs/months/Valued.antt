@@ -13,10 +13,10 @@ use Rattle.model.specs.Limits.{WithinLimits}
 use Rattle.model.specs.Fields.{Check}
 use Rattle.model.specs.Layout.{caseOf}
 use Rattle.model.specs.Refusals.{firstOf, checks, refusal}
-use Rattle.model.specs.Buffers as Buffers
-use Rattle.model.specs.Buffers.{buffersCheck, factorEntries, rateEntries, written, answered, valuationOf, valuationRefusal}
-use Rattle.model.specs.Months.{historyChecks, ufrRefusal, ufrFound, monthsRefusal, monthsCase, monthsValuation}
-use Rattle.model.specs.Months.{monthsFactorsAfter, monthsRatesAfter, withUfrField, ValuedWithField}
+use Rattle.method.specs.Buffers as Buffers
+use Rattle.method.specs.Buffers.{buffersCheck, factorEntries, rateEntries, written, answered, valuationOf, valuationRefusal}
+use Rattle.monthsmodel.specs.Months.{historyChecks, ufrRefusal, ufrFound, monthsRefusal, monthsCase, monthsValuation}
+use Rattle.monthsmodel.specs.Months.{monthsFactorsAfter, monthsRatesAfter, withUfrField, ValuedWithField}
 use Rattle.theory.proofs.acceptance.Acceptance as Acceptance
 use Rattle.theory.proofs.acceptance.Acceptance.{checks-numbered}
 use Rattle.theory.proofs.acceptance.Checks.{after-none, after-some, none-hold, hold-parts, numbered-append, hold-none}

@@ -12,11 +12,11 @@ use lib.IntN.{ℤ, pos}
 use Rattle.model.specs.Case.{FileCase, s, withDays}
 use Rattle.model.specs.Fields.{rightAll}
 use Rattle.model.specs.Layout.{day}
-use Rattle.model.specs.Buffers.{factorEntries, rateEntries, written, answered}
-use Rattle.model.specs.Rolling.{slot, dayIn, daysHeld, sumsOf, windowRight, addRefusal, dropRefusal, withDayIn, added, dropped, changed}
-use Rattle.model.specs.Rolling.{addDay, dropDay, Change, add, dropOldest, change}
-use Rattle.model.specs.Rolling.{windowRefusal, windowValuation, windowFactorsAfter, windowRatesAfter}
-use Rattle.model.specs.declared.rolling.RollingWindow.{RollingWindow}
+use Rattle.method.specs.Buffers.{factorEntries, rateEntries, written, answered}
+use Rattle.rollingmodel.specs.Rolling.{slot, dayIn, daysHeld, sumsOf, windowRight, addRefusal, dropRefusal, withDayIn, added, dropped, changed}
+use Rattle.rollingmodel.specs.Rolling.{addDay, dropDay, Change, add, dropOldest, change}
+use Rattle.rollingmodel.specs.Rolling.{windowRefusal, windowValuation, windowFactorsAfter, windowRatesAfter}
+use Rattle.rollingmodel.specs.declared.RollingWindow.{RollingWindow}
 use Rattle.theory.proofs.general.Lists.{table-same}
 use Rattle.theory.proofs.general.Ring.{slot-less}
 use Rattle.theory.proofs.acceptance.Checks.{none-hold}

@@ -5,14 +5,14 @@ use mathlib.Core.Path.{_≡_, sym}
 use mathlib.Core.List.{List}
 use lib.ListN.{length, drop}
 use lib.IntN.{ℤ}
-use Rattle.model.specs.Buffers.{entryOf, rateEntryOf}
+use Rattle.method.specs.Buffers.{entryOf, rateEntryOf}
 use Rattle.model.specs.Case.{FileCase, withDays}
-use Rattle.model.specs.Demand3.{Demand3}
-use Rattle.model.specs.Rolling.{daysHeld, windowRefusal, windowValuation, windowFactorsAfter, windowRatesAfter}
+use Rattle.method.specs.Demand3.{Demand3}
+use Rattle.rollingmodel.specs.Rolling.{daysHeld, windowRefusal, windowValuation, windowFactorsAfter, windowRatesAfter}
 use Rattle.model.specs.declared.figures.Figures.{Figures}
 use Rattle.model.specs.declared.figures.Verdict.{Verdict}
 use Rattle.model.specs.declared.figures.Valuation.the-variants.{Valued}
-use Rattle.model.specs.declared.rolling.RollingWindow.{RollingWindow}
+use Rattle.rollingmodel.specs.declared.RollingWindow.{RollingWindow}
 use Rattle.theory.proofs.demand3.Demand3Proved.{demand3}
 use Rattle.theory.proofs.demand3.Written.{no-refusal, written-rounded}
 use Rattle.theory.proofs.rolling.Valued.{within-limits}

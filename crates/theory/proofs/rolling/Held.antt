@@ -9,8 +9,8 @@ use native.Mathlib.Omega.{arith}
 use lib.ListN.{length, getD, drop}
 use lib.IntN.{ℤ}
 use Rattle.model.specs.Numbers.{table}
-use Rattle.model.specs.Rolling.{slot, dayIn, daysHeld, withDayIn, added, dropped}
-use Rattle.model.specs.declared.rolling.RollingWindow.{RollingWindow}
+use Rattle.rollingmodel.specs.Rolling.{slot, dayIn, daysHeld, withDayIn, added, dropped}
+use Rattle.rollingmodel.specs.declared.RollingWindow.{RollingWindow}
 use Rattle.theory.proofs.general.Lists.{length-table, getD-table, table-first, table-same}
 use Rattle.theory.proofs.general.Parts.{length-part, length-with, part-own, part-before, part-behind}
 use Rattle.theory.proofs.general.Ring.{slot-less, slot-next, slot-apart}

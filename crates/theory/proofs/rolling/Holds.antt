@@ -14,9 +14,9 @@ use Rattle.model.specs.Case.{s}
 use Rattle.model.specs.Fields.{rightAll}
 use Rattle.model.specs.Layout.{day}
 use Rattle.model.specs.Refusals.{firstOf}
-use Rattle.model.specs.Rolling.{daysHeld, emptyWindow, addRefusal, dropRefusal, added, dropped, changed, addDay, dropDay}
-use Rattle.model.specs.Rolling.{Change, add, dropOldest, change, changedBy, queue, queuedBy, HoldsAfter}
-use Rattle.model.specs.declared.rolling.RollingWindow.{RollingWindow}
+use Rattle.rollingmodel.specs.Rolling.{daysHeld, emptyWindow, addRefusal, dropRefusal, added, dropped, changed, addDay, dropDay}
+use Rattle.rollingmodel.specs.Rolling.{Change, add, dropOldest, change, changedBy, queue, queuedBy, HoldsAfter}
+use Rattle.rollingmodel.specs.declared.RollingWindow.{RollingWindow}
 use Rattle.theory.proofs.general.Lists.{and-second, and-both}
 use Rattle.theory.proofs.general.Ring.{slot-less}
 use Rattle.theory.proofs.acceptance.Runs.{right-more}

@@ -14,8 +14,8 @@ use Rattle.model.specs.Numbers.{every}
 use Rattle.model.specs.Case.{s}
 use Rattle.model.specs.Fields.{rightAll}
 use Rattle.model.specs.Layout.{dailyRate, day}
-use Rattle.model.specs.Rolling.{daysHeld, sumsOf, equalZ, windowRight}
-use Rattle.model.specs.declared.rolling.RollingWindow.{RollingWindow}
+use Rattle.rollingmodel.specs.Rolling.{daysHeld, sumsOf, equalZ, windowRight}
+use Rattle.rollingmodel.specs.declared.RollingWindow.{RollingWindow}
 use Rattle.theory.proofs.general.Lists.{and-first, and-second, and-both, every-at, every-all, getD-table}
 
 -- ---- a test of two integers, both ways

@@ -15,11 +15,11 @@ use Rattle.model.specs.Limits.{WithinLimits}
 use Rattle.model.specs.Fields.{Check}
 use Rattle.model.specs.Layout.{Present, partsOf, fileOf, caseOf, Agrees}
 use Rattle.model.specs.Refusals.{firstOf, forwardsRight, refusal}
-use Rattle.model.specs.Saving.{needed, caseChecks, caseRefusal}
-use Rattle.model.specs.Buffers as Buffers
-use Rattle.model.specs.Buffers.{buffersCheck, factorEntries, rateEntries, written, answered, valuationOf, valuationRefusal}
-use Rattle.model.specs.Rolling.{daysHeld, windowRight, windowRefusal, windowValuation, windowFactorsAfter, windowRatesAfter, ValuedAsFile}
-use Rattle.model.specs.declared.rolling.RollingWindow.{RollingWindow}
+use Rattle.savingmodel.specs.Saving.{needed, caseChecks, caseRefusal}
+use Rattle.method.specs.Buffers as Buffers
+use Rattle.method.specs.Buffers.{buffersCheck, factorEntries, rateEntries, written, answered, valuationOf, valuationRefusal}
+use Rattle.rollingmodel.specs.Rolling.{daysHeld, windowRight, windowRefusal, windowValuation, windowFactorsAfter, windowRatesAfter, ValuedAsFile}
+use Rattle.rollingmodel.specs.declared.RollingWindow.{RollingWindow}
 use Rattle.theory.proofs.general.Lists.{and-first, and-second, and-both, _also_}
 use Rattle.theory.proofs.acceptance.Checks.{Hold, hold-parts, numbered-append, none-hold, hold-none, after-none}
 use Rattle.theory.proofs.acceptance.Within.{days-limited, PartsWithin, forwards-true, parts-limits, limits-parts}

@@ -10,7 +10,7 @@ use lib.Seq.{take-at, drop-at}
 use lib.IntN.{ℤ}
 use Rattle.model.specs.Case.{FileCase, withDays}
 use Rattle.model.specs.Limits.{WithinLimits}
-use Rattle.model.specs.Saving.{daysIn, daysOf, given}
+use Rattle.savingmodel.specs.Saving.{daysIn, daysOf, given}
 use Rattle.model.specs.declared.case.CaseFields.{CaseFields}
 
 -- the days one after another, and the fields that are no lists

@@ -19,7 +19,7 @@ use Rattle.model.specs.Layout.{daysIf, partsOf}
 use Rattle.model.specs.Layout.{fileOf, caseOf, Agrees, Keeps}
 use Rattle.model.specs.inner.Positions.{ufrField, daysField, pensionField, bondsField, amountsField}
 use Rattle.model.specs.Refusals.{firstOf, refusal}
-use Rattle.model.specs.Saving.{allZero, needed, shortest, caseChecks, caseRefusal, saveRefusal}
+use Rattle.savingmodel.specs.Saving.{allZero, needed, shortest, caseChecks, caseRefusal, saveRefusal}
 use Rattle.theory.proofs.general.Lists.{and-first, and-second, _also_}
 use Rattle.theory.proofs.acceptance.Checks.{numbered, numbered-append, hold-append, hold-parts, none-hold, hold-none, after-none, after-some}
 use Rattle.theory.proofs.acceptance.Checks.{below-append, below-if, first-below}

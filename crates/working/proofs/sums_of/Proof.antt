@@ -1,5 +1,5 @@
 -- `working::sums_of` meets its contract. Assumes nothing.
-use Rattle.model.specs.Curve.{base, up, down}
+use Rattle.method.specs.Curve.{base, up, down}
 use Rattle.working.proofs.Working.{shift-within}
 use Rattle.working.proofs.sums_of.Statement.{statement}
 use Rattle.working.proofs.sums_of.Tie as tie

@@ -2,11 +2,11 @@
 use Prim.Native.Nat.{_≤_}
 use Rattle.model.specs.Constants.{lastMarketTerm}
 use Rattle.model.specs.Limits.{AmountsWithin, ShocksWithin, PeopleWithin}
-use Rattle.model.specs.Curve.{Move, base}
-use Rattle.model.specs.inner.CurveWithin.{CurveWithin, BaseWithin}
-use Rattle.model.specs.declared.case.Case.{Case}
-use Rattle.curve.specs.inner.Shifted.{curveHeld}
-use Rattle.curve.specs.inner.Ranges.{FactorsWithin}
+use Rattle.method.specs.Curve.{Move, base}
+use Rattle.method.specs.inner.CurveWithin.{CurveWithin, BaseWithin}
+use Rattle.heldcase.specs.declared.Case.{Case}
+use Rattle.growths.specs.inner.Shifted.{curveHeld}
+use Rattle.growths.specs.inner.Ranges.{FactorsWithin}
 use Rattle.worth.specs.inner.Ranges.{FlowsFit}
 use Rattle.working.specs.declared.Sums.{Sums}
 

@@ -5,13 +5,13 @@ use lib.IntN.{ℤ}
 use lib.ListN.{take, drop}
 use Rattle.arith.specs.Rounding.{End}
 use Rattle.model.specs.Constants.{lastUnweighedTerm, lastTerm}
-use Rattle.model.specs.Curve.{Move, base, up, down}
-use Rattle.model.specs.Buffers.{byTerm}
-use Rattle.model.specs.Rounded as Rounded
-use Rattle.model.specs.Rounded.{worth}
-use Rattle.model.specs.declared.case.Case.{Case}
-use Rattle.curve.specs.declared.shift.CurveSums.{CurveSums}
-use Rattle.curve.specs.inner.Shifted.{curveOf, movedSums, curveHeld}
+use Rattle.method.specs.Curve.{Move, base, up, down}
+use Rattle.method.specs.Buffers.{byTerm}
+use Rattle.method.specs.Rounded as Rounded
+use Rattle.method.specs.Rounded.{worth}
+use Rattle.heldcase.specs.declared.Case.{Case}
+use Rattle.growths.specs.declared.shift.CurveSums.{CurveSums}
+use Rattle.growths.specs.inner.Shifted.{curveOf, movedSums, curveHeld}
 use Rattle.solvency.specs.inner.ByWorths.{moneyBy}
 use Rattle.solvency.specs.declared.figures.Money.{Money}
 use Rattle.worth.specs.declared.Curves.{Curves}

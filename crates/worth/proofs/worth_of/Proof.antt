@@ -1,11 +1,11 @@
 -- `worth::worth_of` meets its contract. Assumes nothing.
-use Rattle.model.specs.Buffers.{entryOf}
+use Rattle.method.specs.Buffers.{entryOf}
 use Prim.Native.Nat.{_≤_, _<_, _*_, _-_, _^_}
 use mathlib.Core.Path.{_≡_, sym}
 use native.Mathlib.Omega.{arith}
 use lib.ListN.{length, take}
 use Rattle.arith.specs.Rounding.{low, high}
-use Rattle.model.specs.Rounded.{worth}
+use Rattle.method.specs.Rounded.{worth}
 use Rattle.worth.proofs.Flows.{no-worth, worth-next, factor-low, factor-high, low-most, high-most, flow-range, flow-most, worth-done}
 use Rattle.worth.proofs.worth_of.Statement.{statement}
 use Rattle.worth.proofs.worth_of.Tie as tie

@@ -2,9 +2,9 @@
 use Prim.Native.Nat.{ℕ}
 use mathlib.Core.List.{List}
 use Rattle.arith.specs.Rounding.{End}
-use Rattle.model.specs.Buffers.{entryOf}
-use Rattle.model.specs.Curve.{Move, base, up, down}
-use Rattle.model.specs.Brackets.{bracket, endOf}
+use Rattle.method.specs.Buffers.{entryOf}
+use Rattle.method.specs.Curve.{Move, base, up, down}
+use Rattle.method.specs.Brackets.{bracket, endOf}
 use Rattle.worth.specs.declared.Curves.{Curves}
 use Rattle.worth.specs.declared.Worths.{Worths}
 

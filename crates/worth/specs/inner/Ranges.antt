@@ -3,7 +3,7 @@ use Prim.Native.Nat.{ℕ, _*_, _^_, _≤_, _<_}
 use mathlib.Core.List.{List}
 use lib.ListN.{length, getD}
 use Rattle.arith.specs.Rounding.{End}
-use Rattle.model.specs.Buffers.{entryOf}
+use Rattle.method.specs.Buffers.{entryOf}
 use Rattle.model.specs.declared.figures.Bracket.{Bracket}
 use Rattle.worth.specs.declared.Curves.{Curves}
 use Rattle.worth.specs.declared.Worths.{Worths}

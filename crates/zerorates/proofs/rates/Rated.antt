@@ -1,5 +1,5 @@
 -- One term of the zero rates, from the list of factors. Assumes nothing.
-use Rattle.model.specs.Buffers.{entryOf}
+use Rattle.method.specs.Buffers.{entryOf}
 use Prim.Native.Nat.{ℕ, zero, suc, _+_, _*_, _-_, _^_, _≤_, _<_}
 use mathlib.Core.Path.{_≡_, ap, sym, _∙_}
 use mathlib.Core.List.{List}
@@ -12,16 +12,16 @@ use mir.Syntax.{w64}
 use mir.Val.{toZ, ofZ}
 use Rattle.arith.specs.Rounding.{End, low, high}
 use Rattle.model.specs.Constants.{unit, stepsPerOne}
-use Rattle.model.specs.Rounded.{stepAt, tested, rateOf}
-use Rattle.model.specs.Bisection.{afterTests, stepsLeft}
-use Rattle.model.specs.declared.steps.StepsLeft.{StepsLeft}
+use Rattle.method.specs.Rounded.{stepAt, tested, rateOf}
+use Rattle.searchmodel.specs.Bisection.{afterTests, stepsLeft}
+use Rattle.searchmodel.specs.declared.StepsLeft.{StepsLeft}
 use Rattle.theory.proofs.general.Powers.{pow-pos}
 use Rattle.theory.proofs.curve.Steps.{scaled-in}
 use Rattle.theory.proofs.curve.RateTests.{tested-small}
 use Rattle.theory.proofs.curve.Bisection.{RateExists, short-search}
-use Rattle.zerorates.specs.inner.Ranges.{GuessWithin, RatesWithin}
+use Rattle.search.specs.inner.Ranges.{GuessWithin, RatesWithin}
 use Rattle.zerorates.proofs.rates.Signed.{stored}
-use Rattle.zerorates.proofs.Left.{first-most}
+use Rattle.search.proofs.Left.{first-most}
 
 tested-some : (t i : ℕ) → 0 < tested high t i
 tested-some t i = go (tested high t i) (scaled-in high stepsPerOne (98000 + i) t (omega arith) .is .le)

@@ -9,7 +9,7 @@ use lib.Dec.{eqb}
 use lib.ListN.{length}
 use lib.IntN.{ℤ}
 use Rattle.model.specs.Layout.{days}
-use Rattle.model.specs.Saving.{daysOf}
+use Rattle.savingmodel.specs.Saving.{daysOf}
 use Rattle.model.specs.inner.Positions.{daysField}
 use Rattle.output.specs.inner.Wrote.{Wrote}
 use Rattle.fields.proofs.Options.{absent}

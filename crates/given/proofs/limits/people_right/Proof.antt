@@ -2,7 +2,7 @@
 use mathlib.Core.Path.{ap₂, _∙_}
 use mathlib.Core.Bool.{_&&_}
 use borrow.Author.Needs.{needs}
-use Rattle.scan.proofs.runs.Loops.{at-most}
+use Rattle.numbers.proofs.runs.Loops.{at-most}
 use Rattle.given.proofs.limits.people_right.Statement.{statement}
 use Rattle.given.proofs.limits.people_right.Tie as tie
 

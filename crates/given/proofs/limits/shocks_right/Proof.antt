@@ -3,7 +3,7 @@ use mathlib.Core.Path.{ap, ap₂, _∙_}
 use mathlib.Core.Bool.{_&&_}
 use borrow.Author.Needs.{needs}
 use Rattle.model.specs.Fields.{numberOf, rightAll}
-use Rattle.scan.proofs.runs.Loops.{at-most}
+use Rattle.numbers.proofs.runs.Loops.{at-most}
 use Rattle.given.proofs.limits.shocks_right.Statement.{statement}
 use Rattle.given.proofs.limits.shocks_right.Tie as tie
 

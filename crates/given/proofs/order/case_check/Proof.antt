@@ -5,8 +5,8 @@ use native.Mathlib.Omega.{arith}
 use lib.Dec.{eqb}
 use borrow.Author.Needs.{needs}
 use Rattle.model.specs.Case.{perStep}
-use Rattle.model.specs.Saving.{given}
-use Rattle.scan.proofs.runs.Loops.{at-most}
+use Rattle.savingmodel.specs.Saving.{given}
+use Rattle.numbers.proofs.runs.Loops.{at-most}
 use Rattle.checks.specs.inner.After.{after}
 use Rattle.given.proofs.order.Summed.{sums-asked, step-small, sums-most, days-told, forwards-told}
 use Rattle.given.proofs.order.InOrder.{fields-first, days-passed, case-first}

@@ -9,7 +9,7 @@ use lib.ListN.{length, take}
 use lib.Seq.{take-length}
 use Rattle.model.specs.Fields.{numberOf, rightAll}
 use Rattle.theory.proofs.acceptance.Runs.{right-front}
-use Rattle.scan.proofs.runs.Loops.{at-most}
+use Rattle.numbers.proofs.runs.Loops.{at-most}
 use Rattle.given.proofs.runs.each_at_most.Statement.{statement}
 use Rattle.given.proofs.runs.each_at_most.Tie as tie
 

@@ -2,7 +2,7 @@
 use mathlib.Core.Path.{_∙_}
 use native.Mathlib.Omega.{arith}
 use Rattle.arith.specs.Rounding.{low, high}
-use Rattle.model.specs.Rounded.{creditLoss}
+use Rattle.method.specs.Rounded.{creditLoss}
 use Rattle.losses.proofs.classes.Products.{years-most, widened-most, credit-range, credit-is, credit-most, up-to}
 use Rattle.theory.proofs.general.ByEnds.{bracket-by}
 use Rattle.losses.proofs.classes.s5.Statement.{statement}

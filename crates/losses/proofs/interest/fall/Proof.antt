@@ -1,6 +1,6 @@
 -- `losses::interest::fall` meets its contract. Assumes nothing.
-use Rattle.model.specs.Rounded.{fallOf}
-use Rattle.model.specs.Brackets.{endOf}
+use Rattle.method.specs.Rounded.{fallOf}
+use Rattle.method.specs.Brackets.{endOf}
 use Rattle.theory.proofs.general.ByEnds.{bracket-by}
 use borrow.Author.Needs.{needs}
 use Rattle.losses.proofs.interest.fall.Statement.{statement}

@@ -1,8 +1,8 @@
 -- `losses::interest::s1` meets its contract. Assumes nothing.
 use Prim.Native.Nat.{_*_, _^_}
 use Rattle.arith.specs.Rounding.{low, high}
-use Rattle.model.specs.Curve.{base, up, down}
-use Rattle.model.specs.Rounded.{fallOf, interestLoss}
+use Rattle.method.specs.Curve.{base, up, down}
+use Rattle.method.specs.Rounded.{fallOf, interestLoss}
 use Rattle.worth.specs.inner.OnCurves.{on}
 use Rattle.losses.proofs.interest.Falls.{larger-end, larger-most, fall-most}
 use Rattle.theory.proofs.general.ByEnds.{bracket-by, end-is}

@@ -4,8 +4,8 @@ use mathlib.Core.Path.{_≡_, refl}
 use native.Mathlib.Omega.{arith}
 use Rattle.arith.specs.Rounding.{low, high}
 use Rattle.model.specs.Case.{ageGap}
-use Rattle.model.specs.Rounded.{mortalityLoss}
-use Rattle.model.specs.Brackets.{endOf}
+use Rattle.method.specs.Rounded.{mortalityLoss}
+use Rattle.method.specs.Brackets.{endOf}
 use Rattle.losses.proofs.mortality.Margin.{gap-square, heads-square, margin-fits, margin-end}
 use Rattle.theory.proofs.general.ByEnds.{bracket-by}
 use borrow.Author.Needs.{needs}

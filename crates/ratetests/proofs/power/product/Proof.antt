@@ -3,7 +3,7 @@ use Prim.Native.Nat.{_*_, _^_}
 use mathlib.Core.Path.{refl}
 use borrow.Author.Needs.{needs}
 use Rattle.arith.specs.Rounding.{divide}
-use Rattle.model.specs.Brackets.{endOf}
+use Rattle.method.specs.Brackets.{endOf}
 use Rattle.theory.proofs.general.ByEnds.{bracket-by}
 use Rattle.ratetests.proofs.power.product.Statement.{statement}
 use Rattle.ratetests.proofs.power.product.Tie as tie

@@ -1,6 +1,6 @@
 -- `solvency::buffer::buffer` meets its contract. Assumes nothing.
-use Rattle.model.specs.Rounded as Rounded
-use Rattle.model.specs.Brackets.{endOf}
+use Rattle.method.specs.Rounded as Rounded
+use Rattle.method.specs.Brackets.{endOf}
 use Rattle.theory.proofs.general.ByEnds.{bracket-by}
 use borrow.Author.Needs.{needs}
 use Rattle.solvency.proofs.buffer.buffer.Statement.{statement}

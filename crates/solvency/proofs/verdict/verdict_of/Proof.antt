@@ -1,5 +1,5 @@
 -- `solvency::verdict::verdict_of` meets its contract. Assumes nothing.
-use Rattle.model.specs.Brackets.{endOf}
+use Rattle.method.specs.Brackets.{endOf}
 use mathlib.Core.Path.{sym}
 use native.Mathlib.Omega.{arith}
 use Rattle.theory.proofs.money.Verdicts.{judge-d, judge-first, judge-r, judge-v, judge-second}

@@ -1,6 +1,6 @@
 -- `put_case`: the map, the UFR, the lists, the other fields and the four-byte days are the file of the case.
 use borrow.Author.Needs.{needs}
-use Rattle.writer.proofs.Parts.{case-written}
+use Rattle.form.proofs.Parts.{case-written}
 use Rattle.writer.proofs.case.put_case.Statement.{statement}
 use Rattle.writer.proofs.case.put_case.Tie as tie
 

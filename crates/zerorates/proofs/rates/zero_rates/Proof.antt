@@ -4,12 +4,12 @@ use mathlib.Core.Path.{_≡_, refl, ap, _∙_}
 use native.Mathlib.Omega.{arith}
 use mathlib.Core.List.{_++_}
 use lib.ListN.{length, drop, length-set}
-use Rattle.model.specs.Buffers.{byTerm, entryOf}
-use Rattle.model.specs.Rounded.{rateOf}
+use Rattle.method.specs.Buffers.{byTerm, entryOf}
+use Rattle.method.specs.Rounded.{rateOf}
 use Rattle.theory.proofs.general.Lists.{all-filled}
 use Rattle.theory.proofs.general.Entries.{term-filled}
 use Rattle.zerorates.proofs.rates.Rated.{guess-within, factor-most, lower-rate, upper-rate}
-use Rattle.zerorates.proofs.Left.{first-most}
+use Rattle.search.proofs.Left.{first-most}
 use Rattle.zerorates.proofs.rates.zero_rates.Statement.{statement}
 use Rattle.zerorates.proofs.rates.zero_rates.Tie as tie
 

@@ -465,7 +465,8 @@ class Statements(unittest.TestCase):
     def written():
         """None where the numbers contradict one another."""
         try:
-            return pinned.four_byte_cases(), pinned.four_refused()
+            return [written() for written in (pinned.four_byte_cases, pinned.four_figures, pinned.four_saved, pinned.four_windows,
+                                              pinned.four_months, pinned.four_refused)]
         except AssertionError:
             return None
 

@@ -1,6 +1,6 @@
 # A folder in memory for the temporary files of .ci/run, where there is room. Sourced; bash.
 #
-# Each check by rt copies the libraries below its crate, up to 230 MB, to the folder for temporary files and removes them again. On
+# Each check by rt copies the libraries below its crate to the folder for temporary files and removes them again. On
 # disk that costs much system time, in memory hardly any. GATE_MEMORY names another folder than /dev/shm, from the root on, and
 # GATE_MEMINFO another file than /proc/meminfo.
 

@@ -1,5 +1,7 @@
 // Reads many files (crate batch), and prints three answers for each: its reading (one line), its listing, and what a valuation leaves
 // in lent buffers (two lines).
+#![tactic(auto)]
+
 mod buffers;
 mod numbers;
 mod reading;

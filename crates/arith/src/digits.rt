@@ -3,7 +3,7 @@ ghost use Rattle.std.specs.Prelude.{◌≡◌, ◌+◌, ◌*◌, ◌^◌, ◌<�
 ghost use Rattle.arith.specs.inner.Value.{val};
 
 // Six digits, the least first. Every value of the type is a number: val in specs/inner/Value.antt says which.
-#[derive(Drop)]
+#[derive(Clone, Copy)]
 pub struct Wide {
     pub d0: u32,
     pub d1: u32,
@@ -14,7 +14,7 @@ pub struct Wide {
 }
 
 // A digit, and what is carried to the next.
-#[derive(Drop)]
+#[derive(Clone, Copy)]
 struct Carried {
     digit: u32,
     carry: u32,

@@ -21,7 +21,7 @@ pub fn times_ceil(x: u64, a: u64, b: u64) -> u64
 }
 
 // What a division gives.
-#[derive(Drop)]
+#[derive(Clone, Copy)]
 struct Division {
     quotient: u64,
     remainder: u64,

@@ -1,4 +1,6 @@
 // Many files in one standard input, each behind its length in four bytes, the highest first.
+#![tactic(auto)]
+
 ghost use Rattle.io.specs.Counts.{IsPrefixLen};
 ghost use Rattle.batch.specs.Input.{LengthOrEnd, FileRead};
 

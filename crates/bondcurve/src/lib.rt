@@ -1,4 +1,6 @@
 // The rounded discount factors of a curve that is not adjusted: those that bond flows use.
+#![tactic(auto)]
+
 ghost use Rattle.std.specs.Prelude.{◌≡◌, ◌++◌, ◌*◌, ◌≤◌, max, drop};
 ghost use Rattle.method.specs.Rounded as Rounded;
 ghost use Rattle.method.specs.Buffers.{byTerm};

@@ -1,5 +1,7 @@
 // The reader of case files: what a host calls. Each function is defined for every list of bytes. The places of the fields and the sums
 // of the rates are found once, and serve the checks and the case.
+#![tactic(auto)]
+
 ghost use Rattle.std.specs.Prelude.{◌≡◌};
 ghost use Rattle.model.specs.Refusals.{refusal};
 ghost use Rattle.casefile.specs.Answers.{reading_of, ReadExactly, RatesPart};
@@ -11,14 +13,14 @@ use places::find;
 use scan::rates::sum_days;
 
 // Whether a file is accepted; a refused one has its number.
-#[derive(Drop)]
+#[derive(Clone, Copy)]
 pub enum Answer {
     Accepted,
     Refused(u8),
 }
 
 // The answer, and beside it the case, which is the default one where the file is refused.
-#[derive(Drop)]
+#[derive(Clone, Copy)]
 pub struct Reading {
     pub answer: Answer,
     pub case: Case,

@@ -1,4 +1,6 @@
 // The case that the bytes of a file hold: the default case, with the fields that the file has put in.
+#![tactic(auto)]
+
 ghost use Rattle.std.specs.Prelude.{◌≡◌, cond, ◌+◌, ◌≤◌};
 ghost use Rattle.model.specs.Fields.{valueAll};
 ghost use Rattle.model.specs.Layout.{flow, amountsFrom, amounts, shocksFrom, shocks, people, case_of};

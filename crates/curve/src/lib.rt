@@ -1,4 +1,6 @@
 // The rounded discount factors of a curve, adjusted: those that pension flows use, and that are lent and shown.
+#![tactic(auto)]
+
 ghost use Rattle.std.specs.Prelude.{◌≡◌, ◌*◌, ◌≤◌, ◌<◌};
 ghost use Rattle.arith.specs.Rounding.{other, divide};
 ghost use Rattle.model.specs.Constants.{unit};

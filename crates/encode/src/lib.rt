@@ -1,4 +1,6 @@
 // Numbers, and runs of numbers, as big-endian bytes in a lent buffer.
+#![tactic(auto)]
+
 ghost use Rattle.std.specs.Prelude.{◌+◌, ◌*◌, ◌≤◌, length};
 ghost use Rattle.model.specs.Numbers.{bytes_of};
 ghost use Rattle.output.specs.inner.Wrote.{Wrote};

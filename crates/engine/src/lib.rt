@@ -1,4 +1,6 @@
 // The valuation of one case file, as a host calls it.
+#![tactic(auto)]
+
 ghost use Rattle.std.specs.Prelude.{◌≡◌, length};
 ghost use Rattle.method.specs.Buffers.{answered, valuationOf, factorsAfter, ratesAfter};
 ghost use Rattle.model.specs.Layout.{case_of};

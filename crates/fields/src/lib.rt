@@ -1,10 +1,12 @@
 // The fields of a case file, each written into a lent buffer.
+#![tactic(auto)]
+
 pub mod flows;
 pub mod numbers;
 pub mod rates;
 
 // Which of the optional fields are written.
-#[derive(Drop)]
+#[derive(Clone, Copy)]
 pub struct Included {
     pub ufr: bool,
     pub bonds: bool,

@@ -1,5 +1,7 @@
 // What a host in another language is given and gives back: structs without enums or slices, and the
 // way to them and back.
+#![tactic(auto)]
+
 ghost use Rattle.std.specs.Prelude.{◌≡◌};
 ghost use Rattle.flat.specs.Flat.{hostBracket, bracketFrom, hostFigures, figuresFrom, noFigures, verdictNumber, verdictFrom, hostValuation, valuationFrom, hostPoint, hostSaved, hostUfr};
 
@@ -10,14 +12,14 @@ use savingmodel::Saved;
 
 // Cents.
 #[repr(C)]
-#[derive(Drop)]
+#[derive(Clone, Copy)]
 pub struct HostBracket {
     pub lower: u64,
     pub upper: u64,
 }
 
 #[repr(C)]
-#[derive(Drop)]
+#[derive(Clone, Copy)]
 pub struct HostFigures {
     pub l: HostBracket,
     pub b: HostBracket,
@@ -33,7 +35,7 @@ pub struct HostFigures {
 
 // `refusal` is 0 for a case that is valued. A refused one has verdict 0 and figures of 0.
 #[repr(C)]
-#[derive(Drop)]
+#[derive(Clone, Copy)]
 pub struct HostValuation {
     pub refusal: u8,
     pub verdict: u8,
@@ -42,7 +44,7 @@ pub struct HostValuation {
 
 // `kind` is 0 for blank, 1 for a factor, 2 for a money figure. The doubles of a blank point are 0.
 #[repr(C)]
-#[derive(Drop)]
+#[derive(Clone, Copy)]
 pub struct HostPoint {
     pub kind: u8,
     pub lower: f64,
@@ -51,7 +53,7 @@ pub struct HostPoint {
 
 // `refusal` is 0 for a case that is saved. `written` counts bytes, and is 0 for a refused one.
 #[repr(C)]
-#[derive(Drop)]
+#[derive(Clone, Copy)]
 pub struct HostSaved {
     pub refusal: u8,
     pub written: usize,
@@ -59,7 +61,7 @@ pub struct HostSaved {
 
 // `refusal` is 0 for a UFR that is found. `ufr` counts rate steps, and is 0 for a refused history.
 #[repr(C)]
-#[derive(Drop)]
+#[derive(Clone, Copy)]
 pub struct HostUfr {
     pub refusal: u8,
     pub ufr: u64,

@@ -1,4 +1,6 @@
 // The shortest form of a case: which optional fields it has, its map and its length.
+#![tactic(auto)]
+
 ghost use Rattle.std.specs.Prelude.{◌≡◌, cond, [], ◌≤◌};
 ghost use Rattle.model.specs.Layout.{mapOf};
 ghost use Rattle.savingmodel.specs.Saving.{given, needed};

@@ -1,5 +1,7 @@
 // The rates of a list, 60 a day: each as a natural, 100,000 steps and the rate, whether all are within their limits, and their sums. A rate
 // has 2 or 4 bytes in a file, and is in steps or in hundredths of them.
+#![tactic(auto)]
+
 ghost use Rattle.std.specs.Prelude.{◌≡◌, ◌+◌, ◌*◌, ◌<◌, ◌≤◌, length};
 ghost use Rattle.rollingmodel.specs.Rolling.{dayIn};
 ghost use Rattle.savingmodel.specs.Saving.{daysIn, daysOf};

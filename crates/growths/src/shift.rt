@@ -6,7 +6,7 @@ ghost use Rattle.growths.specs.inner.Ranges.{ShiftWithin};
 use heldcase::Case;
 
 // `n` is N; `sums` has P(0) to P(60), which are N times 1 + the mean rate, so that no mean is rounded. `ufr` is in rate steps.
-#[derive(Drop)]
+#[derive(Clone, Copy)]
 pub struct CurveSums {
     pub n: u64,
     pub sums: [u64; 61],

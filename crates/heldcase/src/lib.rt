@@ -1,5 +1,7 @@
 // The case as the engine holds it, with its constants and its default: of the days it keeps the sums of each term, and what one rate step
 // adds to a sum.
+#![tactic(auto)]
+
 ghost use Rattle.std.specs.Prelude.{◌≡◌};
 ghost use Rattle.heldcase.specs.Held.{defaultCase};
 
@@ -9,7 +11,7 @@ use model::case::{Amounts, People, Shocks};
 // step adds to such a sum: the number of days, or 100 times that of rates of four bytes. N, which is 1 in these units, is 100,000 times
 // `per_step`.
 // Of `pension` and `bonds` the first `pension_count` and `bond_count` are flows, and the rest is 0.
-#[derive(Drop)]
+#[derive(Clone, Copy)]
 pub struct Case {
     pub ufr: u64,
     pub per_step: u64,

@@ -1,4 +1,6 @@
 // The UFR from ten years of months, as a host calls it.
+#![tactic(auto)]
+
 mod summed;
 
 ghost use Rattle.std.specs.Prelude.{◌≡◌};

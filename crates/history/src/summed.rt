@@ -5,7 +5,7 @@ ghost use Rattle.history.specs.inner.Summed.{Summed};
 use numbers::runs::both;
 use scan::rates::{rate_at, rate_right};
 
-#[derive(Drop)]
+#[derive(Clone, Copy)]
 pub struct MonthsSum {
     pub within: bool,
     pub sum: u64,

@@ -1,5 +1,7 @@
 // The functions that hosts in C, Rust and Python call. Each takes any bytes, any lengths and any
 // numbers: none has a `requires`. include/ginghamowl.h declares them.
+#![tactic(auto)]
+
 ghost use Rattle.std.specs.Prelude.{◌≡◌, length, take, drop};
 ghost use Rattle.method.specs.Buffers.{valuationOf, factorsAfter, ratesAfter};
 ghost use Rattle.monthsmodel.specs.Months.{ufrAnswer, monthsValuation, monthsFactorsAfter, monthsRatesAfter};
@@ -30,7 +32,7 @@ use writer::save;
 
 // `length` bytes of the file, from `offset` on.
 #[repr(C)]
-#[derive(Drop)]
+#[derive(Clone, Copy)]
 pub struct HostPart {
     pub offset: usize,
     pub length: usize,

@@ -1,4 +1,6 @@
 // The front of a lent buffer, filled from an array; its later entries keep their content.
+#![tactic(auto)]
+
 ghost use Rattle.std.specs.Prelude.{◌≡◌, ◌++◌, ◌≤◌, length, drop};
 
 pub fn fill_factors(entries: [u64; 240], out: &mut [u64])

@@ -1,4 +1,6 @@
 // The lines of the ten figures, written into a lent buffer.
+#![tactic(auto)]
+
 ghost use Rattle.std.specs.Prelude.{◌+◌, ◌≤◌, length};
 ghost use Rattle.output.specs.inner.Wrote.{Wrote};
 ghost use Rattle.lines.specs.inner.Parts.{values, firstLosses, lastLosses, figureLines};

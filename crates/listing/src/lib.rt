@@ -1,4 +1,6 @@
 // The listing of a valuation, written into a lent buffer.
+#![tactic(auto)]
+
 ghost use Rattle.std.specs.Prelude.{◌≡◌, ◌+◌, ◌≤◌, length, take};
 ghost use Rattle.method.specs.Listing.{listing, listingAfter, listingLength};
 ghost use Rattle.output.specs.inner.Wrote.{Wrote};

@@ -2,7 +2,7 @@
 
 // Amounts in euros. Hosts hand in amounts, shocks and people as C lays structs out.
 #[repr(C)]
-#[derive(Drop)]
+#[derive(Clone, Copy)]
 pub struct Amounts {
     pub mature: u64,
     pub emerging: u64,
@@ -17,7 +17,7 @@ pub struct Amounts {
 // Shifts and spread in rate steps, falls, spread rise and correlation in thousandths, the duration
 // in tenths of a year.
 #[repr(C)]
-#[derive(Drop)]
+#[derive(Clone, Copy)]
 pub struct Shocks {
     pub up_shift: u64,
     pub down_shift: u64,
@@ -35,7 +35,7 @@ pub struct Shocks {
 
 // The head count, and the ages in months.
 #[repr(C)]
-#[derive(Drop)]
+#[derive(Clone, Copy)]
 pub struct People {
     pub heads: u64,
     pub pension_age: u64,
@@ -45,7 +45,7 @@ pub struct People {
 // The fields of a case that are no lists. `rate_bytes` is 2 or 4: how many bytes a rate has in the file, and so in which units it is,
 // steps of 0.00001 or of 0.0000001.
 #[repr(C)]
-#[derive(Drop)]
+#[derive(Clone, Copy)]
 pub struct CaseFields {
     pub rate_bytes: u64,
     pub ufr: u64,

@@ -1,13 +1,13 @@
 // What a valuation gives: brackets in cents, the verdict, or the number of a refusal.
 
-#[derive(Drop)]
+#[derive(Clone, Copy)]
 pub struct Bracket {
     pub lower: u64,
     pub upper: u64,
 }
 
 // The ten money figures of document 01, by its names.
-#[derive(Drop)]
+#[derive(Clone, Copy)]
 pub struct Figures {
     pub l: Bracket,
     pub b: Bracket,
@@ -21,7 +21,7 @@ pub struct Figures {
     pub s: Bracket,
 }
 
-#[derive(Drop)]
+#[derive(Clone, Copy)]
 pub enum Verdict {
     Dekkingstekort,
     Reservetekort,
@@ -29,7 +29,7 @@ pub enum Verdict {
     Onbeslist,
 }
 
-#[derive(Drop)]
+#[derive(Clone, Copy)]
 pub enum Valuation {
     Refused(u8),
     Valued(Figures, Verdict),

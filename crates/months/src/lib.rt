@@ -1,4 +1,6 @@
 // The valuation of a case file with the UFR from ten years of months, as a host calls it.
+#![tactic(auto)]
+
 mod case;
 
 ghost use Rattle.std.specs.Prelude.{◌≡◌, length};

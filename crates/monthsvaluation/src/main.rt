@@ -1,5 +1,7 @@
 // Reads a case file, a history of months and its start index from standard input, and prints the UFR found and the listing of the case
 // with it. Each of the first two stands behind its length in four bytes, and the start index has eight, the highest first.
+#![tactic(auto)]
+
 use libc::{STDIN_FILENO, STDOUT_FILENO};
 use model::figures::Valuation;
 use monthsmodel::Ufr;

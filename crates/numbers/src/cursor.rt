@@ -3,7 +3,7 @@
 ghost use Rattle.std.specs.Prelude.{◌≡◌, ◌+◌, ◌^◌, ◌<◌, ◌≤◌, get_or};
 ghost use Rattle.model.specs.Numbers.{number};
 
-#[derive(Drop)]
+#[derive(Clone, Copy)]
 struct Cursor<'a> {
     file: &'a [u8],
     at: usize,

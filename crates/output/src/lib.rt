@@ -1,4 +1,6 @@
 // Bytes, numbers in base ten, lines of a bracket and the words of a verdict, written into a lent buffer.
+#![tactic(auto)]
+
 ghost use Rattle.std.specs.Prelude.{◌+◌, ◌^◌, ◌≤◌, ◌<◌, length};
 ghost use Rattle.method.specs.Listing.{digits, word};
 ghost use Rattle.output.specs.inner.Lines.{spaced, named};

@@ -1,4 +1,6 @@
 // Where the fields of a file start, found once from the front: the offset at which one field ends is where the next starts.
+#![tactic(auto)]
+
 ghost use Rattle.std.specs.Prelude.{◌≡◌, cond, ◌+◌, ◌*◌, ◌<◌, ◌≤◌, get_or};
 ghost use Rattle.places.specs.inner.Found.{Found};
 
@@ -6,7 +8,7 @@ use numbers::cursor::number_at;
 
 // The bytes of a rate, the offset of each field's first byte, which is the count of the days and of the flows, and what these counts are:
 // 0 of bonds that are absent. `days_end` is the offset behind the last rate, `end` that behind the last field.
-#[derive(Drop)]
+#[derive(Clone, Copy)]
 pub struct Places {
     pub map: u64,
     pub rate_bytes: u64,
@@ -28,7 +30,7 @@ pub struct Places {
 }
 
 // A field with a count byte: the count, and where the field ends.
-#[derive(Drop)]
+#[derive(Clone, Copy)]
 struct Span {
     count: usize,
     end: usize,
@@ -68,7 +70,7 @@ fn after_if(there: bool, at: usize, size: usize) -> usize
 }
 
 // The days, which are in one of two places: the offset of their count, the count, and where they end.
-#[derive(Drop)]
+#[derive(Clone, Copy)]
 struct Days {
     at: usize,
     count: usize,

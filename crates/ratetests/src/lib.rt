@@ -1,5 +1,7 @@
 // The tests of a zero rate, which compare the two results of a step with a factor. A result is 10^12, multiplied t times by 100,000 ÷
 // (100,000 + z) and rounded each time, down or up. Step i is the rate z = i - 2,000; the steps are 0 to 22,000.
+#![tactic(auto)]
+
 mod power;
 
 ghost use Rattle.std.specs.Prelude.{◌≡◌};

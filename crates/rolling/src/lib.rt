@@ -1,4 +1,6 @@
 // A rolling window of up to 70 trading days: the state goes in and comes out by value, and nothing is asked of it.
+#![tactic(auto)]
+
 ghost use Rattle.std.specs.Prelude.{◌≡◌, true, [], ◌∷◌, ◌++◌, ◌<◌};
 ghost use Rattle.rollingmodel.specs.Rolling.{daysHeld, windowRight, emptyWindow, added, dropped, addDay, dropDay};
 ghost use Rattle.givenrates.specs.inner.Raised.{summed};

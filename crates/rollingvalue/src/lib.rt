@@ -1,4 +1,6 @@
 // The valuation of a rolling window with the other fields of a case, as a host calls it.
+#![tactic(auto)]
+
 mod case;
 
 ghost use Rattle.std.specs.Prelude.{◌≡◌, true, length};

@@ -10,7 +10,7 @@ use numbers::cursor::number_at;
 use numbers::runs::both;
 
 // Whether each rate is within its limits, and if so P(t) of the terms 1 to 60: over the days, the sum of 100,000 steps and the rate.
-#[derive(Drop)]
+#[derive(Clone, Copy)]
 pub struct Sums {
     pub within: bool,
     pub sums: [u64; 60],

@@ -11,7 +11,7 @@ use ratetests::{FIRST_DIVISOR, result_bounds};
 
 // The steps whose tests are not known, from lo on and below hi: the results of all steps below lo are above the factor, and those of all
 // steps from hi on are below it.
-#[derive(Drop)]
+#[derive(Clone, Copy)]
 pub struct Interval {
     pub lo: u64,
     pub hi: u64,

@@ -1,6 +1,8 @@
 // Reads many files (crate batch), and prints how the search for each zero rate goes. Of an accepted file it prints a line for each rate,
 // term by term and the lower rate first: L or U, the term, and the first and the last step that is left after 0, 1, .. 15 tests. Of a
 // refused file it prints R and the number.
+#![tactic(auto)]
+
 ghost use Rattle.std.specs.Prelude.{◌≤◌};
 ghost use Rattle.search.specs.inner.Known.{Known};
 

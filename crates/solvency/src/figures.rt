@@ -19,7 +19,7 @@ use model::figures::{Bracket, Figures, Verdict};
 use worth::Worths;
 
 // The figures and the verdict.
-#[derive(Drop)]
+#[derive(Clone, Copy)]
 pub struct Money {
     pub figures: Figures,
     pub verdict: Verdict,

@@ -1,4 +1,6 @@
 // Reads a case file from standard input and prints its listing.
+#![tactic(auto)]
+
 ghost use Rattle.std.specs.Prelude.{length};
 ghost use Rattle.valuation.specs.Input.{AtMost};
 
@@ -8,7 +10,7 @@ use libc::{STDIN_FILENO, STDOUT_FILENO};
 const MOST_BYTES: usize = 17624;
 
 // What reading the input gave: how many bytes it has, up to MOST_BYTES, or that a read failed.
-#[derive(Drop)]
+#[derive(Clone, Copy)]
 enum Input {
     Bytes(usize),
     Failed,

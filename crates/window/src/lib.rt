@@ -1,4 +1,6 @@
 // The points of the host's window: each bracket as two doubles that hold the same whole numbers.
+#![tactic(auto)]
+
 ghost use Rattle.std.specs.Prelude.{◌≡◌, ◌≤◌, ◌<◌, ◌^◌, get_or};
 ghost use Rattle.method.specs.Window.{figuresInOrder, factorPoint, moneyPoint, windowPoint};
 ghost use Rattle.window.specs.Holds.{Holds};

@@ -1,5 +1,7 @@
 // The rounded working of a case that the engine holds: the factors of its three curves, adjusted for its pension flows and unadjusted for
 // its bonds, its zero rates, its figures and its verdict.
+#![tactic(auto)]
+
 ghost use Rattle.std.specs.Prelude.{◌≡◌, ◌≤◌, ◌++◌, length, drop};
 ghost use Rattle.method.specs.Curve.{base};
 ghost use Rattle.model.specs.declared.figures.Valuation.TheVariants.{Valued};
@@ -19,7 +21,7 @@ use worth::{Curves, worths_of};
 use zerorates::rates::zero_rates;
 
 // N and the sums P(t) of the base, the up and the down curve.
-#[derive(Drop)]
+#[derive(Clone, Copy)]
 pub struct Sums {
     pub base: CurveSums,
     pub up: CurveSums,

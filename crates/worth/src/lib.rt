@@ -1,4 +1,6 @@
 // What flows are worth at the factors of a curve: pension flows at adjusted factors, bond flows at unadjusted ones.
+#![tactic(auto)]
+
 ghost use Rattle.method.specs.Buffers.{entry_of};
 ghost use Rattle.std.specs.Prelude.{◌≡◌, take};
 ghost use Rattle.method.specs.Rounded.{worth};
@@ -10,7 +12,7 @@ use arith::scale::{mul_div_ceil, mul_div_floor};
 use model::figures::Bracket;
 
 // The factors of the three curves, each lower, upper, term by term.
-#[derive(Drop)]
+#[derive(Clone, Copy)]
 pub struct Curves {
     pub base: [u64; 240],
     pub up: [u64; 240],
@@ -18,7 +20,7 @@ pub struct Curves {
 }
 
 // The worth of flows, pension or bond, on the base, the up and the down curve.
-#[derive(Drop)]
+#[derive(Clone, Copy)]
 pub struct Worths {
     pub base: Bracket,
     pub up: Bracket,

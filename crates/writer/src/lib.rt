@@ -1,4 +1,6 @@
 // A case written back in its shortest form, into a lent buffer.
+#![tactic(auto)]
+
 mod case;
 
 ghost use Rattle.std.specs.Prelude.{◌≡◌, length};

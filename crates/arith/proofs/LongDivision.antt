@@ -1,7 +1,7 @@
 -- A product divided by hand, with two digits of base 2^21: what `scale::mul_div` computes. Assumes nothing.
 use Prim.Native.Nat.{ℕ, ◌+◌, ◌-◌, ◌*◌, ◌/◌, ◌%◌, ◌^◌, ◌<◌}
 use mathlib.Core.Path.{◌≡◌, sym, ap, ◌∙◌}
-use native.Mathlib.Nat.{mul-le-mul, div-add-mod', mod-lt, div-lt_iff_lt-mul}
+use native.Mathlib.Nat.{div-add-mod', mod-lt, div-lt_iff_lt-mul}
 use native.Mathlib.Omega.{arith}
 use lib.Arith.{digits_div, digits_mod}
 use Rattle.arith.specs.inner.Range.{InRange}
@@ -25,16 +25,6 @@ abbrev pub quotient : (a b c : ℕ) → ℕ
 quotient a b c = upper a b / c * 2097152 + lower a b c / c
 
 module _ {a b c : ℕ} (h : InRange a b c) where
-  pub upper_fits : upper a b < 2 ^ 63
-  upper_fits = omega (arith, mul-le-mul {n₁ = a} {m₁ = b / 2097152} {n₂ = 2 ^ 42 - 1} {m₂ = 2 ^ 21 - 1} (omega arith) (omega arith))
-
-  -- what is carried to the lower digit
-  pub carried-fits : upper a b % c * 2097152 < 2 ^ 63
-  carried-fits = omega (arith, mod-lt (upper a b) h.some)
-
-  pub added-fits : a * (b % 2097152) < 2 ^ 63
-  added-fits = omega (arith, mul-le-mul {n₁ = a} {m₁ = b % 2097152} {n₂ = 2 ^ 42 - 1} {m₂ = 2 ^ 21 - 1} (omega arith) (omega arith))
-
   whole : quotient a b c * c + lower a b c % c ≡ a * b
   whole = two_digits a b c _ _ _ _ _ _ (div-add-mod' b 2097152) (div-add-mod' (upper a b) c) (div-add-mod' (lower a b c) c)
 

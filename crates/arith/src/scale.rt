@@ -5,6 +5,7 @@ ghost use Rattle.arith.specs.inner.Range.{Small, InRange};
 ghost use Rattle.arith.specs.Rounding.{low, high, divide};
 
 // x * a / b, rounded down.
+#[tactic(auto, unfolding(crate::specs::Rounding::divide))]
 pub fn times_floor(x: u64, a: u64, b: u64) -> u64
     requires { Small x a b }
     ensures { result ≡ divide low (x * a) b }
@@ -13,6 +14,7 @@ pub fn times_floor(x: u64, a: u64, b: u64) -> u64
 }
 
 // x * a / b, rounded up.
+#[tactic(auto, unfolding(crate::specs::Rounding::divide))]
 pub fn times_ceil(x: u64, a: u64, b: u64) -> u64
     requires { Small x a b }
     ensures { result ≡ divide high (x * a) b }
@@ -44,6 +46,7 @@ fn mul_div(a: u64, b: u64, c: u64) -> Division
 }
 
 // a * b / c, rounded down.
+#[tactic(auto, unfolding(crate::specs::Rounding::divide))]
 pub fn mul_div_floor(a: u64, b: u64, c: u64) -> u64
     requires { InRange a b c }
     ensures { result ≡ divide low (a * b) c }

@@ -35,8 +35,7 @@ fn worth_of(flows: &[u64], count: usize, factors: &[u64]) -> Bracket
 {
     let mut lower: u64 = 0;
     let mut upper: u64 = 0;
-    let mut i: usize = 0;
-    while i < count {
+    for i in 0..count {
         let euros = flows[i];
         let low_factor = factors[2 * i];
         let high_factor = factors[2 * i + 1];
@@ -44,7 +43,6 @@ fn worth_of(flows: &[u64], count: usize, factors: &[u64]) -> Bracket
         let most = mul_div_ceil(euros, high_factor, 10_000_000_000);
         lower += least;
         upper += most;
-        i += 1;
     }
     Bracket { lower, upper }
 }

@@ -1,0 +1,8 @@
+-- A turn puts what it has read behind what stands at the front.
+use Rattle.std.proofs.Common.{rules}
+use Rattle.batch.proofs.Reading.{consumes-more}
+use Rattle.batch.proofs.read_full.Goals as goal
+
+pub loop-done-preserved : goal.loop-done-preserved
+loop-done-preserved g c =
+    (search rules, search rules, consumes-more _ _ _ c.loop-done.done _ c.in-Ok.n c.loop-done.buf c.read.new.buf c.loop-done.invariant.1 c.in-Ok.ensures.bound.0 c.loop-done.invariant.2 c.in-Ok.ensures.bytes.0)

@@ -11,6 +11,7 @@ use model::case::{Amounts, Shocks};
 use model::figures::Bracket;
 
 // n thousandths of a cent as cents, rounded at both ends.
+#[tactic(auto, unfolding(arith::specs::Rounding::divide))]
 fn from_thousandths(n: u64) -> Bracket
     requires { n ≤ 5 * 10 ^ 16 }
     ensures value { result ≡ bracket (λ e. divide e n 1000) }

@@ -1,5 +1,5 @@
 -- What the places and the sums of a file say, as the checks ask it.
-use mathlib.Core.Path.{◌≡◌, refl, ap, ap₂, sym, ◌∙◌}
+use mathlib.Core.Path.{◌≡◌, ap, ap₂, sym, ◌∙◌}
 use mathlib.Core.Bool.{true}
 use mathlib.Core.List.{List}
 use Prim.Native.Nat.{ℕ, ◌+◌, ◌*◌, ◌≤◌, ◌<◌}
@@ -11,7 +11,7 @@ use Rattle.model.specs.Case.{unitsPerStep, perStep}
 use Rattle.model.specs.Layout.{day, days, case_of}
 use Rattle.model.specs.Refusals.{forwardsRight, daysAt, dayCount}
 use Rattle.theory.proofs.acceptance.Form.{days-read, step-read}
-use Rattle.model.specs.inner.Positions.{rateBytes, pensionAt, pensionCount, bondsAt, pensionField}
+use Rattle.model.specs.inner.Positions.{rateBytes, pensionCount, bondsAt, pensionField}
 use Rattle.places.specs.inner.Found.{Found}
 use Rattle.scan.specs.inner.Sums.{daysFrom, Summed, forwardRight}
 use Rattle.places.specs.declared.Places.{Places}

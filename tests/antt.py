@@ -26,7 +26,7 @@ def long_list(items, most, indent):
 
 
 def integer(z):
-    return f"pos {z}" if z >= 0 else f"negℤ (pos {-z})"
+    return f"pos {z}" if z >= 0 else f"neg_ℤ (pos {-z})"
 
 
 def fraction(x):
@@ -80,10 +80,10 @@ def list_term(values, term=str):
 
 
 def given_term(case):
-    """A case as it is handed in. `fieldsOf`, `amountsOf` and `shocksOf` take the numbers in order."""
+    """A case as it is handed in. `fields_of`, `amountsOf` and `shocksOf` take the numbers in order."""
     amounts, shocks = (f"{name}Of {' '.join(map(str, values))}" if any(values) else f"no{name.capitalize()}"
                        for name, values in (("amounts", case.amounts.values()), ("shocks", case.shocks.values())))
-    fields = f"fieldsOf {case.rate_bytes} {case.ufr} {argument(amounts)} {argument(shocks)} {case.heads} {case.pension_age} {case.mean_age}"
+    fields = f"fields_of {case.rate_bytes} {case.ufr} {argument(amounts)} {argument(shocks)} {case.heads} {case.pension_age} {case.mean_age}"
     lists = list_term(case.rates, integer), list_term(case.pension), list_term(case.bonds)
     return " ".join(["given", *map(argument, (fields, *lists))])
 
@@ -110,8 +110,7 @@ def window_term(window, names):
 
 def record(fields, indent="  "):
     """A record literal, a field a line; fields is a list of (name, term)."""
-    quoted = lambda name: f"«{name}»" if "_" in name else name
-    return "record {\n" + "".join(f"{indent}{quoted(name)} = {term};\n" for name, term in fields) + indent[2:] + "}"
+    return "record {\n" + "".join(f"{indent}{name} = {term};\n" for name, term in fields) + indent[2:] + "}"
 
 
 def day_term(day):
@@ -171,4 +170,4 @@ def holds(name, proposition, fields):
 
 def refuted(name, proposition, field):
     """That it does not hold, since one of its fields is false."""
-    return f"{name} : {proposition} → ⊥\nunfolding all\n{name} near = not-le-of-lt (lit< tt) (near .{field})\n"
+    return f"{name} : {proposition} → ⊥\nunfolding all\n{name} near = not-le_of_lt (lit< tt) near.{field}\n"

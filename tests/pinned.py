@@ -40,24 +40,24 @@ PINNED_HEAD = """\
 -- longer to compute is in the crates `pinned` and `accepted`.
 """ + WRITTEN + """\
 use Prim.Native.Nat.{ℕ}
-use mathlib.Core.Path.{_≡_, refl}
+use mathlib.Core.Path.{◌≡◌, refl}
 use mathlib.Core.Bool.{true, false}
-use mathlib.Core.List.{List, [], _∷_, _++_}
-use native.Mathlib.Nat.{not-le-of-lt}
+use mathlib.Core.List.{List, [], ◌∷◌, ◌++◌}
+use native.Mathlib.Nat.{not-le_of_lt}
 use lib.Dec.{lit<, lit≤}
 use lib.ListN.{replicate}
-use lib.IntN.{pos, negℤ}
-use Rattle·arith.specs.Rounding.{low, high}
-use Rattle·model.specs.Constants.{lastTerm}
-use Rattle·model.specs.Case.{FileCase, s}
-use Rattle·model.specs.Layout.{fileOf, caseOf}
-use Rattle·method·specs.specs.Fraction.{_//_, _≐_, whole}
-use Rattle·method·specs.specs.Curve.{Curve, base, up, down, curve, P}
-use Rattle·method·specs.specs.Exact as Exact
-use Rattle·method·specs.specs.Rounded as Rounded
-use Rattle·method·specs.specs.Buffers.{entryOf, factorEntries}
-use Rattle·method·specs.specs.Margins.{WL, WB, NearFirst, NearSecond, firstMargin, secondMargin}
-use Rattle·method·specs.specs.Demand3.{
+use lib.IntN.{pos, neg_ℤ}
+use Rattle.arith.specs.Rounding.{low, high}
+use Rattle.model.specs.Constants.{lastTerm}
+use Rattle.model.specs.Case.{FileCase, s}
+use Rattle.model.specs.Layout.{fileOf, case_of}
+use Rattle.method.specs.Fraction.{◌//◌, ◌≐◌, whole}
+use Rattle.method.specs.Curve.{Curve, base, up, down, curve, P}
+use Rattle.method.specs.Exact as Exact
+use Rattle.method.specs.Rounded as Rounded
+use Rattle.method.specs.Buffers.{entry_of, factorEntries}
+use Rattle.method.specs.Margins.{WL, Wb, NearFirst, NearSecond, firstMargin, secondMargin}
+use Rattle.method.specs.Demand3.{
   leastStep,
   mostStep,
   factorWidthMost,
@@ -67,64 +67,64 @@ use Rattle·method·specs.specs.Demand3.{
   AWidthMost,
   SWidthMost,
 }
-use Rattle·method·specs.specs.Listing.{ascii, word}
-use Rattle·model.specs.declared.figures.Verdict.the-variants.{Dekkingstekort, Reservetekort, VrijVermogen}
-use Rattle·model.proofs.Computing.{pairs}
-use Rattle·method·proofs.proofs.Computing.{all}
+use Rattle.method.specs.Listing.{ascii, word}
+use Rattle.model.specs.declared.figures.Verdict.TheVariants.{Dekkingstekort, Reservetekort, VrijVermogen}
+use Rattle.model.proofs.Computing.{pairs}
+use Rattle.method.proofs.Computing.{all}
 """
 
 REFUSED_USES = """\
 use Prim.Native.Nat.{ℕ}
-use mathlib.Core.Path.{_≡_, refl}
-use mathlib.Core.List.{List, [], _∷_, _++_, map}
+use mathlib.Core.Path.{◌≡◌, refl}
+use mathlib.Core.List.{List, [], ◌∷◌, ◌++◌, map}
 """
 
 QUICK_HEAD = """\
 -- The refusals of files at the limits and in the order of checks: those rows of the table that are quick to compute. The whole table is in
 -- the crate `refusals`.
 """ + WRITTEN + REFUSED_USES + """\
-use Rattle·model·specs.specs.Refusals.{refusal, ratesPart}
-use Rattle·model·proofs.proofs.Computing.{pairs, all}
+use Rattle.model.specs.Refusals.{refusal, ratesPart}
+use Rattle.model.proofs.Computing.{pairs, all}
 """
 
 TABLE_HEAD = """\
 -- The refusals of files at each limit, on both sides, and in each place of the order of checks. A number that passes its check is mostly
 -- shown by a file that ends after the field, which is refused with 1.
 """ + WRITTEN + REFUSED_USES + """\
-use Rattle·model.specs.Refusals.{refusal, ratesPart}
-use Rattle·model.proofs.Computing.{pairs, all}
+use Rattle.model.specs.Refusals.{refusal, ratesPart}
+use Rattle.model.proofs.Computing.{pairs, all}
 """
 
 ACCEPTED_HEAD = """\
 -- Case files that are accepted, and the cases that they hold, as computed statements about the definitions.
 """ + WRITTEN + """\
 use Prim.Native.Nat.{ℕ}
-use mathlib.Core.Path.{_≡_, refl}
-use mathlib.Core.List.{List, [], _∷_, _++_}
-use Rattle·model.specs.Layout.{caseOf}
-use Rattle·model.specs.Refusals.{refusal}
-use Rattle·model.proofs.Computing.{pairs, all}
-use Rattle·method.proofs.Pinned.{bentFile, bentCase, upFile, upCase, downFile, downCase, deepestFile, deepestCase, long}
+use mathlib.Core.Path.{◌≡◌, refl}
+use mathlib.Core.List.{List, [], ◌∷◌, ◌++◌}
+use Rattle.model.specs.Layout.{case_of}
+use Rattle.model.specs.Refusals.{refusal}
+use Rattle.model.proofs.Computing.{pairs, all}
+use Rattle.method.proofs.Pinned.{bentFile, bentCase, upFile, upCase, downFile, downCase, deepestFile, deepestCase, long}
 """
 
 FILES_HEAD = """\
 -- The listings of whole case files, and what takes longer to compute of a curve, as computed statements about the definitions.
 """ + WRITTEN + """\
 use Prim.Native.String.{String}
-use mathlib.Core.Path.{_≡_, refl}
-use mathlib.Core.List.{List, [], _∷_}
+use mathlib.Core.Path.{◌≡◌, refl}
+use mathlib.Core.List.{List, [], ◌∷◌}
 use lib.Dec.{lit<}
 use lib.ListN.{replicate, take}
-use lib.IntN.{pos, negℤ}
-use Rattle·arith.specs.Rounding.{low, high}
-use Rattle·method.specs.Fraction.{_//_, _≐_}
-use Rattle·method.specs.Curve.{base, up, down, curve}
-use Rattle·method.specs.Exact as Exact
-use Rattle·method.specs.Rounded as Rounded
-use Rattle·method.specs.Buffers.{valuationOf}
-use Rattle·method.specs.Listing.{listing}
-use Rattle·method.proofs.Computing.{text, all}
-use Rattle·method.proofs.Pinned.{bentCurve, upFile, downFile, deepestFile, deepestCase, long}
+use lib.IntN.{pos, neg_ℤ}
+use Rattle.arith.specs.Rounding.{low, high}
+use Rattle.method.specs.Fraction.{◌//◌, ◌≐◌}
+use Rattle.method.specs.Curve.{base, up, down, curve}
+use Rattle.method.specs.Exact as Exact
+use Rattle.method.specs.Rounded as Rounded
+use Rattle.method.specs.Buffers.{valuationOf}
+use Rattle.method.specs.Listing.{listing}
+use Rattle.method.proofs.Computing.{text, all}
+use Rattle.method.proofs.Pinned.{bentCurve, upFile, downFile, deepestFile, deepestCase, long}
 """
 
 SAVED_HEAD = """\
@@ -132,32 +132,32 @@ SAVED_HEAD = """\
 -- the definitions.
 """ + WRITTEN + """\
 use Prim.Native.Nat.{ℕ}
-use mathlib.Core.Path.{_≡_, refl}
-use mathlib.Core.List.{List, [], _∷_, _++_, map}
+use mathlib.Core.Path.{◌≡◌, refl}
+use mathlib.Core.List.{List, [], ◌∷◌, ◌++◌, map}
 use lib.ListN.{replicate}
-use lib.IntN.{pos, negℤ}
-use Rattle·model.specs.Case.{FileCase}
-use Rattle·savingmodel·specs.specs.Saving.{given, caseRefusal, shortest, saveRefusal, saveAnswer, savedAfter}
-use Rattle·model.specs.declared.case.Amounts.{Amounts}
-use Rattle·model.specs.declared.case.Shocks.{Shocks}
-use Rattle·model.specs.declared.case.CaseFields.{CaseFields}
-use Rattle·savingmodel·specs.specs.declared.Saved.the-variants.{Written, Refused}
-use Rattle·model.proofs.Computing.{pairs}
-use Rattle·savingmodel·proofs.proofs.Computing.{all}
+use lib.IntN.{pos, neg_ℤ}
+use Rattle.model.specs.Case.{FileCase}
+use Rattle.savingmodel.specs.Saving.{given, caseRefusal, shortest, saveRefusal, saveAnswer, savedAfter}
+use Rattle.model.specs.declared.case.Amounts.{Amounts}
+use Rattle.model.specs.declared.case.Shocks.{Shocks}
+use Rattle.model.specs.declared.case.CaseFields.{CaseFields}
+use Rattle.savingmodel.specs.declared.Saved.TheVariants.{Written, Refused}
+use Rattle.model.proofs.Computing.{pairs}
+use Rattle.savingmodel.proofs.Computing.{all}
 """
 
 SEARCH_HEAD = """\
 -- The search for a zero rate: the step that is tested next, what a test leaves, and the steps left after each test, as
 -- computed statements about the definitions.
 """ + WRITTEN + """\
-use Prim.Native.Nat.{ℕ, _-_, _*_}
-use mathlib.Core.Path.{_≡_, refl}
+use Prim.Native.Nat.{ℕ, ◌-◌, ◌*◌}
+use mathlib.Core.Path.{◌≡◌, refl}
 use mathlib.Core.Bool.{Bool, true, false}
-use mathlib.Core.List.{List, [], _∷_, map}
-use Rattle·arith.specs.Rounding.{End, low, high}
-use Rattle·searchmodel·specs.specs.Bisection.{middle, halved, afterTests, stepsLeft, isLeft, howMany, mostLeft}
-use Rattle·searchmodel·specs.specs.declared.StepsLeft.{StepsLeft}
-use Rattle·searchmodel·proofs.proofs.Computing.{all}
+use mathlib.Core.List.{List, [], ◌∷◌, map}
+use Rattle.arith.specs.Rounding.{End, low, high}
+use Rattle.searchmodel.specs.Bisection.{middle, halved, afterTests, stepsLeft, isLeft, howMany, mostLeft}
+use Rattle.searchmodel.specs.declared.StepsLeft.{StepsLeft}
+use Rattle.searchmodel.proofs.Computing.{all}
 """
 
 ROLLING_WRITTEN = WRITTEN.replace("tests/reference.py", "tests/rolling.py")
@@ -168,15 +168,15 @@ ROLLING_HEAD = """\
 """ + ROLLING_WRITTEN + """\
 use Prim.Native.Nat.{ℕ}
 use Prim.Native.String.{String}
-use mathlib.Core.Path.{_≡_, refl}
+use mathlib.Core.Path.{◌≡◌, refl}
 use mathlib.Core.Bool.{true, false}
-use mathlib.Core.List.{List, [], _∷_, _++_, map}
+use mathlib.Core.List.{List, [], ◌∷◌, ◌++◌, map}
 use lib.Dec.{ltb}
 use lib.ListN.{replicate, take, drop}
-use lib.IntN.{ℤ, pos, negℤ}
-use Rattle·model.specs.Refusals.{firstOf}
-use Rattle·savingmodel.specs.Saving.{given}
-use Rattle·rollingmodel·specs.specs.Rolling.{
+use lib.IntN.{ℤ, pos, neg_ℤ}
+use Rattle.model.specs.Refusals.{first_of}
+use Rattle.savingmodel.specs.Saving.{given}
+use Rattle.rollingmodel.specs.Rolling.{
   daysHeld,
   emptyWindow,
   windowRight,
@@ -193,12 +193,12 @@ use Rattle·rollingmodel·specs.specs.Rolling.{
   windowFactorsAfter,
   windowRatesAfter,
 }
-use Rattle·method.specs.Listing.{listing}
-use Rattle·rollingmodel·specs.specs.declared.RollingWindow.{RollingWindow}
-use Rattle·rollingmodel·specs.specs.declared.ChangedWindow.{ChangedWindow}
-use Rattle·method.proofs.Computing.{text}
-use Rattle·rollingmodel·proofs.proofs.Computing.{all}
-use Rattle·savingmodel.proofs.SavedCases.{fieldsOf, noAmounts, noShocks, small}
+use Rattle.method.specs.Listing.{listing}
+use Rattle.rollingmodel.specs.declared.RollingWindow.{RollingWindow}
+use Rattle.rollingmodel.specs.declared.ChangedWindow.{ChangedWindow}
+use Rattle.method.proofs.Computing.{text}
+use Rattle.rollingmodel.proofs.Computing.{all}
+use Rattle.savingmodel.proofs.SavedCases.{fields_of, noAmounts, noShocks, small}
 """
 
 ROLLING_TABLE_HEAD = """\
@@ -206,17 +206,17 @@ ROLLING_TABLE_HEAD = """\
 -- two-byte and of four-byte days, and the first zero rate that a valuation leaves.
 """ + ROLLING_WRITTEN + """\
 use Prim.Native.Nat.{ℕ}
-use mathlib.Core.Path.{_≡_, refl}
-use mathlib.Core.List.{List, [], _∷_, _++_}
+use mathlib.Core.Path.{◌≡◌, refl}
+use mathlib.Core.List.{List, [], ◌∷◌, ◌++◌}
 use lib.ListN.{replicate, take}
-use lib.IntN.{pos, negℤ}
-use Rattle·savingmodel.specs.Saving.{given}
-use Rattle·rollingmodel.specs.Rolling.{emptyWindow, addRefusal, windowRefusal, windowRatesAfter}
-use Rattle·rollingmodel.proofs.Computing.{all}
-use Rattle·model.proofs.FourByteCases.{finerCase}
-use Rattle·savingmodel.proofs.SavedCases.{amountsOf, shocksOf, fieldsOf, noAmounts, noShocks, small}
-use Rattle·savingmodel.proofs.FourByteCases.{smallFour}
-use Rattle·rollingmodel.proofs.RollingCases.{windowOf, someDay, highDay, fullWindow, oneDayLeft, flatDays}
+use lib.IntN.{pos, neg_ℤ}
+use Rattle.savingmodel.specs.Saving.{given}
+use Rattle.rollingmodel.specs.Rolling.{emptyWindow, addRefusal, windowRefusal, windowRatesAfter}
+use Rattle.rollingmodel.proofs.Computing.{all}
+use Rattle.model.proofs.FourByteCases.{finerCase}
+use Rattle.savingmodel.proofs.SavedCases.{amountsOf, shocksOf, fields_of, noAmounts, noShocks, small}
+use Rattle.savingmodel.proofs.FourByteCases.{smallFour}
+use Rattle.rollingmodel.proofs.RollingCases.{windowOf, someDay, highDay, fullWindow, oneDayLeft, flatDays}
 """
 
 MONTHS_WRITTEN = """\
@@ -229,13 +229,13 @@ MONTHS_HEAD = """\
 -- valued with it, as computed statements about the definitions. What takes longer to compute is in the crate `monthscases`.
 """ + MONTHS_WRITTEN + """\
 use Prim.Native.Nat.{ℕ}
-use mathlib.Core.Path.{_≡_, refl}
-use mathlib.Core.List.{List, [], _∷_, _++_, map}
+use mathlib.Core.Path.{◌≡◌, refl}
+use mathlib.Core.List.{List, [], ◌∷◌, ◌++◌, map}
 use lib.ListN.{replicate}
-use lib.IntN.{ℤ, pos, negℤ}
-use Rattle·monthsmodel·specs.specs.Months.{monthsOf, hundreds, apart, roundedUfr, ufrRefusal, withUfrField, monthsRefusal, monthsCase}
-use Rattle·model.proofs.Computing.{pairs}
-use Rattle·monthsmodel·proofs.proofs.Computing.{all}
+use lib.IntN.{ℤ, pos, neg_ℤ}
+use Rattle.monthsmodel.specs.Months.{monthsOf, hundreds, apart, roundedUfr, ufrRefusal, withUfrField, monthsRefusal, monthsCase}
+use Rattle.model.proofs.Computing.{pairs}
+use Rattle.monthsmodel.proofs.Computing.{all}
 """
 
 MONTHS_TABLE_HEAD = """\
@@ -245,20 +245,20 @@ MONTHS_TABLE_HEAD = """\
 """ + MONTHS_WRITTEN + """\
 use Prim.Native.Nat.{ℕ}
 use Prim.Native.String.{String}
-use mathlib.Core.Path.{_≡_, refl}
-use mathlib.Core.List.{List, [], _∷_, _++_}
+use mathlib.Core.Path.{◌≡◌, refl}
+use mathlib.Core.List.{List, [], ◌∷◌, ◌++◌}
 use lib.ListN.{replicate, take, drop}
-use lib.IntN.{pos, negℤ}
-use Rattle·arith.specs.Rounding.{low, high}
-use Rattle·method.specs.Buffers.{entryOf, rateEntryOf}
-use Rattle·monthsmodel.specs.Months.{monthsOf, oldestFirst, total, ufrRefusal, ufrAnswer}
-use Rattle·monthsmodel.specs.Months.{monthsRefusal, monthsValuation, monthsFactorsAfter, monthsRatesAfter}
-use Rattle·method.specs.Listing.{listing}
-use Rattle·monthsmodel.specs.declared.Ufr.the-variants.{Found, Refused}
-use Rattle·model.proofs.Computing.{pairs}
-use Rattle·method.proofs.Computing.{text}
-use Rattle·monthsmodel.proofs.Computing.{all}
-use Rattle·monthsmodel.proofs.MonthsCases.{foundHistory, noUfrHistory, ringMonths, plainFile, ownUfrFile}
+use lib.IntN.{pos, neg_ℤ}
+use Rattle.arith.specs.Rounding.{low, high}
+use Rattle.method.specs.Buffers.{entry_of, rateEntryOf}
+use Rattle.monthsmodel.specs.Months.{monthsOf, oldestFirst, total, ufrRefusal, ufrAnswer}
+use Rattle.monthsmodel.specs.Months.{monthsRefusal, monthsValuation, monthsFactorsAfter, monthsRatesAfter}
+use Rattle.method.specs.Listing.{listing}
+use Rattle.monthsmodel.specs.declared.Ufr.TheVariants.{Found, Refused}
+use Rattle.model.proofs.Computing.{pairs}
+use Rattle.method.proofs.Computing.{text}
+use Rattle.monthsmodel.proofs.Computing.{all}
+use Rattle.monthsmodel.proofs.MonthsCases.{foundHistory, noUfrHistory, ringMonths, plainFile, ownUfrFile}
 """
 
 FOUR_HEAD = """\
@@ -266,15 +266,15 @@ FOUR_HEAD = """\
 -- refusals is in the crate `fourbytecases`.
 """ + WRITTEN + """\
 use Prim.Native.Nat.{ℕ, zero, suc}
-use mathlib.Core.Path.{_≡_, refl}
+use mathlib.Core.Path.{◌≡◌, refl}
 use mathlib.Core.Bool.{true, false}
-use mathlib.Core.List.{List, [], _∷_, _++_, map}
+use mathlib.Core.List.{List, [], ◌∷◌, ◌++◌, map}
 use lib.ListN.{replicate}
-use lib.IntN.{pos, negℤ}
-use Rattle·model·specs.specs.Case.{FileCase}
-use Rattle·model·specs.specs.Layout.{fileOf, caseOf}
-use Rattle·model·specs.specs.Refusals.{refusal, daysAt, dayCount, ratesPart}
-use Rattle·model·proofs.proofs.Computing.{pairs, all}
+use lib.IntN.{pos, neg_ℤ}
+use Rattle.model.specs.Case.{FileCase}
+use Rattle.model.specs.Layout.{fileOf, case_of}
+use Rattle.model.specs.Refusals.{refusal, daysAt, dayCount, ratesPart}
+use Rattle.model.proofs.Computing.{pairs, all}
 """
 
 FOUR_FIGURES_HEAD = """\
@@ -282,41 +282,41 @@ FOUR_FIGURES_HEAD = """\
 -- definitions.
 """ + WRITTEN + """\
 use Prim.Native.Nat.{ℕ}
-use mathlib.Core.Path.{_≡_, refl}
+use mathlib.Core.Path.{◌≡◌, refl}
 use mathlib.Core.Bool.{true, false}
-use mathlib.Core.List.{List, [], _∷_, _++_}
+use mathlib.Core.List.{List, [], ◌∷◌, ◌++◌}
 use lib.Dec.{lit<}
 use lib.ListN.{replicate}
-use lib.IntN.{pos, negℤ}
-use Rattle·arith.specs.Rounding.{low, high}
-use Rattle·model.specs.Case.{FileCase, withDays, perStep}
-use Rattle·model.specs.Refusals.{forwardsRight}
-use Rattle·method·specs.specs.Fraction.{_//_, _≐_}
-use Rattle·method·specs.specs.Curve.{base, up, down, curve, P}
-use Rattle·method·specs.specs.Exact as Exact
-use Rattle·method·specs.specs.Rounded as Rounded
-use Rattle·method·specs.specs.FourBytes.{rewritten, rewrittenFile}
-use Rattle·method·specs.specs.Listing.{ascii, word}
-use Rattle·model.specs.declared.figures.Verdict.the-variants.{Dekkingstekort}
-use Rattle·model.proofs.FourByteCases.{finerCase, oldCase, newCase, oldFile, newFile}
-use Rattle·method·proofs.proofs.Computing.{all}
+use lib.IntN.{pos, neg_ℤ}
+use Rattle.arith.specs.Rounding.{low, high}
+use Rattle.model.specs.Case.{FileCase, withDays, perStep}
+use Rattle.model.specs.Refusals.{forwardsRight}
+use Rattle.method.specs.Fraction.{◌//◌, ◌≐◌}
+use Rattle.method.specs.Curve.{base, up, down, curve, P}
+use Rattle.method.specs.Exact as Exact
+use Rattle.method.specs.Rounded as Rounded
+use Rattle.method.specs.FourBytes.{rewritten, rewrittenFile}
+use Rattle.method.specs.Listing.{ascii, word}
+use Rattle.model.specs.declared.figures.Verdict.TheVariants.{Dekkingstekort}
+use Rattle.model.proofs.FourByteCases.{finerCase, oldCase, newCase, oldFile, newFile}
+use Rattle.method.proofs.Computing.{all}
 """
 
 FOUR_SAVED_HEAD = """\
 -- Saving a case with rates in four bytes, as computed statements about the definitions.
 """ + WRITTEN + """\
 use Prim.Native.Nat.{ℕ}
-use mathlib.Core.Path.{_≡_, refl}
-use mathlib.Core.List.{List, [], _∷_, _++_, map}
+use mathlib.Core.Path.{◌≡◌, refl}
+use mathlib.Core.List.{List, [], ◌∷◌, ◌++◌, map}
 use lib.ListN.{replicate}
-use lib.IntN.{pos, negℤ}
-use Rattle·model.specs.Case.{FileCase}
-use Rattle·savingmodel·specs.specs.declared.Saved.the-variants.{Written, Refused}
-use Rattle·model.proofs.Computing.{pairs}
-use Rattle·model.proofs.FourByteCases.{quads, finerFile, finerCase, oldCase, newCase, oldFile, newFile}
-use Rattle·savingmodel·specs.specs.Saving.{given, caseRefusal, shortest, saveRefusal, saveAnswer, savedAfter}
-use Rattle·savingmodel·proofs.proofs.Computing.{all}
-use Rattle·savingmodel·proofs.proofs.SavedCases.{amountsOf, shocksOf, fieldsOf, noAmounts, noShocks}
+use lib.IntN.{pos, neg_ℤ}
+use Rattle.model.specs.Case.{FileCase}
+use Rattle.savingmodel.specs.declared.Saved.TheVariants.{Written, Refused}
+use Rattle.model.proofs.Computing.{pairs}
+use Rattle.model.proofs.FourByteCases.{quads, finerFile, finerCase, oldCase, newCase, oldFile, newFile}
+use Rattle.savingmodel.specs.Saving.{given, caseRefusal, shortest, saveRefusal, saveAnswer, savedAfter}
+use Rattle.savingmodel.proofs.Computing.{all}
+use Rattle.savingmodel.proofs.SavedCases.{amountsOf, shocksOf, fields_of, noAmounts, noShocks}
 """
 
 FOUR_ROLLING_HEAD = """\
@@ -324,29 +324,29 @@ FOUR_ROLLING_HEAD = """\
 """ + ROLLING_WRITTEN + """\
 use Prim.Native.Nat.{ℕ}
 use Prim.Native.String.{String}
-use mathlib.Core.Path.{_≡_, refl}
-use mathlib.Core.List.{List, [], _∷_, _++_}
+use mathlib.Core.Path.{◌≡◌, refl}
+use mathlib.Core.List.{List, [], ◌∷◌, ◌++◌}
 use lib.ListN.{replicate, take}
-use lib.IntN.{pos, negℤ}
-use Rattle·method.specs.Listing.{listing}
-use Rattle·method.proofs.Computing.{text}
-use Rattle·model.proofs.FourByteCases.{finerCase}
-use Rattle·rollingmodel·specs.specs.Rolling.{windowValuation, windowFactorsAfter}
-use Rattle·rollingmodel·proofs.proofs.Computing.{all}
-use Rattle·rollingmodel·proofs.proofs.RollingCases.{flatDays}
+use lib.IntN.{pos, neg_ℤ}
+use Rattle.method.specs.Listing.{listing}
+use Rattle.method.proofs.Computing.{text}
+use Rattle.model.proofs.FourByteCases.{finerCase}
+use Rattle.rollingmodel.specs.Rolling.{windowValuation, windowFactorsAfter}
+use Rattle.rollingmodel.proofs.Computing.{all}
+use Rattle.rollingmodel.proofs.RollingCases.{flatDays}
 """
 
 FOUR_MONTHS_HEAD = """\
 -- The UFR of months put into files with rates in four bytes, as computed statements about the definitions.
 """ + MONTHS_WRITTEN + """\
 use Prim.Native.Nat.{ℕ}
-use mathlib.Core.Path.{_≡_, refl}
-use mathlib.Core.List.{List, [], _∷_, _++_}
-use Rattle·model.proofs.Computing.{pairs}
-use Rattle·model.proofs.FourByteCases.{quads, finerFile}
-use Rattle·monthsmodel·specs.specs.Months.{withUfrField, monthsCase}
-use Rattle·monthsmodel·proofs.proofs.Computing.{all}
-use Rattle·monthsmodel·proofs.proofs.MonthsCases.{foundHistory}
+use mathlib.Core.Path.{◌≡◌, refl}
+use mathlib.Core.List.{List, [], ◌∷◌, ◌++◌}
+use Rattle.model.proofs.Computing.{pairs}
+use Rattle.model.proofs.FourByteCases.{quads, finerFile}
+use Rattle.monthsmodel.specs.Months.{withUfrField, monthsCase}
+use Rattle.monthsmodel.proofs.Computing.{all}
+use Rattle.monthsmodel.proofs.MonthsCases.{foundHistory}
 """
 
 FOUR_TABLE_HEAD = """\
@@ -357,25 +357,25 @@ FOUR_TABLE_HEAD = """\
 """ + WRITTEN + """\
 use Prim.Native.Nat.{ℕ}
 use Prim.Native.String.{String}
-use mathlib.Core.Path.{_≡_, refl}
-use mathlib.Core.List.{List, [], _∷_, _++_, map}
+use mathlib.Core.Path.{◌≡◌, refl}
+use mathlib.Core.List.{List, [], ◌∷◌, ◌++◌, map}
 use lib.ListN.{replicate}
-use lib.IntN.{pos, negℤ}
-use Rattle·arith.specs.Rounding.{low, high}
-use Rattle·model.specs.Refusals.{refusal, ratesPart}
-use Rattle·model.specs.Case.{FileCase}
-use Rattle·savingmodel.specs.Saving.{given, caseRefusal}
-use Rattle·method.specs.Curve.{base, curve}
-use Rattle·method.specs.Rounded as Rounded
-use Rattle·method.specs.Buffers.{valuationOf}
-use Rattle·method.specs.FourBytes.{rewrittenFile}
-use Rattle·method.specs.Listing.{listing}
-use Rattle·model.proofs.Computing.{pairs}
-use Rattle·method.proofs.Computing.{text}
-use Rattle·rollingmodel.proofs.Computing.{all}
-use Rattle·savingmodel.proofs.SavedCases.{amountsOf, shocksOf, fieldsOf, noAmounts, noShocks}
-use Rattle·model.proofs.FourByteCases.{quads, finerFile, finerCase, oldFile, newFile}
-use Rattle·savingmodel.proofs.FourByteCases.{smallFour}
+use lib.IntN.{pos, neg_ℤ}
+use Rattle.arith.specs.Rounding.{low, high}
+use Rattle.model.specs.Refusals.{refusal, ratesPart}
+use Rattle.model.specs.Case.{FileCase}
+use Rattle.savingmodel.specs.Saving.{given, caseRefusal}
+use Rattle.method.specs.Curve.{base, curve}
+use Rattle.method.specs.Rounded as Rounded
+use Rattle.method.specs.Buffers.{valuationOf}
+use Rattle.method.specs.FourBytes.{rewrittenFile}
+use Rattle.method.specs.Listing.{listing}
+use Rattle.model.proofs.Computing.{pairs}
+use Rattle.method.proofs.Computing.{text}
+use Rattle.rollingmodel.proofs.Computing.{all}
+use Rattle.savingmodel.proofs.SavedCases.{amountsOf, shocksOf, fields_of, noAmounts, noShocks}
+use Rattle.model.proofs.FourByteCases.{quads, finerFile, finerCase, oldFile, newFile}
+use Rattle.savingmodel.proofs.FourByteCases.{smallFour}
 """
 
 TITLES = {
@@ -408,7 +408,7 @@ def read_statements(name, case, data):
 
 def case_statement(name):
     """That the file holds the case."""
-    return computed(f"{name}-case", f"caseOf {name}File ≡ {name}Case")
+    return computed(f"{name}-case", f"case_of {name}File ≡ {name}Case")
 
 
 def bent_statements():
@@ -418,7 +418,7 @@ def bent_statements():
     sums = reference.sums(case.days)
     out = read_statements("bent", case, encode(case, True, False, True))
     out.append("abbrev pub bentCurve : Curve\nbentCurve = curve bentCase base\n")
-    out.append(computed("bent-sums", *(f"s (bentCase .days) {t} ≡ {integer(sums[t])}" for t in (0, 1, 20, 21, 60))))
+    out.append(computed("bent-sums", *(f"s bentCase.days {t} ≡ {integer(sums[t])}" for t in (0, 1, 20, 21, 60))))
     for t in (21, 60):
         out.append(computed(f"bent-growth-{t}", *both_ends(
             f"Rounded.growth bentCurve {{e}} {t}", ends(lambda end: reference.growth(N, P, t, end)))))
@@ -427,7 +427,7 @@ def bent_statements():
             f"Rounded.weighed bentCurve {{e}} {t}", ends(lambda end: reference.weighed_growth(N, P, case.ufr, t, end)))))
     for t in (1, 20, 21):
         out.append(computed(f"bent-factor-{t}", *both_ends(f"Rounded.factor bentCurve {{e}} {t}", rounded.factors[t])))
-    out.append(computed("bent-entries-21", *both_ends("entryOf (factorEntries bentCase) {e} 21", rounded.factors[21])))
+    out.append(computed("bent-entries-21", *both_ends("entry_of (factorEntries bentCase) {e} 21", rounded.factors[21])))
     for t in (1, 2):
         out.append(computed_fraction(f"bent-exact-factor-{t}", f"Exact.factor bentCurve {t}", exact.factor(t)))
     for t in (61, 120):
@@ -495,7 +495,7 @@ def deepest_statements():
     out += [factor_statement(f"deepest-{move}", f"(curve deepestCase {move})", 60, case, shift)
             for move, shift in reference.shifts(case).items()]
     rounded = Rounded(case)
-    return out + [computed("deepest-widths", f"WL deepestCase ≡ {rounded.WL}", f"WB deepestCase ≡ {rounded.WB}")]
+    return out + [computed("deepest-widths", f"WL deepestCase ≡ {rounded.WL}", f"Wb deepestCase ≡ {rounded.WB}")]
 
 
 def width_statements():
@@ -507,7 +507,7 @@ def width_statements():
     for name, case, comment in named:
         rounded = Rounded(case)
         out.append(case_definition(name, case, comment))
-        out.append(computed(f"{name}-widths", f"WL {name} ≡ {rounded.WL}", f"WB {name} ≡ {rounded.WB}"))
+        out.append(computed(f"{name}-widths", f"WL {name} ≡ {rounded.WL}", f"Wb {name} ≡ {rounded.WB}"))
     return out
 
 
@@ -528,7 +528,7 @@ def shifted_statements():
         on = f"(curve long {move})"
         N, P = reference.points(case, shift)
         exact = ExactCurve(case, shift)
-        out.append(computed(f"long-{move}-points", f"{on} .N ≡ {N}", f"{on} .ufr ≡ {case.ufr}",
+        out.append(computed(f"long-{move}-points", f"{on}.N ≡ {N}", f"{on}.ufr ≡ {case.ufr}",
                             *(f"P {on} {t} ≡ {P[t]}" for t in (1, 20, 60))))
         for t in (21, 60, 61):
             out.append(computed(f"long-{move}-weighed-{t}", *both_ends(
@@ -658,7 +658,7 @@ def makers():
     people = record(named(PEOPLE, "efg"), "    ")
     return [maker("amountsOf", ["ℕ"] * 8 + ["Amounts"], named(AMOUNTS), "eight amounts, in document 01's order"),
             maker("shocksOf", ["ℕ"] * 12 + ["Shocks"], named(SHOCKS), "twelve shocks, likewise"),
-            maker("fieldsOf", ["ℕ", "ℕ", "Amounts", "Shocks", "ℕ", "ℕ", "ℕ", "CaseFields"],
+            maker("fields_of", ["ℕ", "ℕ", "Amounts", "Shocks", "ℕ", "ℕ", "ℕ", "CaseFields"],
                   [("rate_bytes", "a"), ("ufr", "b"), ("amounts", "c"), ("shocks", "d"), ("people", people)],
                   "the number of bytes of a rate, UFR, amounts, shocks, head count, pension age and mean age"),
             definition("noAmounts", "Amounts", "amountsOf" + " 0" * 8), definition("noShocks", "Shocks", "shocksOf" + " 0" * 12)]
@@ -715,7 +715,7 @@ def buffer_statements():
             computed("room-refusals", f"map (saveRefusal small) ({short_list(rooms)}) ≡ {short_list(refusals)}",
                      f"saveRefusal steep 0 ≡ {reference.save(steep, b'').refusal}"),
             computed("save-answers", *(answer_equation("small", small, room) for room in rooms), answer_equation("steep", steep, length)),
-            computed("saved-after", after_equation("small", small, longer), after_equation("steep", steep, longer)),
+            computed("saved_after", after_equation("small", small, longer), after_equation("steep", steep, longer)),
             computed("untouched-on-14", after_equation("small", small, shorter))]
 
 
@@ -992,8 +992,8 @@ def value_statements():
 
 FULL_WINDOW = """\
 -- 15 before 5, of every window of 70 days that is right
-full-window : (w : RollingWindow) → windowRight w ≡ true → ltb (w .count) 70 ≡ false → addRefusal w highDay ≡ 15
-unfolding addRefusal firstOf
+full-window : (w : RollingWindow) → windowRight w ≡ true → ltb w.count 70 ≡ false → addRefusal w highDay ≡ 15
+unfolding addRefusal first_of
 full-window w right full = simp (right, full)
 """
 
@@ -1084,7 +1084,7 @@ def field_equation(file, ufr):
 
 def case_equation(file):
     """The UFR that a file is valued with, its own or none."""
-    return f"monthsCase {bytes_argument(file)} foundHistory .ufr ≡ {months.rounded_ufr(histories.FOUND)}"
+    return f"(monthsCase {bytes_argument(file)} foundHistory).ufr ≡ {months.rounded_ufr(histories.FOUND)}"
 
 
 def months_row(what, call):
@@ -1158,7 +1158,7 @@ def months_listing(name, file):
 def factor_21(name, file, start):
     """The first factor that has the UFR in it."""
     into, factors, _ = with_months(with_found(file, start))
-    return computed(f"{name}-factor-21", *both_ends(f"entryOf (monthsFactorsAfter {into}) {{e}} 21", factors[40:42]))
+    return computed(f"{name}-factor-21", *both_ends(f"entry_of (monthsFactorsAfter {into}) {{e}} 21", factors[40:42]))
 
 
 def months_buffers():
@@ -1221,7 +1221,7 @@ def four_curves(name, term, case):
     out = []
     for move, shift in reference.shifts(case).items():
         on, (N, P) = f"(curve {term} {move})", reference.points(case, shift)
-        out.append(computed(f"{name}-{move}-points", f"{on} .N ≡ {N}", f"{on} .ufr ≡ {case.ufr}", *(f"P {on} {t} ≡ {P[t]}" for t in (1, 20, 60))))
+        out.append(computed(f"{name}-{move}-points", f"{on}.N ≡ {N}", f"{on}.ufr ≡ {case.ufr}", *(f"P {on} {t} ≡ {P[t]}" for t in (1, 20, 60))))
     return out
 
 
@@ -1328,8 +1328,8 @@ def four_month_statements():
     plain = reference.shortest(to_save.SMALL_FOUR)
     field = lambda name, data: f"withUfrField {ufr} {name} ≡ {four_term(months.with_ufr_field(data, ufr))}"
     return [computed("four-ufr-fields", field("finerFile", own), field(argument(four_term(plain)), plain)),
-            computed("four-months-case", f"monthsCase finerFile foundHistory .ufr ≡ {ufr}",
-                     f"monthsCase finerFile foundHistory .rateBytes ≡ {examples.finer().rate_bytes}")]
+            computed("four-months-case", f"(monthsCase finerFile foundHistory).ufr ≡ {ufr}",
+                     f"(monthsCase finerFile foundHistory).rateBytes ≡ {examples.finer().rate_bytes}")]
 
 
 def four_byte_cases():
@@ -1387,7 +1387,7 @@ def accepted():
         out.append(computed(f"{name}-accepted", f"refusal {name}File ≡ 0"))
     out += [case_statement("bent"), case_statement("up"), case_statement("down"), case_statement("deepest")]
     out.append(definition("longFile", "List ℕ", file_term(encode(examples.long(), True, True, True)), "the long fund as a file"))
-    out.append(computed("long-case", "caseOf longFile ≡ long"))
+    out.append(computed("long-case", "case_of longFile ≡ long"))
     return "\n".join(out)
 
 

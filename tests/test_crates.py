@@ -10,7 +10,6 @@ sys.path.insert(0, os.path.dirname(os.path.abspath(__file__)))
 import mutants
 from edits import ROOT, functions, read_text
 
-KIT = {"io", "libc"}
 # A crate that holds a value of a type without naming it: its proofs name the crate of the type.
 HELD = {("engine", "heldcase"), ("valuation", "model"), ("searches", "searchmodel")}
 
@@ -32,7 +31,7 @@ def named(crate):
     """The crates that the files of a crate name, in code and in proofs."""
     texts = [read_text(path) for kind in ("src/**/*.rt", "specs/**/*.antt", "proofs/**/*.antt")
              for path in glob.glob(os.path.join(ROOT, "crates", crate, kind), recursive=True)]
-    return {name for text in texts for name in re.findall(r"Rattle·([a-z]+)[.·]|\b([a-z]+)::", text) for name in name if name}
+    return {name for text in texts for name in re.findall(r"\bRattle\.([a-z]+)\.|\b([a-z]+)::", text) for name in name if name}
 
 
 LINES = list(listed(read_text(os.path.join(ROOT, "crates.txt"))))
@@ -50,7 +49,7 @@ class Crates(unittest.TestCase):
         for _, crate, deps in LINES:
             with self.subTest(crate=crate):
                 self.assertEqual(len(deps), len(set(deps)))
-                self.assertEqual([dep for dep in deps if dep not in named(crate) | KIT and (crate, dep) not in HELD], [])
+                self.assertEqual([dep for dep in deps if dep not in named(crate) and (crate, dep) not in HELD], [])
 
     def test_definitions_have_no_function(self):
         for crate in set().union(*mutants.APART.values()):
@@ -62,7 +61,7 @@ class Crates(unittest.TestCase):
         self.assertEqual([crate for _, crate, deps in LINES if long & set(deps)], [])
 
     def test_of_the_test(self):
-        self.assertEqual(list(listed("# order\n\n# one\na:\nb: a io\n\nc: b\n")), [("one", "a", []), ("one", "b", ["a", "io"]), (None, "c", ["b"])])
+        self.assertEqual(list(listed("# order\n\n# one\na:\nb: a d\n\nc: b\n")), [("one", "a", []), ("one", "b", ["a", "d"]), (None, "c", ["b"])])
         self.assertIn("theory", named("scan"))
         self.assertNotIn("engine", named("scan"))
 

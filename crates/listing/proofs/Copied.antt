@@ -20,26 +20,30 @@ part p h = ap length (front p h) ∙ omega (arith, p.place)
 
 -- what the contract of `write_listing` says, of a buffer that is too short and of one that is not
 abbrev pub Listed : Valuation → List ℕ → ℕ → List ℕ → Type 0
-Listed v held r after =
-    (r ≡ listingLength v (length held)) × ((after ≡ listingAfter v held) × ((r ≤ length after) × (r ≡ length (take r after))))
+Listed v held r after = record {
+  count : r ≡ listingLength v (length held);
+  text : after ≡ listingAfter v held;
+  part : (r ≤ length after) × (r ≡ length (take r after));
+}
 
 pub too_short : {b : List ℕ} {m used : ℕ} {a : List ℕ} (v : Valuation) (held : List ℕ) → Wrote b 0 (listing v) m used a → length held < used → Listed v held 0 held
 unfolding listingLength listingAfter
 too_short v held p h =
-    let short : length held < length (listing v) = omega (arith, p.place) in (
-      sym (cond-gt (length (listing v)) (length held) (length (listing v)) 0 short),
-      (sym (cond-gt (length (listing v)) (length held) (listing v ++ drop (length (listing v)) held) held short), (omega arith, refl)),
-    )
+    let short : length held < length (listing v) = omega (arith, p.place) in
+    record {
+      count = sym (cond-gt (length (listing v)) (length held) (length (listing v)) 0 short);
+      text = sym (cond-gt (length (listing v)) (length held) (listing v ++ drop (length (listing v)) held) held short);
+      part = (omega arith, refl);
+    }
 
 pub copied : {m r : ℕ} {after : List ℕ} (v : Valuation) (held : List ℕ) → Wrote held 0 (listing v) m r after → r ≤ length held → Listed v held r after
 unfolding listingLength listingAfter
 copied {m} {r} {after} v held p h =
     let t = listing v in
     let fits : length t ≤ length held = omega (arith, p.place) in
-    let kept : length after ≡ length held = ap length p.held ∙ length-sets held 0 t in (
-      sym (cond-le (length t) (length held) (length t) 0 fits ∙ omega (arith, p.place)),
-      (
-        in-front p h ∙ sym (cond-le (length t) (length held) (t ++ drop (length t) held) held fits),
-        (omega arith, sym (length-take-le r after (omega arith))),
-      ),
-    )
+    let kept : length after ≡ length held = ap length p.held ∙ length-sets held 0 t in
+    record {
+      count = sym (cond-le (length t) (length held) (length t) 0 fits ∙ omega (arith, p.place));
+      text = in-front p h ∙ sym (cond-le (length t) (length held) (t ++ drop (length t) held) held fits);
+      part = (omega arith, sym (length-take-le r after (omega arith)));
+    }

@@ -9,9 +9,7 @@ use Rattle.model.specs.declared.figures.Verdict.TheVariants.{Dekkingstekort, Res
 use Rattle.model.specs.declared.figures.Valuation.{Valuation}
 use Rattle.model.specs.declared.figures.Valuation.TheVariants.{Refused, Valued}
 use Rattle.monthsmodel.specs.declared.Ufr.{Ufr}
-use Rattle.monthsmodel.specs.declared.Ufr.TheVariants as Ufr
 use Rattle.savingmodel.specs.declared.Saved.{Saved}
-use Rattle.savingmodel.specs.declared.Saved.TheVariants as Saved
 use Rattle.model.specs.declared.window.Point.{Point}
 use Rattle.model.specs.declared.window.Point.TheVariants.{Factor, Money, Blank}
 use Rattle.flat.specs.declared.HostBracket.{HostBracket}

@@ -113,13 +113,13 @@ module _ (u : ℕ) (few : u ≤ 100) (z : ℤ) (f : SFits w32 z) where
   step-read : to_z w32 u ≡ pos u
   step-read = to_z-of_z w32 (pos u) record { sfits = omega (arith, few) }
 
-  pub low_fits : SFits w32 (negsuc 999 *ℤ to_z w32 u)
+  low_fits : SFits w32 (negsuc 999 *ℤ to_z w32 u)
   low_fits = rw step-read (neg-fits (1000 * u) (omega (arith, few)))
 
-  pub high_fits : SFits w32 (pos 10000 *ℤ to_z w32 u)
+  high_fits : SFits w32 (pos 10000 *ℤ to_z w32 u)
   high_fits = rw step-read record { sfits = omega (arith, few) }
 
-  pub base-fits : SFits w32 (pos 100000 *ℤ to_z w32 u)
+  base-fits : SFits w32 (pos 100000 *ℤ to_z w32 u)
   base-fits = rw step-read record { sfits = omega (arith, few) }
 
   low_read : bits (negsuc 999 *ℤ to_z w32 u) ≡ neg_ℤ (pos (1000 * u))
@@ -146,7 +146,7 @@ module _ (u : ℕ) (few : u ≤ 100) (z : ℤ) (f : SFits w32 z) where
         ap₂ (λ y x. y +ℤ x) (to_z-of_z w32 z f) base_read
         ∙ rate-sum u z (between u z (sym (ap₂ lt_z (to_z-of_z w32 z f) low_read) ∙ l) (sym (ap₂ lt_z high_read (to_z-of_z w32 z f)) ∙ h))
 
-    pub sum_fits : SFits w32 sum
+    sum_fits : SFits w32 sum
     sum_fits = rw sum_is record { sfits = omega (arith, raised-most u z, few) }
 
     pub sum-read : bits sum ≡ pos (raisedOr u z)

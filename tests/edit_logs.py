@@ -1,6 +1,9 @@
-"""Whether each must-fail edit is refused at the facts that its comment names, by the logs that `rt ci` leaves.
+"""Whether each must-fail edit is refused at the facts that its comment names, by all that the prover says of it.
 
-Command line: python3 tests/edit_logs.py [FOLDER]      target/must-fail unless said otherwise
+Command line: python3 tests/edit_logs.py [--kept] [NAME | NAME/EDIT ..]      every edit, unless crates or edits are named
+
+`rt ci` and `rt must-fail` tell only the first line of a refusal. So each edit is put into a copy of the crates here, and what `rt check`
+says there is kept in target/must-fail/NAME/EDIT.log; with --kept, the logs that are there are looked at as they are.
 
 An edit that is refused for another reason, because a proof no longer fits it, guards nothing. Ends with 1 if a log is missing, or if a
 statement or a fact of a function that is named has no error in it.
@@ -8,25 +11,99 @@ statement or a fact of a function that is named has no error in it.
 
 import os
 import re
+import shutil
+import subprocess
 import sys
+import tempfile
 
 sys.path.insert(0, os.path.dirname(os.path.abspath(__file__)))
-from edits import EDITS, ROOT, facts, parts, place, read_text, refusing
+from edits import EDITS, ROOT, edited, facts, parts, place, read_text, refusing
 
+LOGS = os.path.join(ROOT, "target", "must-fail")
+NOTE = re.compile(r"note: \S+:\d+:\d+: it is not proved that .*? \(`([^`]+)`\)")
+TOLD = re.compile(r"fn (\S+): (.*)")
+
+
+# ---------------------------------------------------------------- making the logs
+
+def copied(tree):
+    """A copy of the crates with what was proved of them. It shares the checked modules: a check replaces such a file, and never writes into one."""
+    def copy(source, target):
+        try:
+            if source.endswith(".oantt"):
+                return os.link(source, target)
+        except OSError:  # another file system
+            pass
+        return shutil.copy2(source, target)
+    shutil.copytree(os.path.join(ROOT, "crates"), os.path.join(tree, "crates"), copy_function=copy, ignore=shutil.ignore_patterns("must-fail"))
+    shutil.copy2(os.path.join(ROOT, "crates.txt"), tree)
+
+
+def check(tree, crate):
+    """(exit status, what was said) of a check of a crate of a tree."""
+    ran = subprocess.run(["rt", "check"], cwd=os.path.join(tree, "crates", crate), stdin=subprocess.DEVNULL,
+                         stdout=subprocess.PIPE, stderr=subprocess.STDOUT, encoding="utf-8", errors="replace")
+    return ran.returncode, ran.stdout
+
+
+def write(folder, texts):
+    for file, text in texts.items():
+        with open(os.path.join(folder, file), "w", encoding="utf-8") as out:
+            out.write(text)
+
+
+def make_log(tree, path):
+    """Checks a crate of the tree with an edit, keeps what was said, and puts the crate's texts back."""
+    crate, name = place(path)
+    folder, texts = os.path.join(tree, "crates", crate), edited(path)
+    originals = {file: read_text(os.path.join(folder, file)) for file in texts}
+    write(folder, texts)
+    said = check(tree, crate)[1]
+    write(folder, originals)
+    os.makedirs(os.path.join(LOGS, crate), exist_ok=True)
+    write(os.path.join(LOGS, crate), {f"{name}.log": said})
+
+
+def make_logs(paths):
+    with tempfile.TemporaryDirectory(prefix="edit-logs-") as tree:
+        copied(tree)
+        for crate in sorted({place(path)[0] for path in paths}):
+            status, said = check(tree, crate)
+            if status:
+                sys.exit(f"edit_logs: {crate} is not proved as it is, so its edits show nothing\n{said[-2000:]}")
+            for path in paths:
+                if place(path)[0] == crate:
+                    make_log(tree, path)
+
+
+# ---------------------------------------------------------------- reading them
 
 def errors(log):
     """The declarations that a log has an error of, each with the file that it is in."""
     return set(re.findall(r"^(\S+?):\d+:\d+: error: `([^`]+)`", log, re.M))
 
 
+def left(log, crate, function):
+    """The goals of a function that the search left: those of the notes above the function's line, and those that the line names."""
+    found = set()
+    for line in log.splitlines():
+        if note := NOTE.match(line):
+            found.add(note[1])
+        elif told := TOLD.match(line):
+            if told[1] == f"{crate}::{function}":
+                return found | set(re.findall(r"`([^`]+)`", told[2].partition("did not prove")[2]))
+            found = set()
+    return set()
+
+
 def silent_fact(crate, fact, function, log):
-    """Whether a log has no error of a fact of a function: in its proof file, or, of a function without one, among what the search left."""
+    """Whether a log has no error of a fact of a function: in its proof files, or among what the search left."""
     path = function.split("::")
-    files = ("/".join(["proofs", *path, "Proof.antt"]), "/".join(["proofs", *path[:-1], "+" + path[-1], "Proof.antt"]))
+    folders = ("/".join(["proofs", *path]), "/".join(["proofs", *path[:-1], "+" + path[-1]]))
+    files = tuple(f"{folder}/{file}.antt" for folder in folders for file in ("Answers", "Invariants", "Proof"))
     if any(name == fact and file.endswith(files) for file, name in errors(log)):
         return False
-    left = re.search(rf"^fn {crate}::{function}: no proof: .* does not close (.*)$", log, re.M)
-    return not (left and f"`{fact}`" in left.group(1).split(", "))
+    return fact not in left(log, crate, function)
 
 
 def silent(crate, edit, log):
@@ -37,18 +114,26 @@ def silent(crate, edit, log):
         + [f"{fact} of {function}" for fact, function in facts(comment) if silent_fact(crate, fact, function, log)]
 
 
-def main(folder):
-    wrong = 0 if EDITS else 1
-    for path in EDITS:
+def chosen(names):
+    """The edits that are named, each by its crate or by its own name; all of them, if none is."""
+    return [path for path in EDITS if not names or {place(path)[0], "/".join(place(path))} & set(names)]
+
+
+def main(words):
+    paths = chosen([word for word in words if word != "--kept"])
+    if "--kept" not in words:
+        make_logs(paths)
+    wrong = 0
+    for path in paths:
         crate, name = place(path)
-        log = os.path.join(folder, crate, name, ".log")
+        log = os.path.join(LOGS, crate, f"{name}.log")
         missing = silent(crate, read_text(path), read_text(log)) if os.path.exists(log) else ["no log"]
         if missing:
             wrong += 1
             print(f"{crate}/{name}: {', '.join(missing)}")
-    print(f"{len(EDITS)} edits, {wrong} not refused as their comments say")
-    return 1 if wrong else 0
+    print(f"{len(paths)} edits, {wrong} not refused as their comments say")
+    return 1 if wrong or not paths else 0
 
 
 if __name__ == "__main__":
-    sys.exit(main(sys.argv[1] if len(sys.argv) > 1 else os.path.join(ROOT, "target", "must-fail")))
+    sys.exit(main(sys.argv[1:]))

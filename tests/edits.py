@@ -29,6 +29,17 @@ def parts(text):
     return " ".join(comment), triples
 
 
+def edited(path):
+    """The texts of the files that an edit changes, as it makes them, each by its path in the crate."""
+    texts = {}
+    for file, old, new in parts(read_text(path))[1]:
+        text = texts.get(file) or read_text(os.path.join(os.path.dirname(path), "..", file))
+        if text.count(old) != 1:
+            raise ValueError(f"{path}: the text is in {file} {text.count(old)} times, and not once: {old}")
+        texts[file] = text.replace(old, new)
+    return texts
+
+
 def refusing(comment):
     """The names behind 'Refused by' in a comment."""
     found = re.search(r"Refused by (.*)\.$", comment.strip())
@@ -36,9 +47,9 @@ def refusing(comment):
 
 
 def facts(comment):
-    """The facts that a comment names, each with its function: `loop-again` and `returns` of rates::add_day are two of them."""
-    found = re.findall(r"((?:`[a-z0-9-]+`(?:, | and )?)+) of ([A-Za-z_0-9]+(?:::[A-Za-z_0-9]+)*)", comment)
-    return [(fact, function) for names, function in found for fact in re.findall(r"`([a-z0-9-]+)`", names)]
+    """The facts that a comment names, each with its function: `loop-i-preserved` and `returns` of rates::add_day are two of them."""
+    found = re.findall(r"((?:`[\w-]+`(?:, | and )?)+) of ([A-Za-z_0-9]+(?:::[A-Za-z_0-9]+)*)", comment)
+    return [(fact, function) for names, function in found for fact in re.findall(r"`([\w-]+)`", names)]
 
 
 def place(path):

@@ -65,12 +65,14 @@ class Edits(unittest.TestCase):
 
 
 LOG = """\
-/t/proofs/rates/add_day/Proof.antt:3:5: error: `loop-again`: the two types differ
-/t/proofs/years/+take/Proof.antt:3:5: error: `take-returns`: the two types differ
-/t/proofs/Worked.antt:9:1: error: `c5-factor`: expected type
+./proofs/rates/add_day/Answers.antt:3:5: error: `loop-i-preserved`: the two types differ
+./proofs/years/+take/Answers.antt:3:5: error: `returns-then`: the two types differ
+./proofs/Worked.antt:9:1: error: `c5-factor`: expected type
+note: src/rates.rt:9:1: it is not proved that the sum fits its type (`sum-a`); the facts known there allow values at which this goal is false
 fn k::rates::add_day: not proved
-fn k::roots::roots: no proof: expected `roots-spec` in /t/proofs/roots/roots/Proof.antt; `search` does not close `mul-lower`, `returns`
-fn k::other: not proved; it calls `k::roots::roots`, which is not proved
+fn k::rates::sum_days: proved
+fn k::roots::roots: no proof: expected answers in ./proofs/roots/roots/Answers.antt; `search` did not prove `mul-lower`, `returns`
+fn k::other: no proof: it calls `k::roots::roots`, which is not proved
 """
 
 
@@ -79,9 +81,13 @@ class Logs(unittest.TestCase):
         return edit_logs.silent("k", f"# {comment}\nfile: src/a.rt\nold: 1\nnew: 2\n", LOG)
 
     def test_a_fact_has_its_error_where_its_function_is(self):
-        self.assertEqual(self.silent("A slip: `loop-again` of rates::add_day and `take-returns` of years::take no longer hold."), [])
-        self.assertEqual(self.silent("A slip: `loop-again` of rates::sum_days no longer holds."), ["loop-again of rates::sum_days"])
+        self.assertEqual(self.silent("A slip: `loop-i-preserved` of rates::add_day and `returns-then` of years::take no longer hold."), [])
+        self.assertEqual(self.silent("A slip: `loop-i-preserved` of rates::sum_days no longer holds."), ["loop-i-preserved of rates::sum_days"])
         self.assertEqual(self.silent("A slip: `returns` of rates::add_day no longer holds."), ["returns of rates::add_day"])
+
+    def test_a_goal_that_the_answers_leave_out(self):
+        self.assertEqual(self.silent("A slip: `sum-a` of rates::add_day no longer holds."), [])
+        self.assertEqual(self.silent("A slip: `sum-a` of rates::sum_days no longer holds."), ["sum-a of rates::sum_days"])
 
     def test_a_function_without_a_proof_file(self):
         self.assertEqual(self.silent("A slip: `mul-lower` and `returns` of roots::roots no longer hold."), [])

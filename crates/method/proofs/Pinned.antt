@@ -19,7 +19,7 @@ use Rattle.method.specs.Curve.{Curve, base, up, down, curve, P}
 use Rattle.method.specs.Exact as Exact
 use Rattle.method.specs.Rounded as Rounded
 use Rattle.method.specs.Buffers.{entry_of, factorEntries}
-use Rattle.method.specs.Margins.{WL, Wb, NearFirst, NearSecond, firstMargin, secondMargin}
+use Rattle.method.specs.Margins.{WL, WB, NearFirst, NearSecond, firstMargin, secondMargin}
 use Rattle.method.specs.Demand3.{
   leastStep,
   mostStep,
@@ -731,11 +731,11 @@ unfolding all
 deepest-down-unadjusted-60 = (refl, refl)
 
 deepest-widths : (WL deepestCase ≡ 155)
-    × (Wb deepestCase ≡ 264)
+    × (WB deepestCase ≡ 264)
 unfolding all
 deepest-widths = (refl, refl)
 
--- A fund with 120 pension and 60 bond flows and both shifts. Most of its large flows lie past term 60, so that WL and Wb are large.
+-- A fund with 120 pension and 60 bond flows and both shifts. Most of its large flows lie past term 60, so that WL and WB are large.
 abbrev pub long : FileCase
 long = record {
   rateBytes = 2;
@@ -804,7 +804,7 @@ long = record {
 }
 
 long-widths : (WL long ≡ 20434)
-    × (Wb long ≡ 1840)
+    × (WB long ≡ 1840)
 unfolding all
 long-widths = (refl, refl)
 
@@ -851,7 +851,7 @@ noFlows = record {
 }
 
 noFlows-widths : (WL noFlows ≡ 6)
-    × (Wb noFlows ≡ 4)
+    × (WB noFlows ≡ 4)
 unfolding all
 noFlows-widths = (refl, refl)
 
@@ -897,7 +897,7 @@ wholeQuotient = record {
 }
 
 wholeQuotient-widths : (WL wholeQuotient ≡ 11)
-    × (Wb wholeQuotient ≡ 0)
+    × (WB wholeQuotient ≡ 0)
 unfolding all
 wholeQuotient-widths = (refl, refl)
 

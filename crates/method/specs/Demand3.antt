@@ -10,7 +10,7 @@ use Rattle.model.specs.Limits.{Between}
 use Rattle.method.specs.Curve.{Move, base, curve, natural, P}
 use Rattle.method.specs.Exact as Exact
 use Rattle.method.specs.Brackets.{end_of}
-use Rattle.method.specs.Margins.{WL, Wb, NearFirst, NearSecond, firstMargin, secondMargin}
+use Rattle.method.specs.Margins.{WL, WB, NearFirst, NearSecond, firstMargin, secondMargin}
 use Rattle.model.specs.declared.figures.Bracket.{Bracket}
 use Rattle.model.specs.declared.figures.Figures.{Figures}
 use Rattle.model.specs.declared.figures.Verdict.{Verdict}
@@ -43,16 +43,16 @@ rateWidthMost = 2
 abbrev pub LWidthMost : FileCase → ℕ
 LWidthMost k = WL k
 
--- "bonds B and assets A at most Wb each"
+-- "bonds B and assets A at most WB each"
 abbrev pub BWidthMost : FileCase → ℕ
-BWidthMost k = Wb k
+BWidthMost k = WB k
 
 abbrev pub AWidthMost : FileCase → ℕ
-AWidthMost k = Wb k
+AWidthMost k = WB k
 
--- "the buffer S at most 3 × WL + 2 × Wb + 8"
+-- "the buffer S at most 3 × WL + 2 × WB + 8"
 abbrev pub SWidthMost : FileCase → ℕ
-SWidthMost k = 3 * WL k + 2 * Wb k + 8
+SWidthMost k = 3 * WL k + 2 * WB k + 8
 
 -- "its width is the upper less the lower": at most so much
 abbrev pub WideAtMost : ℕ → Bracket → Type 0
@@ -110,7 +110,7 @@ pub record Demand3 (k : FileCase) (given : Given) : Type 0 where
   pub S6In : SquareIn (end_of given.figures.s6) (Exact.S6² k)
   pub SIn : SquareIn (end_of given.figures.s) (Exact.S² k)
   -- "From lower to upper end, the factor of term t is at most 4 × t × t units wide, a zero rate at most 2 steps, the liabilities L at
-  -- most WL cents, bonds B and assets A at most Wb each, the buffer S at most 3 × WL + 2 × Wb + 8."
+  -- most WL cents, bonds B and assets A at most WB each, the buffer S at most 3 × WL + 2 × WB + 8."
   pub factorWidth : (t : ℕ) → 1 ≤ t → t ≤ lastTerm → given.factor high t ≤ given.factor low t + factorWidthMost t
   pub rateWidth : (t : ℕ) → 1 ≤ t → t ≤ lastTerm → given.rate high t ≤ℤ (given.rate low t +ℤ pos rateWidthMost)
   pub LWidth : WideAtMost (LWidthMost k) given.figures.l

@@ -1,4 +1,4 @@
--- WL, Wb and the margins within which a verdict may stay undecided (document 01, end of 'The rounded working').
+-- WL, WB and the margins within which a verdict may stay undecided (document 01, end of 'The rounded working').
 use Rattle.std.specs.Prelude.{ℕ, suc, ◌+◌, ◌*◌, ◌^◌, List, [], ◌∷◌, length}
 use Rattle.arith.specs.Rounding.{high, divide}
 use Rattle.method.specs.Fraction.{Fraction, ◌+ᶠ◌, ◌∸ᶠ◌, ◌*ᶠ◌, square, whole, ◌≤ᶠ◌}
@@ -13,15 +13,15 @@ weightedSum t (euros ∷ flows) = 4 * t * t * euros + weightedSum (suc t) flows
 abbrev pub Q : List ℕ → ℕ
 Q flows = divide high (weightedSum 1 flows) (10 ^ 10)
 
--- "WL = 2 × m + Q .. Wb the same over k bond flows, with 2 × k"
+-- "WL = 2 × m + Q .. WB the same over k bond flows, with 2 × k"
 abbrev pub W : List ℕ → ℕ
 W flows = 2 * length flows + Q flows
 
 abbrev pub WL : FileCase → ℕ
 WL k = W k.pension
 
-abbrev pub Wb : FileCase → ℕ
-Wb k = W k.bonds
+abbrev pub WB : FileCase → ℕ
+WB k = W k.bonds
 
 -- "exact |20 × A - 21 × L| is at most" a number of cents
 pub record NearFirst (margin : ℕ) (a l : Fraction) : Type 0 where
@@ -35,9 +35,9 @@ pub record NearSecond (margin : ℕ) (a l s² : Fraction) : Type 0 where
   pub positive : l ≤ᶠ a +ᶠ whole margin
   pub below : s² ≤ᶠ square ((a +ᶠ whole margin) ∸ᶠ l)
 
--- "20 × Wb + 21 × WL", "4 × WL + 3 × Wb + 8"
+-- "20 × WB + 21 × WL", "4 × WL + 3 × WB + 8"
 abbrev pub firstMargin : FileCase → ℕ
-firstMargin k = 20 * Wb k + 21 * WL k
+firstMargin k = 20 * WB k + 21 * WL k
 
 abbrev pub secondMargin : FileCase → ℕ
-secondMargin k = 4 * WL k + 3 * Wb k + 8
+secondMargin k = 4 * WL k + 3 * WB k + 8

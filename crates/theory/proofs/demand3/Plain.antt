@@ -14,7 +14,7 @@ use Rattle.model.specs.Case.{FileCase}
 use Rattle.method.specs.Curve.{Move, base, curve, natural, P}
 use Rattle.method.specs.Exact as Exact
 use Rattle.method.specs.Brackets.{end_of}
-use Rattle.method.specs.Margins.{WL, Wb, NearFirst, NearSecond}
+use Rattle.method.specs.Margins.{WL, WB, NearFirst, NearSecond}
 use Rattle.method.specs.Demand3.{In, Given, Demand3}
 use Rattle.model.specs.declared.figures.Verdict.TheVariants.{Onbeslist}
 
@@ -96,15 +96,15 @@ module _ (k : FileCase) (g : Given) (d : Demand3 k g) where
   S-held = held (λ e. end_of g.figures.s e * end_of g.figures.s e) (Exact.S² k) d.SIn
 
   money-widths : (g.figures.l.upper ≤ g.figures.l.lower + WL k)
-      × (g.figures.b.upper ≤ g.figures.b.lower + Wb k)
-      × (g.figures.a.upper ≤ g.figures.a.lower + Wb k)
-      × (g.figures.s.upper ≤ g.figures.s.lower + (3 * WL k + 2 * Wb k + 8))
+      × (g.figures.b.upper ≤ g.figures.b.lower + WB k)
+      × (g.figures.a.upper ≤ g.figures.a.lower + WB k)
+      × (g.figures.s.upper ≤ g.figures.s.lower + (3 * WL k + 2 * WB k + 8))
   money-widths = (d.LWidth, d.BWidth, d.AWidth, d.SWidth)
 
   verdict-exact : g.verdict ≢ Onbeslist → g.verdict ≡ Exact.verdict k
   verdict-exact = d.right
 
   undecided-near : g.verdict ≡ Onbeslist
-      → NearFirst (20 * Wb k + 21 * WL k) (Exact.A k) (Exact.L k base)
-      ⊎ NearSecond (4 * WL k + 3 * Wb k + 8) (Exact.A k) (Exact.L k base) (Exact.S² k)
+      → NearFirst (20 * WB k + 21 * WL k) (Exact.A k) (Exact.L k base)
+      ⊎ NearSecond (4 * WL k + 3 * WB k + 8) (Exact.A k) (Exact.L k base) (Exact.S² k)
   undecided-near = d.margin

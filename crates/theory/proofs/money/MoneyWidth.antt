@@ -1,7 +1,7 @@
 -- The widths of the money figures. S moves no more than its parts move together: it is the root of a sum of squares with a correlation
--- of at most 1, and such a root has slope at most 1 in each part (`grow`). S1 is 2 × WL + 2 × Wb wide, from two values of L and two of
+-- of at most 1, and such a root has slope at most 1 in each part (`grow`). S1 is 2 × WL + 2 × WB wide, from two values of L and two of
 -- B; S2 to S5 are rounded once, so 1 each; S6 is WL + 1, since the mortality margin is at most 1 (`slope`); and S is rounded once more.
--- That is 3 × WL + 2 × Wb + 6, and the demand allows 8.
+-- That is 3 × WL + 2 × WB + 6, and the demand allows 8.
 -- Assumes nothing.
 use Prim.Native.Nat.{ℕ, ◌+◌, ◌*◌, ◌^◌, ◌≤◌, ◌<◌, max}
 use native.Mathlib.Omega.{arith}
@@ -15,7 +15,7 @@ use Rattle.model.specs.Limits.{WithinLimits}
 use Rattle.method.specs.Curve.{Move, base, up, down, curve}
 use Rattle.method.specs.Rounded as Rounded
 use Rattle.method.specs.Rounded.{mortality, buffer}
-use Rattle.method.specs.Margins.{WL, Wb}
+use Rattle.method.specs.Margins.{WL, WB}
 use Rattle.theory.proofs.curve.CaseCurves.{curve-within}
 use Rattle.theory.proofs.money.Worth.{adjusted-known, unadjusted-known, worth-width}
 
@@ -104,17 +104,17 @@ module _ (k : FileCase) (w : WithinLimits k) where
   pub L-width : (m : Move) → Rounded.L k m high ≤ Rounded.L k m low + WL k
   L-width m = worth-width (adjusted-known (curve k m) (curve-within k w m)) k.pension w.mostPension
 
-  pub B-width : (m : Move) → Rounded.B k m high ≤ Rounded.B k m low + Wb k
+  pub B-width : (m : Move) → Rounded.B k m high ≤ Rounded.B k m low + WB k
   B-width m = worth-width (unadjusted-known (curve k m) (curve-within k w m)) k.bonds w.mostBonds
 
-  pub A-width : Rounded.A k high ≤ Rounded.A k low + Wb k
+  pub A-width : Rounded.A k high ≤ Rounded.A k low + WB k
   A-width = omega (arith, B-width base)
 
-  fall-width : (m : Move) → Rounded.fall k m high ≤ Rounded.fall k m low + (2 * WL k + 2 * Wb k)
+  fall-width : (m : Move) → Rounded.fall k m high ≤ Rounded.fall k m low + (2 * WL k + 2 * WB k)
   fall-width m = omega (arith, B-width base, L-width m, B-width m, L-width base)
 
-  S1-width : Rounded.S1 k high ≤ Rounded.S1 k low + (2 * WL k + 2 * Wb k)
-  S1-width = max-wide (Rounded.fall k up low) (Rounded.fall k down low) (Rounded.fall k up high) (Rounded.fall k down high) (2 * WL k + 2 * Wb k) (fall-width up) (fall-width down)
+  S1-width : Rounded.S1 k high ≤ Rounded.S1 k low + (2 * WL k + 2 * WB k)
+  S1-width = max-wide (Rounded.fall k up low) (Rounded.fall k down low) (Rounded.fall k up high) (Rounded.fall k down high) (2 * WL k + 2 * WB k) (fall-width up) (fall-width down)
 
   S6-width : Rounded.S6 k high ≤ Rounded.S6 k low + (WL k + 1)
   S6-width =
@@ -131,12 +131,12 @@ module _ (k : FileCase) (w : WithinLimits k) where
             (past (Rounded.L k base low * Rounded.L k base low * mortality h d) b hb)),
       )
 
-  pub S-width : Rounded.S k high ≤ Rounded.S k low + (3 * WL k + 2 * Wb k + 8)
+  pub S-width : Rounded.S k high ≤ Rounded.S k low + (3 * WL k + 2 * WB k + 8)
   S-width =
       let a = k.amounts in
       let x = k.shocks in
       S-wide x.correlation (Rounded.S1 k low) (Rounded.S2 k low) (Rounded.S3 k low) (Rounded.S4 k low) (Rounded.S5 k low) (Rounded.S6 k low)
-      (Rounded.S1 k high) (Rounded.S2 k high) (Rounded.S3 k high) (Rounded.S4 k high) (Rounded.S5 k high) (Rounded.S6 k high) (WL k) (Wb k)
+      (Rounded.S1 k high) (Rounded.S2 k high) (Rounded.S3 k high) (Rounded.S4 k high) (Rounded.S5 k high) (Rounded.S6 k high) (WL k) (WB k)
       w.shocks.correlation
       S1-width
       (divide-width (100 * (a.mature * x.mature_fall + a.emerging * x.emerging_fall + a.private * x.private_fall + a.property * x.property_fall)) 1000 (omega arith))

@@ -1,7 +1,7 @@
 -- Each verdict given, other than undecided, is the exact one; undecided is said only within the margins. A comparison that decides sets
 -- the upper end of the smaller side against the lower end of the larger, so the exact figures, which lie in their brackets, are in that
 -- order too. Undecided means that the brackets of the two sides of a border overlap, so the exact sides differ by no more than both
--- brackets are wide: 20 × Wb + 21 × WL at the first border; Wb for A, WL for L and 3 × WL + 2 × Wb + 8 for S at the second.
+-- brackets are wide: 20 × WB + 21 × WL at the first border; WB for A, WL for L and 3 × WL + 2 × WB + 8 for S at the second.
 -- Assumes nothing.
 use Prim.Native.Nat.{ℕ, suc, ◌+◌, ◌*◌, ◌-◌, ◌≤◌, ◌<◌}
 use mathlib.Core.Path.{◌≡◌, sym, ◌∙◌}
@@ -17,7 +17,7 @@ use Rattle.model.specs.Limits.{WithinLimits}
 use Rattle.method.specs.Curve.{base}
 use Rattle.method.specs.Exact as Exact
 use Rattle.method.specs.Rounded as Rounded
-use Rattle.method.specs.Margins.{WL, Wb, NearFirst, NearSecond, firstMargin, secondMargin}
+use Rattle.method.specs.Margins.{WL, WB, NearFirst, NearSecond, firstMargin, secondMargin}
 use Rattle.model.specs.declared.figures.Verdict.TheVariants.{Dekkingstekort, Reservetekort, VrijVermogen, Onbeslist}
 use Rattle.theory.proofs.curve.Bracket.{Bounded}
 use Rattle.theory.proofs.general.Conditions.{cond-le, cond-gt}
@@ -180,4 +180,4 @@ module _ (k : FileCase) (w : WithinLimits k) where
   verdict-margin =
       margin (Exact.A k) (Exact.L k base) (Exact.S² k) (A-den k w) (L-den k w base) (S-den k w) (Rounded.A k) (Rounded.L k base) (Rounded.S k)
       (A-in k w low) (A-in k w high) (L-in k w base low) (L-in k w base high) (S-in k w low) (S-in k w high)
-      (WL k) (Wb k) (A-width k w) (L-width k w base) (S-width k w)
+      (WL k) (WB k) (A-width k w) (L-width k w base) (S-width k w)

@@ -56,7 +56,7 @@ use Rattle.method.specs.Curve.{Curve, base, up, down, curve, P}
 use Rattle.method.specs.Exact as Exact
 use Rattle.method.specs.Rounded as Rounded
 use Rattle.method.specs.Buffers.{entry_of, factorEntries}
-use Rattle.method.specs.Margins.{WL, Wb, NearFirst, NearSecond, firstMargin, secondMargin}
+use Rattle.method.specs.Margins.{WL, WB, NearFirst, NearSecond, firstMargin, secondMargin}
 use Rattle.method.specs.Demand3.{
   leastStep,
   mostStep,
@@ -495,7 +495,7 @@ def deepest_statements():
     out += [factor_statement(f"deepest-{move}", f"(curve deepestCase {move})", 60, case, shift)
             for move, shift in reference.shifts(case).items()]
     rounded = Rounded(case)
-    return out + [computed("deepest-widths", f"WL deepestCase ≡ {rounded.WL}", f"Wb deepestCase ≡ {rounded.WB}")]
+    return out + [computed("deepest-widths", f"WL deepestCase ≡ {rounded.WL}", f"WB deepestCase ≡ {rounded.WB}")]
 
 
 def width_statements():
@@ -507,7 +507,7 @@ def width_statements():
     for name, case, comment in named:
         rounded = Rounded(case)
         out.append(case_definition(name, case, comment))
-        out.append(computed(f"{name}-widths", f"WL {name} ≡ {rounded.WL}", f"Wb {name} ≡ {rounded.WB}"))
+        out.append(computed(f"{name}-widths", f"WL {name} ≡ {rounded.WL}", f"WB {name} ≡ {rounded.WB}"))
     return out
 
 

@@ -1,7 +1,8 @@
 // What a valuation leaves in two lent buffers, in two lines: F and the entries of the factor buffer, Z and those of the rate buffer.
 // Both have 242 entries, all 7 beforehand, so that what a valuation leaves alone can be seen. To each zero rate 100,000 steps are added.
 use super::numbers::print_numbers;
-use libc::STDOUT_FILENO;
+use std::io;
+use std::io::Write;
 
 // The rate in steps plus 100,000; 0 and 200,001 stand for rates outside -100,000 to 100,000.
 fn raised(rate: i64) -> u64 {
@@ -14,23 +15,23 @@ fn raised(rate: i64) -> u64 {
     (rate + 100_000) as u64
 }
 
-fn print_rates(rates: [i64; 242]) {
+fn print_rates<W: Write>(out: &mut W, rates: [i64; 242]) -> io::Result<()> {
     let mut numbers = [0u64; 242];
     let mut i = 0;
     while i < numbers.len() {
         numbers[i] = raised(rates[i]);
         i += 1;
     }
-    print_numbers(&numbers);
+    print_numbers(out, &numbers)
 }
 
-pub(super) fn print_buffers(file: &[u8]) {
+pub(super) fn print_buffers<W: Write>(out: &mut W, file: &[u8]) -> io::Result<()> {
     let mut factors = [7u64; 242];
     let mut rates = [7i64; 242];
     engine::value(file, &mut factors, &mut rates);
-    io::write_all(STDOUT_FILENO, b"F");
-    print_numbers(&factors);
-    io::write_all(STDOUT_FILENO, b"\nZ");
-    print_rates(rates);
-    io::write_all(STDOUT_FILENO, b"\n");
+    out.write_all(b"F")?;
+    print_numbers(out, &factors)?;
+    out.write_all(b"\nZ")?;
+    print_rates(out, rates)?;
+    out.write_all(b"\n")
 }

@@ -6,37 +6,45 @@ mod buffers;
 mod numbers;
 mod reading;
 
-use libc::STDOUT_FILENO;
+use std::io;
+use std::io::{Read, Write};
 
-fn print_listing(file: &[u8]) {
+fn print_listing<W: Write>(out: &mut W, file: &[u8]) -> io::Result<()> {
     let valuation = engine::figures_of(file);
     let mut text = [0u8; 512];
     let n = listing::write_listing(valuation, &mut text);
-    io::write_all(STDOUT_FILENO, &text[..n]);
+    out.write_all(&text[..n])
 }
 
-fn print_answers(file: &[u8]) {
-    reading::print_reading(file);
-    print_listing(file);
-    buffers::print_buffers(file);
+fn print_answers<W: Write>(out: &mut W, file: &[u8]) -> io::Result<()> {
+    reading::print_reading(out, file)?;
+    print_listing(out, file)?;
+    buffers::print_buffers(out, file)
 }
 
 // Takes the next file, and answers whether there was one of at most 100,000 bytes.
-fn print_next() -> bool {
+fn print_next<R: Read, W: Write>(input: &mut R, out: &mut W) -> io::Result<bool> {
     let mut buf = [0u8; 100000];
-    let length = batch::next_length();
+    let length = batch::next_length(input);
     if buf.len() < length {
-        return false;
+        return Ok(false);
     }
-    let n = batch::read_file(length, &mut buf);
-    print_answers(&buf[..n]);
-    true
+    let n = batch::read_file(input, length, &mut buf);
+    print_answers(out, &buf[..n])?;
+    Ok(true)
 }
 
 // A proved loop has to end, and nothing says that the input does. No run uses up the turns.
-fn main() {
-    let mut turns = u64::MAX;
-    while turns > 0 && print_next() {
-        turns -= 1;
+fn print_all<R: Read, W: Write>(input: &mut R, out: &mut W) -> io::Result<()> {
+    for _ in 0..u64::MAX {
+        if !print_next(input, out)? {
+            break;
+        }
     }
+    Ok(())
+}
+
+// Ends with 1 where an answer cannot be written.
+fn main(rt: HostRuntime) -> io::Result<()> {
+    print_all(&mut rt.stdin(), &mut rt.stdout())
 }

@@ -3,10 +3,11 @@
 use super::numbers::{print_number, print_numbers};
 use casefile::Answer;
 use heldcase::Case;
-use libc::STDOUT_FILENO;
 use model::case::{Amounts, People, Shocks};
+use std::io;
+use std::io::Write;
 
-fn print_amounts(a: Amounts) {
+fn print_amounts<W: Write>(out: &mut W, a: Amounts) -> io::Result<()> {
     let numbers = [
         a.mature,
         a.emerging,
@@ -17,10 +18,10 @@ fn print_amounts(a: Amounts) {
         a.cash,
         a.currency,
     ];
-    print_numbers(&numbers);
+    print_numbers(out, &numbers)
 }
 
-fn print_shocks(s: Shocks) {
+fn print_shocks<W: Write>(out: &mut W, s: Shocks) -> io::Result<()> {
     let numbers = [
         s.up_shift,
         s.down_shift,
@@ -35,30 +36,30 @@ fn print_shocks(s: Shocks) {
         s.spread,
         s.duration,
     ];
-    print_numbers(&numbers);
+    print_numbers(out, &numbers)
 }
 
-fn print_people(p: People) {
-    print_numbers(&[p.heads, p.pension_age, p.mean_age]);
+fn print_people<W: Write>(out: &mut W, p: People) -> io::Result<()> {
+    print_numbers(out, &[p.heads, p.pension_age, p.mean_age])
 }
 
-fn print_case(c: Case) {
+fn print_case<W: Write>(out: &mut W, c: Case) -> io::Result<()> {
     let sums = c.sums;
     let pension = c.pension;
     let bonds = c.bonds;
     let amounts = c.amounts;
     let shocks = c.shocks;
     let people = c.people;
-    print_number(c.ufr);
-    print_number(c.per_step);
-    print_numbers(&sums);
-    print_number(c.pension_count as u64);
-    print_numbers(&pension);
-    print_number(c.bond_count as u64);
-    print_numbers(&bonds);
-    print_amounts(amounts);
-    print_shocks(shocks);
-    print_people(people);
+    print_number(out, c.ufr)?;
+    print_number(out, c.per_step)?;
+    print_numbers(out, &sums)?;
+    print_number(out, c.pension_count as u64)?;
+    print_numbers(out, &pension)?;
+    print_number(out, c.bond_count as u64)?;
+    print_numbers(out, &bonds)?;
+    print_amounts(out, amounts)?;
+    print_shocks(out, shocks)?;
+    print_people(out, people)
 }
 
 // Takes in one byte more. The place of each byte counts.
@@ -77,26 +78,29 @@ fn hash_of(part: &[u8]) -> u64 {
 }
 
 // Where the part begins is what a host is told, its bytes are those of the slice. A refused file has an empty part at 0.
-fn print_part(file: &[u8]) {
+fn print_part<W: Write>(out: &mut W, file: &[u8]) -> io::Result<()> {
     let part = casefile::rates_part(file);
     let place = host::ginghamowl_rates_part(file);
-    print_numbers(&[place.offset as u64, part.len() as u64, hash_of(part)]);
-    io::write_all(STDOUT_FILENO, b"\n");
+    print_numbers(
+        out,
+        &[place.offset as u64, part.len() as u64, hash_of(part)],
+    )?;
+    out.write_all(b"\n")
 }
 
-pub(super) fn print_reading(file: &[u8]) {
+pub(super) fn print_reading<W: Write>(out: &mut W, file: &[u8]) -> io::Result<()> {
     let reading = casefile::read(file);
     let answer = reading.answer;
     let case = reading.case;
     match answer {
         Answer::Refused(number) => {
-            io::write_all(STDOUT_FILENO, b"R");
-            print_number(number as u64);
+            out.write_all(b"R")?;
+            print_number(out, number as u64)?;
         }
         Answer::Accepted => {
-            io::write_all(STDOUT_FILENO, b"C");
-            print_case(case);
+            out.write_all(b"C")?;
+            print_case(out, case)?;
         }
     }
-    print_part(file);
+    print_part(out, file)
 }

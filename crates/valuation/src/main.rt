@@ -2,9 +2,10 @@
 #![tactic(auto)]
 
 ghost use Rattle.std.specs.Prelude.{length};
-ghost use Rattle.valuation.specs.Input.{AtMost};
+ghost use Rattle.valuation.specs.Input.{AtMost, OnceRead, InputRead};
 
-use libc::{STDIN_FILENO, STDOUT_FILENO};
+use std::io;
+use std::io::{Read, Write};
 
 // The longest acceptable file has 17,623 bytes. So the first 17,624 decide, also what comes before refusal 2.
 const MOST_BYTES: usize = 17624;
@@ -17,25 +18,26 @@ enum Input {
 }
 
 // Reads once, to the front of part.
-fn read_once(part: &mut [u8]) -> Input
-    ensures { AtMost result (length part.old) }
+fn read_once<R: Read>(input: &mut R, part: &mut [u8]) -> Input
+    ensures most { AtMost result (length part.old) }
+    ensures bytes { OnceRead (R.remaining input.old) (R.remaining input.new) result part.new }
 {
-    let got = libc::read(STDIN_FILENO, part);
-    if got < 0 {
-        return Input::Failed;
+    match input.read(part) {
+        Ok(n) => Input::Bytes(n),
+        Err(_) => Input::Failed,
     }
-    Input::Bytes(io::count(got, part))
 }
 
 // Reads the input to the front of file until it is full or the input ends. A read that fails, or that a signal
 // interrupts, ends it with no answer: the bytes before it need not be the whole file.
-fn read_input(file: &mut [u8]) -> Input
-    ensures { AtMost result (length file.old) }
+fn read_input<R: Read>(input: &mut R, file: &mut [u8]) -> Input
+    ensures most { AtMost result (length file.old) }
+    ensures bytes { InputRead (R.remaining input.old) (R.remaining input.new) result file.new }
 {
     let mut end = 0;
     while end < file.len() {
-        let input = read_once(&mut file[end..]);
-        let Input::Bytes(n) = input else {
+        let read = read_once(input, &mut file[end..]);
+        let Input::Bytes(n) = read else {
             return Input::Failed;
         };
         if n == 0 {
@@ -46,19 +48,24 @@ fn read_input(file: &mut [u8]) -> Input
     Input::Bytes(end)
 }
 
-fn print_listing(file: &[u8]) {
+fn print_listing<W: Write>(out: &mut W, file: &[u8]) -> io::Result<()> {
     let valuation = engine::figures_of(file);
     let mut text = [0u8; 512];
     let n = listing::write_listing(valuation, &mut text);
-    io::write_all(STDOUT_FILENO, &text[..n]);
+    out.write_all(&text[..n])
 }
 
 // Where a read fails nothing is printed.
-fn main() {
+fn answer<R: Read, W: Write>(input: &mut R, out: &mut W) -> io::Result<()> {
     let mut file = [0u8; MOST_BYTES];
-    let input = read_input(&mut file);
-    let Input::Bytes(n) = input else {
-        return;
+    let read = read_input(input, &mut file);
+    let Input::Bytes(n) = read else {
+        return Ok(());
     };
-    print_listing(&file[..n]);
+    print_listing(out, &file[..n])
+}
+
+// Ends with 1 where the listing cannot be written.
+fn main(rt: HostRuntime) -> io::Result<()> {
+    answer(&mut rt.stdin(), &mut rt.stdout())
 }

@@ -1,2 +1,0 @@
--- What the proofs of `valuation` cite.
-mod Laws

@@ -24,7 +24,7 @@ fn two_squares(a: u64, b: u64) -> Wide
 // What is under the root of the buffer, times 1,000: the six squares, and twice the correlation times the first two losses.
 fn squares(c: u64, s1: u64, s2: u64, s3: u64, s4: u64, s5: u64, s6: u64) -> Wide
     requires { SixFit c s1 s2 s3 s4 s5 s6 }
-    ensures result_value { val result
+    ensures value { val result
         ≡ 1000 * (s1 * s1 + s2 * s2 + s3 * s3 + s4 * s4 + s5 * s5 + s6 * s6) + 2 * c * (s1 * s2) }
     ensures bound { val result < 2 ^ 112 * 1000 }
 {

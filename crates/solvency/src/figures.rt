@@ -70,6 +70,7 @@ pub fn figures(l: Worths, b: Worths, a: Amounts, x: Shocks, p: People) -> Figure
 }
 
 // The figures and the verdict by them.
+#[tactic(auto, unfolding(method::specs::Rounded::judge))]
 pub fn money_by(l: Worths, b: Worths, a: Amounts, x: Shocks, p: People) -> Money
     requires { WorthsFit l × WorthsFit b × AmountsWithin a × ShocksWithin x × PeopleWithin p }
     ensures { result ≡ moneyBy (on l) (on b) a x p }

@@ -7,6 +7,7 @@ ghost use Rattle.solvency.specs.inner.Ranges.{Judgeable};
 use model::figures::{Bracket, Verdict};
 
 // The verdict, from the ends of A, L and S.
+#[tactic(auto, unfolding(method::specs::Rounded::judge))]
 pub fn verdict_of(a: Bracket, l: Bracket, s: Bracket) -> Verdict
     requires { Judgeable a l s }
     ensures { result ≡ judge (end_of a) (end_of l) (end_of s) }

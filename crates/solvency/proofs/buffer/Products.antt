@@ -25,8 +25,9 @@ pair-most a b v h k e = rw e (le_trans (mul-le-mul_left 1000 (sum2 (a * a) (b * 
     sum2 : (v w m : ℕ) → v ≤ m → w ≤ m → v + w ≤ m + m
     sum2 v w m h k = omega arith
 
-pub correlated-most : (c a b v : ℕ) → c ≤ 1000 → a ≤ 50 * 10 ^ 12 → b ≤ 50 * 10 ^ 12 → v ≡ 2 * c * a * b → v ≤ 5 * 10 ^ 30
-correlated-most c a b v hc h k e = rw e (le_trans (mul-le-mul (mul-le-mul (mul-le-mul_left 2 hc) h) k) (lit≤ tt))
+-- by `twice` the correlation
+pub correlated-most : (twice a b v : ℕ) → twice ≤ 2000 → a ≤ 50 * 10 ^ 12 → b ≤ 50 * 10 ^ 12 → v ≡ twice * a * b → v ≤ 5 * 10 ^ 30
+correlated-most twice a b v ht h k e = rw e (le_trans (mul-le-mul (mul-le-mul ht h) k) (lit≤ tt))
 
 -- sums on plain bounds
 pub sum-most : (u v w m : ℕ) → u ≤ m → v ≤ m → w ≡ u + v → w ≤ m + m

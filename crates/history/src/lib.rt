@@ -14,10 +14,7 @@ use summed::sum_months;
 pub fn ufr_of(history: &[u8], start: u64) -> Ufr
     ensures { result ≡ ufrAnswer history.now start }
 {
-    if history.len() != 240 {
-        return Ufr::Refused(17);
-    }
-    if 119 < start {
+    if history.len() != 240 || 119 < start {
         return Ufr::Refused(17);
     }
     let months = sum_months(history);
@@ -25,10 +22,7 @@ pub fn ufr_of(history: &[u8], start: u64) -> Ufr
         return Ufr::Refused(18);
     }
     let mean = (months.sum + 6_000) / 12_000 * 100;
-    if mean < 100_000 {
-        return Ufr::Refused(19);
-    }
-    if 105_000 < mean {
+    if mean < 100_000 || 105_000 < mean {
         return Ufr::Refused(19);
     }
     Ufr::Found(mean - 100_000)

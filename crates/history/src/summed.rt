@@ -2,7 +2,6 @@
 // naturals, 100,000 steps and the month, as the rates of days are.
 ghost use Rattle.history.specs.inner.Summed.{Summed};
 
-use numbers::runs::both;
 use scan::rates::{rate_at, rate_right};
 
 #[derive(Clone, Copy)]
@@ -17,13 +16,10 @@ pub fn sum_months(history: &[u8]) -> MonthsSum
 {
     let mut within = true;
     let mut sum: u64 = 0;
-    let mut i: usize = 0;
-    while i < 120 {
+    for i in 0..120 {
         let month = rate_at(history, 2 * i);
         sum += month;
-        let right = rate_right(month, 1);
-        within = both(within, right);
-        i += 1;
+        within &= rate_right(month, 1);
     }
     MonthsSum { within, sum }
 }

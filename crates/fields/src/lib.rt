@@ -1,8 +1,8 @@
 // The fields of a case file, each written into a lent buffer.
 #![tactic(auto)]
 
+pub mod fixed;
 pub mod flows;
-pub mod numbers;
 pub mod rates;
 
 // Which of the optional fields are written.

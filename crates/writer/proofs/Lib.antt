@@ -1,2 +1,2 @@
--- Parts: the bytes of a case by its parts, and how many there are. Answers: what `save` has to answer.
+-- Answers: what `save` has to answer.
 pub mod Answers

@@ -10,8 +10,8 @@ ghost use Rattle.form.specs.inner.Form.{listsLength, listsBytes, othersLength, o
 
 use encode::put_bytes;
 use fields::Included;
+use fields::fixed::{put_amounts, put_people, put_shocks, put_ufr};
 use fields::flows::{put_bonds, put_flows};
-use fields::numbers::{put_amounts, put_people, put_shocks, put_ufr};
 use fields::rates::put_days_field;
 use form::map_of;
 use model::case::CaseFields;

@@ -80,7 +80,7 @@ fn hash_of(part: &[u8]) -> u64 {
 // Where the part begins is what a host is told, its bytes are those of the slice. A refused file has an empty part at 0.
 fn print_part<W: Write>(out: &mut W, file: &[u8]) -> io::Result<()> {
     let part = casefile::rates_part(file);
-    let place = host::ginghamowl_rates_part(file);
+    let place = ratesplace::rates_place(file);
     print_numbers(
         out,
         &[place.offset as u64, part.len() as u64, hash_of(part)],

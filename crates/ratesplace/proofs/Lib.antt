@@ -1,0 +1,2 @@
+-- Part: the part that holds the rates, by its place.
+mod Part

@@ -1,0 +1,40 @@
+// Where the rates stand in a file, as a host is told. A crate of its own, so that programs can call it too: no crate can stand on `host`,
+// which is a static library.
+#![tactic(auto)]
+
+ghost use Rattle.std.specs.Prelude.{◌≡◌, take, drop};
+ghost use Rattle.model.specs.Refusals.{ratesPart};
+ghost use Rattle.ratesplace.specs.Part.{hostPart};
+
+use casefile::rates_part;
+use places::find;
+
+// `length` bytes of the file, from `offset` on.
+#[repr(C)]
+#[derive(Clone, Copy)]
+pub struct HostPart {
+    pub offset: usize,
+    pub length: usize,
+}
+
+// Where the rates stand in the file: n × 120 bytes, or n × 240 of rates of four bytes; 0 and 0 where the file is refused. Only a refused
+// file has an empty part.
+pub fn rates_place(file: &[u8]) -> HostPart
+    ensures value { result ≡ hostPart file.now }
+    ensures part { take result.length (drop result.offset file.now) ≡ ratesPart file.now }
+{
+    let part = rates_part(file);
+    let length = part.len();
+    let is_empty = length == 0;
+    if is_empty {
+        return HostPart {
+            offset: 0,
+            length: 0,
+        };
+    }
+    let p = find(file);
+    HostPart {
+        offset: p.days_at + 1,
+        length,
+    }
+}

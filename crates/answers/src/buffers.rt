@@ -1,6 +1,6 @@
 // What a valuation leaves in two lent buffers, in two lines: F and the entries of the factor buffer, Z and those of the rate buffer.
 // Both have 242 entries, all 7 beforehand, so that what a valuation leaves alone can be seen. To each zero rate 100,000 steps are added.
-use super::numbers::print_numbers;
+use super::row::print_numbers;
 use std::io;
 use std::io::Write;
 

@@ -3,8 +3,8 @@
 #![tactic(auto)]
 
 mod buffers;
-mod numbers;
 mod reading;
+mod row;
 
 use std::io;
 use std::io::{Read, Write};

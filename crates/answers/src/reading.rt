@@ -1,6 +1,6 @@
 // The line of a reading: R and the number of the refusal; or C and every field of the case in the order of the struct, the arrays whole;
 // after them, where the part that holds the rates begins, its length and a hash of its bytes.
-use super::numbers::{print_number, print_numbers};
+use super::row::{print_number, print_numbers};
 use casefile::Answer;
 use heldcase::Case;
 use model::case::{Amounts, People, Shocks};

@@ -18,10 +18,8 @@ pub fn day_in(rates: &[i16], at: usize) -> [i32; 60]
     ensures { result ≡ dayIn rates.now at }
 {
     let mut day = [0i32; 60];
-    let mut t: usize = 0;
-    while t < 60 {
+    for t in 0..60 {
         day[t] = rates[60 * at + t] as i32;
-        t += 1;
     }
     day
 }
@@ -31,9 +29,7 @@ pub fn put_day(rates: &mut [i16], at: usize, day: [i32; 60])
     requires { (at < 70) × (length rates.old ≡ 4200) × (rightAll (dailyRate 2) day ≡ true) }
     ensures { rates.new ≡ withDayIn rates.old at day }
 {
-    let mut t: usize = 0;
-    while t < 60 {
+    for t in 0..60 {
         rates[60 * at + t] = day[t] as i16;
-        t += 1;
     }
 }

@@ -10,7 +10,6 @@ ghost use Rattle.ring.specs.inner.Ring.{heldIn, storedSum, EachAtLeast};
 use crate::slots::{day_in, slot_of};
 use givenrates::{add_day, raised};
 use heldcase::Case;
-use numbers::runs::both;
 use scan::rates::Sums;
 
 // The sums of the `count` days from the slot `start` on.
@@ -22,11 +21,9 @@ pub fn sum_held(rates: &[i16], start: usize, count: usize) -> Sums
         within: true,
         sums: [0u64; 60],
     };
-    let mut i: usize = 0;
-    while i < count {
+    for i in 0..count {
         let day = day_in(rates, slot_of(start, i));
         r = add_day(r, day, 2);
-        i += 1;
     }
     r
 }
@@ -37,10 +34,8 @@ pub fn sums_without(sums: [u64; 60], day: [i32; 60]) -> [u64; 60]
     ensures { result ≡ table (λ t. get_or sums t 0 - raisedOr 1 (get_or day t (pos 0))) 60 }
 {
     let mut out = sums;
-    let mut t: usize = 0;
-    while t < 60 {
+    for t in 0..60 {
         out[t] -= raised(day[t], 1);
-        t += 1;
     }
     out
 }
@@ -61,10 +56,8 @@ pub fn stored_sums(sums: [u64; 60], count: usize) -> [i64; 60]
 {
     let base = Case::STEPS_PER_ONE * count as u64;
     let mut out = [0i64; 60];
-    let mut t: usize = 0;
-    while t < 60 {
+    for t in 0..60 {
         out[t] = stored_sum(sums[t], base);
-        t += 1;
     }
     out
 }
@@ -72,7 +65,7 @@ pub fn stored_sums(sums: [u64; 60], count: usize) -> [i64; 60]
 fn equal(a: i64, b: i64) -> bool
     ensures { result ≡ equalZ a b }
 {
-    both(a <= b, b <= a)
+    (a <= b) & (b <= a)
 }
 
 // Whether the sums of each term are equal.
@@ -80,12 +73,8 @@ pub fn same_sums(told: [i64; 60], held: [i64; 60]) -> bool
     ensures { result ≡ every (λ t. equalZ (get_or told t (pos 0)) (get_or held t (pos 0))) 60 }
 {
     let mut same = true;
-    let mut t: usize = 0;
-    while t < 60 {
-        let one = told[t];
-        let other = held[t];
-        same = both(same, equal(one, other));
-        t += 1;
+    for t in 0..60 {
+        same &= equal(told[t], held[t]);
     }
     same
 }

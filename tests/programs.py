@@ -48,9 +48,9 @@ LETTERS = "LU"  # by the end
 
 
 def program(name):
-    path = os.path.join(ROOT, "target", "bin", name)
+    path = os.path.join(ROOT, "crates", name, "out", name)
     if not os.path.exists(path):
-        raise SystemExit(f"target/bin/{name} is missing: run rt check {name}")
+        raise SystemExit(f"crates/{name}/out/{name} is missing: call rt run in crates/{name}, or rt ci")
     return path
 
 

@@ -16,14 +16,14 @@ RT = """#!/usr/bin/env bash
 set -eu
 case "$*" in
   version) cat "$STAND_IN/kit" ;; # fails where the file is gone
-  'staticlib host')
+  lib) # in crates/host
     echo call >>"$STAND_IN/calls"
     [ ! -e "$STAND_IN/slow" ] || sleep 1
-    [ ! -e "$STAND_IN/edit" ] || { rm "$STAND_IN/edit"; echo '/* edited */' >>crates/host/engine.c; }
+    [ ! -e "$STAND_IN/edit" ] || { rm "$STAND_IN/edit"; echo '/* edited */' >>engine.c; }
     [ ! -e "$STAND_IN/broken" ] || { echo 'rt: host NOT PROVED'; exit 1; }
-    mkdir -p target/staticlib
-    gcc -Iinclude -fPIC -c -o target/host.o crates/host/engine.c
-    ar rcs target/staticlib/libhost.a target/host.o ;;
+    mkdir -p out
+    gcc -I../../include -fPIC -c -o out/host.o engine.c
+    ar rcs out/libhost.a out/host.o ;;
   *) exit 2 ;;
 esac
 """

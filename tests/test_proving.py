@@ -20,26 +20,27 @@ ROOT = Path(__file__).resolve().parents[1]
 SIGNALS = signal.SIGINT, signal.SIGTERM, signal.SIGHUP
 LONG = 60  # seconds; nothing here takes as long, but on a machine that is busy
 
-# A file `slow` has it start a prover and wait for it; `stubborn`, one that ignores SIGTERM. With `steps` it looks a crate up
-# and proves others, and waits until the test has read which.
+# It is called in the folder of a crate. A file `slow` has it start a prover and wait for it; `stubborn`, one that ignores SIGTERM. With
+# `steps` it looks a crate up and proves others, and waits until the test has read which.
 RT = """#!/bin/sh
 [ "$1" != version ] || { echo 'a kit'; exit; }
-mkdir -p target/log target/bin target/staticlib
+name=${PWD##*/}
+mkdir -p out
 step() { turns=0; until [ -e "$STAND_IN/read $1" ] || [ $turns -gt 400 ]; do turns=$((turns + 1)); sleep 0.05; done; }
 if [ -e "$STAND_IN/steps" ]; then
-  echo proved > target/log/b.res
-  echo failed > target/log/a.res; step a; echo proved > target/log/a.res
-  [ "$1" = check ] || { : > target/log/host.say; step host; }
+  echo 'rt: b: begins with what a check kept'
+  echo 'rt: chose --jobs 2 for a'; step a
+  [ "$1" = run ] || { echo "rt: chose --jobs 1 for $name"; step $name; }
 fi
 if [ -e "$STAND_IN/slow" ]; then
   [ ! -e "$STAND_IN/stubborn" ] || trap '' TERM
   sh -c ': > "$(mktemp)"; echo "$PPID $$" > "$STAND_IN/new"; mv "$STAND_IN/new" "$STAND_IN/started"; exec sleep 600' &
   wait
 fi
-if [ "$1" = check ]; then
-  for name in valuation monthsvaluation; do cp "$STAND_IN/program" target/bin/$name; done
+if [ "$1" = run ]; then
+  cp "$STAND_IN/program" out/$name
 else
-  gcc -Iinclude -fPIC -c -o target/host.o crates/host/engine.c && ar rcs target/staticlib/libhost.a target/host.o
+  gcc -I../../include -fPIC -c -o out/host.o engine.c && ar rcs out/libhost.a out/host.o
 fi
 """
 
@@ -86,7 +87,8 @@ class Checkout(unittest.TestCase):
             shutil.copytree(ROOT / name, self.root / name, ignore=generated)
         for name in ("value", "VERSION", "crates.txt"):
             shutil.copy(ROOT / name, self.root)
-        (self.root / "crates/host").mkdir(parents=True)
+        for name in ("host", "valuation", "monthsvaluation"):
+            (self.root / "crates" / name).mkdir(parents=True)
         (self.root / "crates/host/engine.c").write_text(ENGINE)
         (self.root / "hosts/c/test.c").write_text("int main(void) { return 0; }\n")
         (self.root / "a.case").write_bytes(b"")
@@ -201,7 +203,7 @@ class Waiting(Checkout):
         with open(self.root / "crates.txt") as file:
             fcntl.flock(file, fcntl.LOCK_EX)
             for command, name in ((self.value, "value"), (self.build, "hosts/build")):
-                shutil.rmtree(self.root / "target", ignore_errors=True)  # as rt ci does
+                shutil.rmtree(self.root / "target", ignore_errors=True)
                 self.assertWaits(command, name, "another call")
                 self.holder.parent.mkdir(exist_ok=True)
                 for text in (f"hosts/build {ended.pid}\n", "", "hosts/build\n", "hosts/build x\n", "hosts/build 1 2\n"):
@@ -226,12 +228,8 @@ class Waiting(Checkout):
 
 class Progress(Checkout):
     def test_build(self):
-        """The crates that are being proved are named, the one of the archive too. One that is only looked up is not, and what an
-        earlier call has left says nothing."""
+        """The crates that are being proved are named, the one of the archive too. One that is only looked up is not."""
         self.order("steps")
-        (self.root / "target/log").mkdir(parents=True)
-        (self.root / "target/log/old.res").write_text("failed\n")
-        (self.root / "target/log/older.say").touch()
         run = self.start(self.build)
         for crate in ("a", "host"):
             self.assertEqual(next_line(run), f"hosts/build: proving {crate}\n")

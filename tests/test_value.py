@@ -44,16 +44,23 @@ def in_four_bytes(data):
     return casetext.write(replace(case, rate_bytes=4, days=[[100 * rate for rate in day] for day in case.days]))
 
 
-# Counts its calls and hands out the files `program` and `months`. A file `edit` has it change a source once; `edits`, `slow` and
-# `fails` have it change one, wait or fail for as long as they are there.
+# It is called for each program, in the folder of its crate. Counts the calls for the first, and hands out the files `program` and
+# `months`. A file `edit` has the first call change a source once; `edits`, `slow` and `fails` have one change one, wait or fail for as
+# long as they are there.
 RT = """#!/bin/sh
-[ "$*" = 'check valuation monthsvaluation' ] || exit 2
-echo call >> "$STAND_IN/calls"
-mkdir -p target/log && echo proved > target/log/b.res
-[ ! -e "$STAND_IN/slow" ] || { echo failed > target/log/a.res; sleep 0.7; echo proved > target/log/a.res; }
-[ ! -e "$STAND_IN/edit" ] || { rm -f "$STAND_IN/edit"; echo '// edited' >> crates/a/src/lib.rt; }
-[ ! -e "$STAND_IN/edits" ] || echo '// edited' >> crates/a/src/lib.rt
-mkdir -p target/bin && cp "$STAND_IN/program" target/bin/valuation && cp "$STAND_IN/months" target/bin/monthsvaluation || exit 2
+name=${PWD##*/}
+case "$*:$name" in
+  run:valuation) file=program ;;
+  run:monthsvaluation) file=months ;;
+  *) exit 2 ;;
+esac
+if [ $name = valuation ]; then
+  echo call >> "$STAND_IN/calls"
+  [ ! -e "$STAND_IN/slow" ] || { echo 'rt: chose --jobs 2 for a'; sleep 0.7; }
+  [ ! -e "$STAND_IN/edit" ] || { rm -f "$STAND_IN/edit"; echo '// edited' >> ../a/src/lib.rt; }
+  [ ! -e "$STAND_IN/edits" ] || echo '// edited' >> ../a/src/lib.rt
+fi
+mkdir -p out && cp "$STAND_IN/$file" out/$name || exit 2
 [ ! -e "$STAND_IN/fails" ] || { echo 'rt: a NOT PROVED'; exit 1; }
 """
 
@@ -80,8 +87,8 @@ class Checkout(unittest.TestCase):
         self.rt.mkdir()
         (self.rt / "rt").write_text(RT)
         (self.rt / "rt").chmod(0o755)
-        self.program(f"#!/bin/sh\nexec {ROOT}/target/bin/valuation\n")
-        self.program(f"#!/bin/sh\nexec {ROOT}/target/bin/monthsvaluation\n", "months")
+        self.program(f"#!/bin/sh\nexec {ROOT}/crates/valuation/out/valuation\n")
+        self.program(f"#!/bin/sh\nexec {ROOT}/crates/monthsvaluation/out/monthsvaluation\n", "months")
         self.c1 = self.folder / "c1.case"
         self.c1.write_bytes(C1)
 
@@ -130,9 +137,9 @@ class Proved(Checkout):
 
     def test_a_failed_check(self):
         self.order("fails")
-        for _ in range(2):  # the program that failed lies in target/bin the second time
+        for _ in range(2):  # the program that failed lies in its crate the second time
             self.assertNoAnswer(self.value(self.c1), "rt: a NOT PROVED")
-            self.assertTrue((self.root / "target/bin/valuation").exists())
+            self.assertTrue((self.root / "crates/valuation/out/valuation").exists())
             self.assertNoAnswer(self.value("--json", self.c1), "the program is not proved")
         self.order("fails", False)
         self.assertAnswers(self.value(self.c1), 5)
@@ -148,7 +155,7 @@ class Proved(Checkout):
 
     def test_edits_of_every_kind(self):
         self.assertAnswers(self.value(self.c1), 1)
-        files = [path for path in self.root.rglob("*") if path.is_file() and "crates" in path.name + str(path.parent)]
+        files = [path for path in self.root.rglob("*") if path.is_file() and "crates" in path.name + str(path.parent) and "out" not in path.parts]
         self.assertEqual(len(files), 11)
         for count, path in enumerate(files, 2):
             path.write_text(path.read_text()[::-1])  # as long as before
@@ -164,7 +171,7 @@ class Proved(Checkout):
         for count, name in enumerate(("valuation", "monthsvaluation"), 2):
             (self.root / "target/value" / name).write_text("#!/bin/sh\necho 'R 1'\n")
             self.assertAnswers(self.value(self.c1), count)
-        (self.root / "target/bin/valuation").write_text("#!/bin/sh\necho 'R 1'\n")  # nothing runs this one
+        (self.root / "crates/valuation/out/valuation").write_text("#!/bin/sh\necho 'R 1'\n")  # nothing runs this one
         self.assertAnswers(self.value(self.c1), 3)
 
     def test_an_edit_during_the_check(self):
@@ -243,7 +250,7 @@ class Places(Checkout):
         shutil.copytree(self.root, other / "checkout")
         self.program("#!/bin/sh\necho 'R 9'\n")
         self.value(self.c1, program=other / "checkout" / "value")
-        self.program(f"#!/bin/sh\nexec {ROOT}/target/bin/valuation\n")
+        self.program(f"#!/bin/sh\nexec {ROOT}/crates/valuation/out/valuation\n")
         for word in (str(other), f"{other}:.", ".:/"):
             run = self.value("c1.case", program="checkout/value", cwd=self.folder, env=self.environment() | {"CDPATH": word})
             self.assertAnswers(run, 2)

@@ -80,38 +80,17 @@ heed_interrupts() {
   done
 }
 
-# Says which crate is being proved, as long as the process runs. rt has the word 'failed' in a crate's .res from the start of its
-# check until it is proved; a crate that has it for two looks in a row is being proved, and not only looked up. Of the crate that
-# becomes an archive there is a .say and no .res.
-show_progress() { # NAME PID
-  said=' '
-  seen=' '
-  while kill -0 "$2" 2> /dev/null; do
-    now=' '
-    for file in "$root"/target/log/*.res "$root"/target/log/*.say; do
-      is_tried "$file" || continue
-      crate=${file##*/}
-      crate=${crate%.*}
-      now="$now$crate "
-      case $said in *" $crate "*) continue ;; esac
-      case $seen in *" $crate "*) ;; *) continue ;; esac
-      said="$said$crate "
+# Says which crate is being proved, as long as the process runs: rt's log names each crate when its check begins, and none that it only
+# looks up.
+show_progress() { # NAME LOG PID
+  said=0 # so many crates
+  while kill -0 "$3" 2> /dev/null; do
+    for crate in $(sed -n 's/^rt: chose --jobs [0-9]* for //p' "$2" | tail -n "+$((said + 1))"); do
+      said=$((said + 1))
       echo "$1: proving $crate" >&2
     done
-    seen=$now
     sleep 0.2 || :
   done
-}
-
-is_tried() { # FILE
-  case $1 in
-    *.say) [ -e "$1" ] && [ ! -e "${1%.say}.res" ] ;;
-    *)
-      word=
-      { read -r word < "$1"; } 2> /dev/null || :
-      [ "$word" = failed ]
-      ;;
-  esac
 }
 
 # A prover that is ended leaves its temporary files behind, so they have a folder of their own.
@@ -124,15 +103,16 @@ remove_temporary() {
   temporary=
 }
 
-# Runs rt to its end, with what it says in a file. Its group is its own, so that an interrupt can end the provers too.
-run_rt() { # NAME LOG WORD..
-  rm -f "$root"/target/log/*.res "$root"/target/log/*.say
+# Runs rt in a crate's folder to its end, with what it says in a file. Its group is its own, so that an interrupt can end the provers too.
+run_rt() { # NAME LOG CRATE WORD..
   make_temporary || return
   caller=$1
   log=$2
-  shift 2
-  (cd "$root" && TMPDIR=$temporary exec setsid rt "$@") > "$log" 2>&1 < /dev/null & # it keeps the lock for as long as it runs
-  show_progress "$caller" $!
+  crate_folder=$root/crates/$3
+  shift 3
+  : > "$log" || return
+  (cd "$crate_folder" && TMPDIR=$temporary exec setsid rt "$@") > "$log" 2>&1 < /dev/null & # it keeps the lock for as long as it runs
+  show_progress "$caller" "$log" $!
   wait_for_it
   remove_temporary
   return $ended

@@ -81,7 +81,7 @@ def show(log):
 def in_order(text):
     """The crates of a crates.txt, each behind those that it depends on. The kit's libraries are only depended on."""
     lines = [line.partition("#")[0].partition(":") for line in text.splitlines()]
-    crates = {name.strip(): rest.split() for name, colon, rest in lines if colon}
+    crates = {words.split()[0]: rest.split() for words, colon, rest in lines if colon}
     return [name for name in TopologicalSorter(crates).static_order() if name in crates]
 
 

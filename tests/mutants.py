@@ -97,9 +97,9 @@ def crates(root):
     found = {}
     with open(os.path.join(root, "crates.txt"), encoding="utf-8") as file:
         for line in file:
-            name, colon, rest = line.split("#")[0].partition(":")
-            if colon and name.strip() not in PROGRAMS:
-                found[name.strip()] = rest.split()
+            words, colon, rest = line.split("#")[0].partition(":")
+            if colon and (name := words.split()[0]) not in PROGRAMS:
+                found[name] = rest.split()
     return found
 
 

@@ -21,8 +21,8 @@ def listed(text):
         if line.startswith("#"):
             group = line.removeprefix("# ")
         elif line:
-            name, _, deps = line.partition(":")
-            yield group, name, deps.split()
+            words, _, deps = line.partition(":")
+            yield group, words.split()[0], deps.split()  # behind the name may stand what the crate is
         else:
             group = None
 

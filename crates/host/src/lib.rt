@@ -11,9 +11,9 @@ ghost use Rattle.method.specs.Window.{windowPoint};
 ghost use Rattle.method.specs.Listing.{listingAfter, listingLength};
 ghost use Rattle.savingmodel.specs.Saving.{given, saveAnswer, savedAfter};
 ghost use Rattle.flat.specs.Flat.{hostValuation, hostPoint, figuresFrom, valuationFrom, hostSaved, hostUfr};
-ghost use Rattle.host.specs.Part.{hostPart};
+ghost use Rattle.ratesplace.specs.Part.{hostPart};
 
-use casefile::{rates_part, refusal_of};
+use casefile::refusal_of;
 use engine::value;
 use flat::{
     HostFigures, HostPoint, HostSaved, HostUfr, HostValuation, figures_from, flat_point,
@@ -23,20 +23,12 @@ use history::ufr_of;
 use listing::write_listing;
 use model::case::CaseFields;
 use months::value_with_months;
-use places::find;
+use ratesplace::{HostPart, rates_place};
 use rolling::{add_day, drop_day, empty};
 use rollingmodel::{ChangedWindow, Day, RollingWindow};
 use rollingvalue::value_window;
 use window::window_point;
 use writer::save;
-
-// `length` bytes of the file, from `offset` on.
-#[repr(C)]
-#[derive(Clone, Copy)]
-pub struct HostPart {
-    pub offset: usize,
-    pub length: usize,
-}
 
 // Values a case file into two lent buffers, as `engine::value` does.
 #[unsafe(no_mangle)]
@@ -61,26 +53,14 @@ pub extern "C" fn ginghamowl_refusal(file: &[u8]) -> u8
     refusal_of(file)
 }
 
-// Where the rates stand in the file: n × 120 bytes, or n × 240 of rates of four bytes; 0 and 0 where the file is refused. Only a refused
-// file has an empty part.
+// Where the rates stand in the file, as `ratesplace::rates_place` finds it: n × 120 bytes, or n × 240 of rates of four bytes; 0 and 0
+// where the file is refused. Only a refused file has an empty part.
 #[unsafe(no_mangle)]
 pub extern "C" fn ginghamowl_rates_part(file: &[u8]) -> HostPart
     ensures value { result ≡ hostPart file.now }
     ensures part { take result.length (drop result.offset file.now) ≡ ratesPart file.now }
 {
-    let part = rates_part(file);
-    let length = part.len();
-    if length == 0 {
-        return HostPart {
-            offset: 0,
-            length: 0,
-        };
-    }
-    let p = find(file);
-    HostPart {
-        offset: p.days_at + 1,
-        length,
-    }
+    rates_place(file)
 }
 
 // A point of the window, over the factors that a valuation wrote and the figures that it gave. A money figure

@@ -1,2 +1,0 @@
--- What the proofs of `host` share.
-pub mod Part

@@ -3,6 +3,7 @@
 use Prim.Native.Nat.{ℕ, zero, suc, ◌≤◌, ◌<◌}
 use mathlib.Core.Path.{◌≡◌, refl, ap, sym, ◌∙◌, subst}
 use mathlib.Core.Bool.{Bool, true, false, ◌&&◌}
+use mathlib.Core.Logic.{◌⊎◌, inl, inr}
 use mathlib.Core.List.{List, ◌∷◌, ◌++◌}
 use borrow.Author.Tests.{le-leb, lt-leb}
 use lib.Dec.{leb}
@@ -66,24 +67,25 @@ module _ (file : List ℕ) (r : Reading) (e : r ≡ reading_of file) where
 module _ (file : List ℕ) (f₀ : List ℕ) (z₀ : List ℤ) (call : Call file f₀ z₀) where
   -- the contract of `value`: the answer, both buffers at the end, and what holds of every call
   abbrev pub Meets : Valuation → List ℕ → List ℤ → Type 0
-  Meets v f z =
-      (v ≡ valuationOf (length f₀) (length z₀) file)
-      × ((f ≡ factorsAfter file f₀ z₀) × ((z ≡ ratesAfter file f₀ z₀) × Call file f₀ z₀))
+  Meets v f z = record {
+    value : v ≡ valuationOf (length f₀) (length z₀) file;
+    factors : f ≡ factorsAfter file f₀ z₀;
+    rates : z ≡ ratesAfter file f₀ z₀;
+    call : Call file f₀ z₀;
+  }
 
   -- with the refusal known
   meets-refused : (n : ℕ) → valuationRefusal (length f₀) (length z₀) file ≡ suc n → Meets (Refused (suc n)) f₀ z₀
   unfolding valuationOf factorsAfter ratesAfter
-  meets-refused n e = (rw e, (rw e, (rw e, call)))
+  meets-refused n e = record { value = rw e; factors = rw e; rates = rw e; call = call }
 
-  pub short-factors : length f₀ < 240 → Meets (Refused 13) f₀ z₀
+  -- with a buffer that is too short: that for factors, or, where it is long enough, that for rates
+  pub too-short : (length f₀ < 240) ⊎ (240 ≤ length f₀ × length z₀ < 240) → Meets (Refused 13) f₀ z₀
   unfolding valuationRefusal
-  short-factors h = meets-refused 12 (fails (leb 240 (length f₀) && leb 240 (length z₀)) (checks file) (rw (lt-leb 240 (length f₀) h)))
-
-  pub short-rates : length z₀ < 240 → Meets (Refused 13) f₀ z₀
-  unfolding valuationRefusal
-  short-rates h =
+  too-short (inl h) = meets-refused 12 (fails (leb 240 (length f₀) && leb 240 (length z₀)) (checks file) (rw (lt-leb 240 (length f₀) h)))
+  too-short (inr h) =
       meets-refused 12
-      (fails (leb 240 (length f₀) && leb 240 (length z₀)) (checks file) (and-false (leb 240 (length f₀)) (leb 240 (length z₀)) (lt-leb 240 (length z₀) h)))
+      (fails (leb 240 (length f₀) && leb 240 (length z₀)) (checks file) (and-false (leb 240 (length f₀)) (leb 240 (length z₀)) (lt-leb 240 (length z₀) h.1)))
 
   module _ (hf : 240 ≤ length f₀) (hz : 240 ≤ length z₀) (r : Reading) (e : r ≡ reading_of file) where
     -- a refused file: its number is not 0
@@ -105,4 +107,4 @@ module _ (file : List ℕ) (f₀ : List ℕ) (z₀ : List ℤ) (call : Call file
         let o : valuationRefusal (length f₀) (length z₀) file ≡ 0 = own-refusal file f₀ z₀ hf hz ∙ (accepted-reading file r e a).noRefusal in
         let read = accepted-reading file r e a in
         let (x, (y, u)) = held-valued (case_of file) read.within f₀ z₀ read.holds p q t in
-        (rw o x, (rw o y, (rw o u, call)))
+        record { value = rw o x; factors = rw o y; rates = rw o u; call = call }

@@ -19,19 +19,14 @@ pub fn value(file: &[u8], factors: &mut [u64], rates: &mut [i64]) -> Valuation
     ensures rates { rates.new ≡ ratesAfter file.now factors.old rates.old }
     ensures call { Call file.now factors.old rates.old }
 {
-    if factors.len() < 240 {
-        return Valuation::Refused(13);
-    }
-    if rates.len() < 240 {
+    if factors.len() < 240 || rates.len() < 240 {
         return Valuation::Refused(13);
     }
     let reading = read(file);
-    let answer = reading.answer;
-    if let Answer::Refused(number) = answer {
-        return Valuation::Refused(number);
+    match reading.answer {
+        Answer::Refused(number) => Valuation::Refused(number),
+        Answer::Accepted => value_case(reading.case, factors, rates),
     }
-    let case = reading.case;
-    value_case(case, factors, rates)
 }
 
 // The figures and the verdict of a case file, or the number of its refusal: no buffer is lent and no zero rate is worked out.
@@ -39,13 +34,11 @@ pub fn figures_of(file: &[u8]) -> Valuation
     ensures { result ≡ answered (refusal file.now) (case_of file.now) }
 {
     let reading = read(file);
-    let answer = reading.answer;
-    if let Answer::Refused(n) = answer {
-        return Valuation::Refused(n);
+    match reading.answer {
+        Answer::Refused(n) => Valuation::Refused(n),
+        Answer::Accepted => {
+            let money = money_of(reading.case);
+            Valuation::Valued(money.figures, money.verdict)
+        }
     }
-    let case = reading.case;
-    let money = money_of(case);
-    let figures = money.figures;
-    let verdict = money.verdict;
-    Valuation::Valued(figures, verdict)
 }

@@ -50,7 +50,7 @@ use lib.IntN.{pos, neg_ℤ}
 use Rattle.arith.specs.Rounding.{low, high}
 use Rattle.model.specs.Constants.{lastTerm}
 use Rattle.model.specs.Case.{FileCase, s}
-use Rattle.model.specs.Layout.{fileOf, case_of}
+use Rattle.model.specs.Layout.{fileOf}
 use Rattle.method.specs.Fraction.{◌//◌, ◌≐◌, whole}
 use Rattle.method.specs.Curve.{Curve, base, up, down, curve, P}
 use Rattle.method.specs.Exact as Exact
@@ -100,10 +100,10 @@ ACCEPTED_HEAD = """\
 """ + WRITTEN + """\
 use Prim.Native.Nat.{ℕ}
 use mathlib.Core.Path.{◌≡◌, refl}
-use mathlib.Core.List.{List, [], ◌∷◌, ◌++◌}
+use mathlib.Core.List.{List, [], ◌∷◌}
 use Rattle.model.specs.Layout.{case_of}
 use Rattle.model.specs.Refusals.{refusal}
-use Rattle.model.proofs.Computing.{pairs, all}
+use Rattle.model.proofs.Computing.{all}
 use Rattle.method.proofs.Pinned.{bentFile, bentCase, upFile, upCase, downFile, downCase, deepestFile, deepestCase, long}
 """
 
@@ -114,7 +114,6 @@ use Prim.Native.String.{String}
 use mathlib.Core.Path.{◌≡◌, refl}
 use mathlib.Core.List.{List, [], ◌∷◌}
 use lib.Dec.{lit<}
-use lib.ListN.{replicate, take}
 use lib.IntN.{pos, neg_ℤ}
 use Rattle.arith.specs.Rounding.{low, high}
 use Rattle.method.specs.Fraction.{◌//◌, ◌≐◌}
@@ -186,7 +185,6 @@ use Rattle.rollingmodel.specs.Rolling.{
   dropDay,
   add,
   dropOldest,
-  changedBy,
   queuedBy,
   windowRefusal,
   windowValuation,
@@ -267,9 +265,8 @@ FOUR_HEAD = """\
 """ + WRITTEN + """\
 use Prim.Native.Nat.{ℕ, zero, suc}
 use mathlib.Core.Path.{◌≡◌, refl}
-use mathlib.Core.Bool.{true, false}
+use mathlib.Core.Bool.{true}
 use mathlib.Core.List.{List, [], ◌∷◌, ◌++◌, map}
-use lib.ListN.{replicate}
 use lib.IntN.{pos, neg_ℤ}
 use Rattle.model.specs.Case.{FileCase}
 use Rattle.model.specs.Layout.{fileOf, case_of}
@@ -281,10 +278,9 @@ FOUR_FIGURES_HEAD = """\
 -- Rates in four bytes: the curves and figures of a fund none of whose rates is a whole step, and rewritings, as computed statements about the
 -- definitions.
 """ + WRITTEN + """\
-use Prim.Native.Nat.{ℕ}
 use mathlib.Core.Path.{◌≡◌, refl}
 use mathlib.Core.Bool.{true, false}
-use mathlib.Core.List.{List, [], ◌∷◌, ◌++◌}
+use mathlib.Core.List.{[], ◌∷◌, ◌++◌}
 use lib.Dec.{lit<}
 use lib.ListN.{replicate}
 use lib.IntN.{pos, neg_ℤ}
@@ -305,7 +301,6 @@ use Rattle.method.proofs.Computing.{all}
 FOUR_SAVED_HEAD = """\
 -- Saving a case with rates in four bytes, as computed statements about the definitions.
 """ + WRITTEN + """\
-use Prim.Native.Nat.{ℕ}
 use mathlib.Core.Path.{◌≡◌, refl}
 use mathlib.Core.List.{List, [], ◌∷◌, ◌++◌, map}
 use lib.ListN.{replicate}
@@ -322,12 +317,11 @@ use Rattle.savingmodel.proofs.SavedCases.{amountsOf, shocksOf, fields_of, noAmou
 FOUR_ROLLING_HEAD = """\
 -- A rolling window valued with a case of four-byte rates, as computed statements about the definitions.
 """ + ROLLING_WRITTEN + """\
-use Prim.Native.Nat.{ℕ}
 use Prim.Native.String.{String}
 use mathlib.Core.Path.{◌≡◌, refl}
-use mathlib.Core.List.{List, [], ◌∷◌, ◌++◌}
+use mathlib.Core.List.{List, [], ◌∷◌}
 use lib.ListN.{replicate, take}
-use lib.IntN.{pos, neg_ℤ}
+use lib.IntN.{pos}
 use Rattle.method.specs.Listing.{listing}
 use Rattle.method.proofs.Computing.{text}
 use Rattle.model.proofs.FourByteCases.{finerCase}
@@ -339,11 +333,10 @@ use Rattle.rollingmodel.proofs.RollingCases.{flatDays}
 FOUR_MONTHS_HEAD = """\
 -- The UFR of months put into files with rates in four bytes, as computed statements about the definitions.
 """ + MONTHS_WRITTEN + """\
-use Prim.Native.Nat.{ℕ}
 use mathlib.Core.Path.{◌≡◌, refl}
-use mathlib.Core.List.{List, [], ◌∷◌, ◌++◌}
+use mathlib.Core.List.{[], ◌∷◌, ◌++◌}
 use Rattle.model.proofs.Computing.{pairs}
-use Rattle.model.proofs.FourByteCases.{quads, finerFile}
+use Rattle.model.proofs.FourByteCases.{finerFile}
 use Rattle.monthsmodel.specs.Months.{withUfrField, monthsCase}
 use Rattle.monthsmodel.proofs.Computing.{all}
 use Rattle.monthsmodel.proofs.MonthsCases.{foundHistory}
@@ -375,7 +368,6 @@ use Rattle.method.proofs.Computing.{text}
 use Rattle.rollingmodel.proofs.Computing.{all}
 use Rattle.savingmodel.proofs.SavedCases.{amountsOf, shocksOf, fields_of, noAmounts, noShocks}
 use Rattle.model.proofs.FourByteCases.{quads, finerFile, finerCase, oldFile, newFile}
-use Rattle.savingmodel.proofs.FourByteCases.{smallFour}
 """
 
 TITLES = {

@@ -3,10 +3,10 @@
 -- readings that its first lines name (tests/reference.py): change that, not this. Assumes nothing.
 use Prim.Native.Nat.{ℕ}
 use mathlib.Core.Path.{◌≡◌, refl}
-use mathlib.Core.List.{List, [], ◌∷◌, ◌++◌}
+use mathlib.Core.List.{List, [], ◌∷◌}
 use Rattle.model.specs.Layout.{case_of}
 use Rattle.model.specs.Refusals.{refusal}
-use Rattle.model.proofs.Computing.{pairs, all}
+use Rattle.model.proofs.Computing.{all}
 use Rattle.method.proofs.Pinned.{bentFile, bentCase, upFile, upCase, downFile, downCase, deepestFile, deepestCase, long}
 
 bent-accepted : refusal bentFile ≡ 0

@@ -24,7 +24,6 @@ use Rattle.method.proofs.Computing.{text}
 use Rattle.rollingmodel.proofs.Computing.{all}
 use Rattle.savingmodel.proofs.SavedCases.{amountsOf, shocksOf, fields_of, noAmounts, noShocks}
 use Rattle.model.proofs.FourByteCases.{quads, finerFile, finerCase, oldFile, newFile}
-use Rattle.savingmodel.proofs.FourByteCases.{smallFour}
 
 -- "Exactly one of bits 1 and 7 stands, otherwise it's 3." Bits 8 to 15 must not.
 abbrev pub four-mapFiles : List (List ℕ)

@@ -1,5 +1,5 @@
 -- What the computed statements of this crate compute with: the definitions of specs/, and those of the crates below it. Assumes nothing.
-use Prim.Native.Nat.{ℕ, zero, suc}
+use Prim.Native.Nat.{ℕ}
 use Prim.Native.String.{String}
 use mathlib.Core.List.{List, [], ◌∷◌, ◌++◌}
 use lib.Ieee.{size}

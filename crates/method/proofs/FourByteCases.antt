@@ -2,10 +2,9 @@
 -- definitions.
 -- tests/pinned.py wrote this file, from an implementation in Python that was written from the papers and, for request Six, from the
 -- readings that its first lines name (tests/reference.py): change that, not this. Assumes nothing.
-use Prim.Native.Nat.{ℕ}
 use mathlib.Core.Path.{◌≡◌, refl}
 use mathlib.Core.Bool.{true, false}
-use mathlib.Core.List.{List, [], ◌∷◌, ◌++◌}
+use mathlib.Core.List.{[], ◌∷◌, ◌++◌}
 use lib.Dec.{lit<}
 use lib.ListN.{replicate}
 use lib.IntN.{pos, neg_ℤ}

@@ -13,7 +13,7 @@ use lib.IntN.{pos, neg_ℤ}
 use Rattle.arith.specs.Rounding.{low, high}
 use Rattle.model.specs.Constants.{lastTerm}
 use Rattle.model.specs.Case.{FileCase, s}
-use Rattle.model.specs.Layout.{fileOf, case_of}
+use Rattle.model.specs.Layout.{fileOf}
 use Rattle.method.specs.Fraction.{◌//◌, ◌≐◌, whole}
 use Rattle.method.specs.Curve.{Curve, base, up, down, curve, P}
 use Rattle.method.specs.Exact as Exact

@@ -4,9 +4,8 @@
 -- readings that its first lines name (tests/reference.py): change that, not this. Assumes nothing.
 use Prim.Native.Nat.{ℕ, zero, suc}
 use mathlib.Core.Path.{◌≡◌, refl}
-use mathlib.Core.Bool.{true, false}
+use mathlib.Core.Bool.{true}
 use mathlib.Core.List.{List, [], ◌∷◌, ◌++◌, map}
-use lib.ListN.{replicate}
 use lib.IntN.{pos, neg_ℤ}
 use Rattle.model.specs.Case.{FileCase}
 use Rattle.model.specs.Layout.{fileOf, case_of}

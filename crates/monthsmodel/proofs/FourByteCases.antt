@@ -1,11 +1,10 @@
 -- The UFR of months put into files with rates in four bytes, as computed statements about the definitions.
 -- tests/pinned.py wrote this file, from an implementation in Python that was written from document 02 and the readings of decisions 168
 -- to 170 and 172 (tests/months.py): change that, not this. Assumes nothing.
-use Prim.Native.Nat.{ℕ}
 use mathlib.Core.Path.{◌≡◌, refl}
-use mathlib.Core.List.{List, [], ◌∷◌, ◌++◌}
+use mathlib.Core.List.{[], ◌∷◌, ◌++◌}
 use Rattle.model.proofs.Computing.{pairs}
-use Rattle.model.proofs.FourByteCases.{quads, finerFile}
+use Rattle.model.proofs.FourByteCases.{finerFile}
 use Rattle.monthsmodel.specs.Months.{withUfrField, monthsCase}
 use Rattle.monthsmodel.proofs.Computing.{all}
 use Rattle.monthsmodel.proofs.MonthsCases.{foundHistory}

@@ -5,7 +5,6 @@ use Prim.Native.String.{String}
 use mathlib.Core.Path.{◌≡◌, refl}
 use mathlib.Core.List.{List, [], ◌∷◌}
 use lib.Dec.{lit<}
-use lib.ListN.{replicate, take}
 use lib.IntN.{pos, neg_ℤ}
 use Rattle.arith.specs.Rounding.{low, high}
 use Rattle.method.specs.Fraction.{◌//◌, ◌≐◌}

@@ -1,12 +1,11 @@
 -- A rolling window valued with a case of four-byte rates, as computed statements about the definitions.
 -- tests/pinned.py wrote this file, from an implementation in Python that was written from the papers and, for request Six, from the
 -- readings that its first lines name (tests/rolling.py): change that, not this. Assumes nothing.
-use Prim.Native.Nat.{ℕ}
 use Prim.Native.String.{String}
 use mathlib.Core.Path.{◌≡◌, refl}
-use mathlib.Core.List.{List, [], ◌∷◌, ◌++◌}
+use mathlib.Core.List.{List, [], ◌∷◌}
 use lib.ListN.{replicate, take}
-use lib.IntN.{pos, neg_ℤ}
+use lib.IntN.{pos}
 use Rattle.method.specs.Listing.{listing}
 use Rattle.method.proofs.Computing.{text}
 use Rattle.model.proofs.FourByteCases.{finerCase}

@@ -22,7 +22,6 @@ use Rattle.rollingmodel.specs.Rolling.{
   dropDay,
   add,
   dropOldest,
-  changedBy,
   queuedBy,
   windowRefusal,
   windowValuation,

@@ -1,7 +1,6 @@
 -- Saving a case with rates in four bytes, as computed statements about the definitions.
 -- tests/pinned.py wrote this file, from an implementation in Python that was written from the papers and, for request Six, from the
 -- readings that its first lines name (tests/reference.py): change that, not this. Assumes nothing.
-use Prim.Native.Nat.{ℕ}
 use mathlib.Core.Path.{◌≡◌, refl}
 use mathlib.Core.List.{List, [], ◌∷◌, ◌++◌, map}
 use lib.ListN.{replicate}

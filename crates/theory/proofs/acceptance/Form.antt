@@ -1,6 +1,6 @@
 -- The two days fields: what holds of rates of 2 bytes and of rates of 4 bytes holds of every case whose form is known. So the days of such
 -- a case are in one of the two fields, and the other is absent.
-use mathlib.Core.Path.{◌≡◌, refl, ap, ap₂, sym, ◌∙◌, subst}
+use mathlib.Core.Path.{◌≡◌, refl, ap, sym, ◌∙◌, subst}
 use mathlib.Core.Bool.{Bool, true, false, ◌||◌, cond}
 use mathlib.Core.List.{List, [], ◌++◌}
 use Prim.Native.Nat.{ℕ, ◌+◌, ◌*◌}
@@ -10,7 +10,7 @@ use lib.ListN.{length}
 use lib.IntN.{ℤ}
 use Rattle.model.specs.Case.{FileCase, knownForm, unitsPerStep, perStep, withDays}
 use Rattle.model.specs.Fields.{Field, field, ◌then◌}
-use Rattle.model.specs.Layout.{day, days, shocks, people, Present, Parts, rateBytesIn, stands, fileMap, firstFields, layout, fields_of, caseFrom, daysIf, parts_of, case_of}
+use Rattle.model.specs.Layout.{day, days, shocks, people, Present, Parts, rateBytesIn, stands, fileMap, firstFields, layout, fields_of, caseFrom, parts_of, case_of}
 use Rattle.model.specs.Refusals.{ufrEnd, daysAt, dayCount}
 use Rattle.model.specs.declared.case.Amounts.{Amounts}
 use Rattle.model.specs.declared.case.Shocks.{Shocks}

@@ -1,6 +1,6 @@
 -- The rounded working depends on a curve only through the ratios of N and P(0) to P(60), and the UFR: a curve whose N and P(t) are each the
 -- same multiple of another's has its growths and factors. Assumes nothing.
-use Prim.Native.Nat.{ℕ, zero, suc, ◌+◌, ◌*◌, ◌≤◌, ◌<◌}
+use Prim.Native.Nat.{ℕ, zero, suc, ◌*◌, ◌≤◌, ◌<◌}
 use mathlib.Core.Path.{◌≡◌, refl, ap, ap₂, sym, ◌∙◌, fun_ext}
 use native.Mathlib.Omega.{arith}
 use native.Mathlib.Decide.{dec_le}

@@ -19,7 +19,7 @@ use Rattle.theory.proofs.general.Lists.{every-le}
 use Rattle.theory.proofs.general.Powers.{pow_pos, backward}
 use Rattle.theory.proofs.curve.Steps.{scaled-in, scaled-width}
 use Rattle.theory.proofs.curve.Growth.{growth-suc, P_pos, N-pos}
-use Rattle.theory.proofs.curve.Factor.{rounded-factor-first, rounded-factor-next, weighed-from-61, least}
+use Rattle.theory.proofs.curve.Factor.{rounded-factor-first, rounded-factor-next, weighed-from-61}
 use Rattle.theory.proofs.curve.Unadjusted.{years-bound}
 use Rattle.theory.proofs.curve.Width.{factorMost, middle}
 

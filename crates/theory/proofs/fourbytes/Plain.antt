@@ -2,17 +2,17 @@
 -- and where the days and their part stand. Nothing else rests on this. It is here so that a definition that said less would not give it.
 -- Assumes nothing.
 use Prim.Native.Nat.{ℕ, suc, ◌+◌, ◌*◌, ◌≤◌, ◌<◌}
-use mathlib.Core.Path.{◌≡◌, refl, ap, sym, ◌∙◌, subst}
-use mathlib.Core.Bool.{true, false}
-use mathlib.Core.List.{List, [], ◌++◌}
+use mathlib.Core.Path.{◌≡◌, ap, subst}
+use mathlib.Core.Bool.{true}
+use mathlib.Core.List.{List, []}
 use native.Mathlib.Omega.{arith}
 use lib.ListN.{length, get_or, take, drop}
-use lib.IntN.{ℤ, pos, neg_ℤ, ◌+ℤ◌, ◌*ℤ◌}
+use lib.IntN.{pos, neg_ℤ, ◌+ℤ◌, ◌*ℤ◌}
 use lib.Signed.{◌≤ℤ◌}
 use Rattle.model.specs.Case.{FileCase, perStep, s}
 use Rattle.model.specs.Limits.{DaysWithin, WithinLimits, forward}
-use Rattle.model.specs.Layout.{stands, fileMap, case_of}
-use Rattle.method.specs.Curve.{Move, base, up, down, movedSum, curve}
+use Rattle.model.specs.Layout.{stands, fileMap}
+use Rattle.method.specs.Curve.{Move, up, down, movedSum, curve}
 use Rattle.model.specs.Refusals.{refusal, ratesPart, daysAt, dayCount}
 use Rattle.savingmodel.specs.Saving.{shortest}
 use Rattle.theory.proofs.acceptance.Acceptance.{days-reach}

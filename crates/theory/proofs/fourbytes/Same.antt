@@ -14,7 +14,6 @@ use Rattle.model.specs.Layout.{stands, presentIn, fileMap, case_of, Keeps}
 use Rattle.model.specs.Refusals.{first_of, refusal}
 use Rattle.model.specs.Constants.{lastTerm}
 use Rattle.method.specs.Curve.{base}
-use Rattle.method.specs.Rounded as Rounded
 use Rattle.method.specs.Rounded.{rateOf}
 use Rattle.method.specs.Buffers as Buffers
 use Rattle.method.specs.Buffers.{valuationRefusal, byTerm, factorEntries, rateEntries, written, answered, valuationOf}

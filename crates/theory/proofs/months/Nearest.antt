@@ -1,6 +1,6 @@
 -- The mean of 120 months rounded to the nearest 100 steps. With q = floor((z + 6,000) ÷ 12,000), z - 12,000 × q lies between -6,000 and
 -- 5,999: so no other multiple is nearer, and the only one that can be equally near is lower. Assumes nothing.
-use Prim.Native.Nat.{ℕ, suc, ◌+◌, ◌*◌, ◌≤◌, ◌<◌}
+use Prim.Native.Nat.{ℕ, ◌+◌, ◌*◌, ◌≤◌, ◌<◌}
 use mathlib.Core.Path.{◌≡◌, sym}
 use native.Mathlib.Nat.{le_antisymm}
 use native.Mathlib.Omega.{arith}

@@ -6,7 +6,6 @@ ghost use Rattle.rollingmodel.specs.Rolling.{daysHeld, windowRight, emptyWindow,
 ghost use Rattle.givenrates.specs.inner.Raised.{summed};
 
 use givenrates::add_day as add_rates;
-use numbers::runs::both;
 use ring::slots::{day_in, put_day, slot_of};
 use ring::sums::{same_sums, stored_sums, sum_held, sums_without};
 use rollingmodel::{ChangedWindow, Day, RollingWindow};
@@ -25,17 +24,14 @@ pub fn empty() -> RollingWindow
 
 // Whether the window is right, else 27; and if it is, the sums of the days held.
 pub fn check(w: RollingWindow) -> Sums
-    ensures within_value { result.within ≡ windowRight w }
+    ensures right { result.within ≡ windowRight w }
     ensures sums { result.within ≡ true → result ≡ summed 2 (daysHeld w) }
 {
     let none = Sums {
         within: false,
         sums: [0u64; 60],
     };
-    if 70 < w.count {
-        return none;
-    }
-    if 70 <= w.start {
+    if 70 < w.count || 70 <= w.start {
         return none;
     }
     let count = w.count as usize;
@@ -44,7 +40,7 @@ pub fn check(w: RollingWindow) -> Sums
     let told = w.sums;
     let same = same_sums(told, stored_sums(sums, count));
     Sums {
-        within: both(held.within, same),
+        within: held.within & same,
         sums,
     }
 }

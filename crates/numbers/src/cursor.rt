@@ -9,16 +9,10 @@ struct Cursor<'a> {
     at: usize,
 }
 
-fn wide(byte: u8) -> u64
-    ensures { result ≡ byte }
-{
-    byte as u64
-}
-
 fn byte_in(file: &[u8], at: usize) -> u64
     ensures { (result ≡ get_or file.now at 0) × (result < 256) }
 {
-    if at < file.len() { wide(file[at]) } else { 0 }
+    if at < file.len() { file[at] as u64 } else { 0 }
 }
 
 // The work, on the slice and the number: the number of `width` bytes at a position.
@@ -27,21 +21,20 @@ fn number_in(file: &[u8], at: usize, width: usize) -> u64
     ensures { (result ≡ number file.now at width) × (result < 256 ^ width) }
 {
     let mut r: u64 = 0;
-    let mut i: usize = 0;
-    while i < width {
-        let b = byte_in(file, at + i);
-        r = r * 256 + b;
-        i += 1;
+    for i in 0..width {
+        r = r * 256 + byte_in(file, at + i);
     }
     r
 }
 
-// The number of `width` bytes at the cursor.
-fn take<'a>(c: Cursor<'a>, width: usize) -> u64
-    requires { (c.at + width < 2 ^ 64) × (width ≤ 8) }
-    ensures { (result ≡ number c.entry.file.now c.entry.at width) × (result < 256 ^ width) }
-{
-    number_in(c.file, c.at, width)
+impl<'a> Cursor<'a> {
+    // The number of `width` bytes at the cursor.
+    fn take(self, width: usize) -> u64
+        requires { (self.at + width < 2 ^ 64) × (width ≤ 8) }
+        ensures { (result ≡ number self.entry.file.now self.entry.at width) × (result < 256 ^ width) }
+    {
+        number_in(self.file, self.at, width)
+    }
 }
 
 // The same by slice and position: a cursor is set there, and takes it.
@@ -49,5 +42,5 @@ pub fn number_at(file: &[u8], at: usize, width: usize) -> u64
     requires { (at + width < 2 ^ 64) × (width ≤ 8) }
     ensures { (result ≡ number file.now at width) × (result < 256 ^ width) }
 {
-    take(Cursor { file, at }, width)
+    Cursor { file, at }.take(width)
 }

@@ -7,24 +7,22 @@ ghost use Rattle.numbers.specs.inner.Entries.{entry};
 
 use crate::cursor::number_at;
 
-// Loops keep what they have found in a flag rather than return at the first failure: a loop with one way out has one invariant.
+// Whether both of two tests hold.
 pub fn both(a: bool, b: bool) -> bool
     ensures { result ≡ (a && b) }
 {
-    if a { b } else { false }
+    a & b
 }
 
-// Whether each of `count` numbers is at most `most`.
+// Whether each of `count` numbers is at most `most`. What is found is kept in a flag: a loop with one way out has one invariant.
 pub fn each_at_most(file: &[u8], at: usize, width: usize, count: usize, most: u64) -> bool
     requires { (at ≤ 40000) × (width ≤ 8) × (count ≤ 5000) }
     ensures { result ≡ rightAll (number_of width 0 most) (valueAll (number_of width 0 most) file.now at count) }
 {
     let mut within = true;
-    let mut i: usize = 0;
-    while i < count {
+    for i in 0..count {
         let v = number_at(file, at + width * i, width);
-        within = both(within, v <= most);
-        i += 1;
+        within &= v <= most;
     }
     within
 }
@@ -46,10 +44,7 @@ pub fn fill(file: &[u8], at: usize, width: usize, count: usize, out: &mut [u64])
     requires { (at ≤ 40000) × (width ≤ 8) × (length out.old ≤ 5000) }
     ensures { out.new ≡ padded (length out.old) (table (entry file.now at width) count) }
 {
-    let mut i: usize = 0;
-    while i < out.len() {
-        let v = entry_or_zero(file, at, width, count, i);
-        out[i] = v;
-        i += 1;
+    for (i, v) in out.iter_mut().enumerate() {
+        *v = entry_or_zero(file, at, width, count, i);
     }
 }

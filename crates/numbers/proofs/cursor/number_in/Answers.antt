@@ -4,7 +4,7 @@ use Rattle.numbers.proofs.cursor.Digits.{number-none, number-next, digit, digits
 use Rattle.numbers.proofs.cursor.number_in.Goals as goal
 
 pub loop-i-init : goal.loop-i-init
-loop-i-init c = record { within = omega arith; value = sym (number-none _ _); small = omega arith }
+loop-i-init c = record { value = sym (number-none _ _); small = omega arith }
 
 pub overflow_mul-r : goal.overflow_mul-r
 overflow_mul-r c = let l = c.loop-i in omega (arith, digits-leave-room l.i l.invariant.small (omega arith))
@@ -15,8 +15,7 @@ overflow_add-r c = let l = c.loop-i in omega (arith, digits-leave-room l.i l.inv
 pub loop-i-preserved : goal.loop-i-preserved
 loop-i-preserved c =
     let l = c.loop-i in
-    let b = c.byte_in-b.ensures in record {
-      within = omega arith;
+    let b = c.byte_in.ensures in record {
       value = rw (number-next, ← l.invariant.value, ← b.0);
       small = digit l.i l.invariant.small b.1;
     }

@@ -62,14 +62,16 @@ module _ (file history : List ℕ) (start : ℕ) (f₀ : List ℕ) (z₀ : List 
 
   -- the contract of `value_with_months`: the answer, and both buffers at the end
   abbrev pub Meets : Valuation → List ℕ → List ℤ → Type 0
-  Meets v factors rates =
-      (v ≡ monthsValuation file history start (length f₀) (length z₀))
-      × ((factors ≡ monthsFactorsAfter file history start f₀ z₀) × (rates ≡ monthsRatesAfter file history start f₀ z₀))
+  Meets v fs zs = record {
+    value : v ≡ monthsValuation file history start (length f₀) (length z₀);
+    factors : fs ≡ monthsFactorsAfter file history start f₀ z₀;
+    rates : zs ≡ monthsRatesAfter file history start f₀ z₀;
+  }
 
   refused-with : (n : ℕ) → number ≡ n → 0 < n → Meets (Refused n) f₀ z₀
   unfolding monthsValuation monthsFactorsAfter monthsRatesAfter
   refused-with zero e l = let never : ⊥ = omega arith in absurd never
-  refused-with (suc n) e l = (rw e, (rw e, rw e))
+  refused-with (suc n) e l = record { value = rw e; factors = rw e; rates = rw e }
 
   short : (leb 240 (length f₀) && leb 240 (length z₀)) ≡ false → Meets (Refused 13) f₀ z₀
   unfolding monthsRefusal first_of
@@ -128,4 +130,4 @@ module _ (file history : List ℕ) (start : ℕ) (f₀ : List ℕ) (z₀ : List 
         unfolding monthsValuation monthsFactorsAfter monthsRatesAfter
         valued-months p q t =
             let (x, (y, z)) = held-valued (monthsCase file history) limits f₀ z₀ case-holds p q t in
-            (rw none.0 x, (rw none.0 y, rw none.0 z))
+            record { value = rw none.0 x; factors = rw none.0 y; rates = rw none.0 z }

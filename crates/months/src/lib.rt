@@ -26,10 +26,7 @@ pub fn value_with_months(
     ensures factors { factors.new ≡ monthsFactorsAfter file.now history.now start factors.old rates.old }
     ensures rates { rates.new ≡ monthsRatesAfter file.now history.now start factors.old rates.old }
 {
-    if factors.len() < 240 {
-        return Valuation::Refused(13);
-    }
-    if rates.len() < 240 {
+    if factors.len() < 240 || rates.len() < 240 {
         return Valuation::Refused(13);
     }
     let reading = read(file);

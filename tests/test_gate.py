@@ -117,7 +117,7 @@ class Gate(unittest.TestCase):
 
     def test_failures(self):
         good, bad, last = "5 passed, 0 failed\n", "3 passed, 1 failed\n", "python3 tests/compare_months.py --quick"
-        for says, fails in ((bad, "rt ci"), (bad, ""), (good, "rt ci"), ("", ""), (good, "rt fmt --check"), (good, "hosts/test"), (good, last)):
+        for says, fails in ((bad, "rt ci"), (bad, ""), (good, "rt ci"), ("", ""), (good, "python3 tests/cases.py --check"), (good, "hosts/test"), (good, last)):
             self.order(says=says, fails=fails)
             self.assertEnds(self.gate(), 1, "gate: FAILED")
 

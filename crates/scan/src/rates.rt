@@ -7,7 +7,6 @@ ghost use Rattle.scan.specs.inner.Sums.{raisedTwo, raisedFour, mostRaised, RateR
 
 use heldcase::Case;
 use numbers::cursor::number_at;
-use numbers::runs::both;
 
 // Whether each rate is within its limits, and if so P(t) of the terms 1 to 60: over the days, the sum of 100,000 steps and the rate.
 #[derive(Clone, Copy)]
@@ -60,7 +59,7 @@ pub fn rate_right(rate: u64, units: u64) -> bool
     requires { units ≤ 100 }
     ensures { result ≡ rateRight units rate }
 {
-    both(99_000 * units <= rate, rate <= 110_000 * units)
+    99_000 * units <= rate && rate <= 110_000 * units
 }
 
 // Adds the rates of the day at a position to the sums, which are of up to 254 days: whether all these rates are within their limits.
@@ -72,13 +71,10 @@ fn add_rates(bytes: &[u8], at: usize, rate_bytes: u64, sums: &mut [u64; 60]) -> 
     let units = units_per_step(rate_bytes);
     let width = rate_bytes as usize;
     let mut within = true;
-    let mut t: usize = 0;
-    while t < 60 {
+    for (t, sum) in sums.iter_mut().enumerate() {
         let rate = any_rate_at(bytes, at + width * t, rate_bytes);
-        sums[t] += rate;
-        let right = rate_right(rate, units);
-        within = both(within, right);
-        t += 1;
+        *sum += rate;
+        within &= rate_right(rate, units);
     }
     within
 }
@@ -120,11 +116,8 @@ pub fn sum_days(file: &[u8], at: usize, rate_bytes: u64, days: usize) -> Sums
     let mut within = true;
     let mut sums = [0u64; 60];
     let size = rate_bytes as usize * 60;
-    let mut d: usize = 0;
-    while d < days {
-        let right = add_any_day(file, at + size * d, rate_bytes, &mut sums);
-        within = both(within, right);
-        d += 1;
+    for d in 0..days {
+        within &= add_any_day(file, at + size * d, rate_bytes, &mut sums);
     }
     Sums { within, sums }
 }
@@ -135,10 +128,7 @@ fn next_right(last: u64, next: u64, per_step: u64) -> bool
     requires { (last ≤ 65712999613500) × (per_step ≤ 25500) }
     ensures { result ≡ nextRight per_step last next }
 {
-    both(
-        last + 98_000 * per_step <= next,
-        next <= last + 112_000 * per_step,
-    )
+    last + 98_000 * per_step <= next && next <= last + 112_000 * per_step
 }
 
 // Whether t × s(t) - (t - 1) × s(t-1) is within its limits at each term, refusal 6, where one step adds `per_step` to a sum. t × P(t)
@@ -149,14 +139,10 @@ pub fn forwards_within(sums: [u64; 60], per_step: u64) -> bool
 {
     let mut within = true;
     let mut last: u64 = 0;
-    let mut t: usize = 0;
-    while t < 60 {
-        let sum = sums[t];
+    for (t, sum) in sums.iter().enumerate() {
         let next = (t as u64 + 1) * sum;
-        let right = next_right(last, next, per_step);
-        within = both(within, right);
+        within &= next_right(last, next, per_step);
         last = next;
-        t += 1;
     }
     within
 }

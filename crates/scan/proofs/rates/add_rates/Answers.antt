@@ -9,7 +9,6 @@ use Rattle.scan.proofs.rates.add_rates.Goals as goal
 pub loop-t-init : goal.loop-t-init
 unfolding every table
 loop-t-init c = record {
-  terms = omega arith;
   right = refl;
   added = refl;
   most = λ most h. record { each = λ t l. omega (arith, h.each t l) };
@@ -24,9 +23,8 @@ loop-t-preserved c =
     let held = c.args.sums.now in
     let sum : ℕ → ℕ = λ i. get_or held i 0 + rateOn w c.args.bytes.now c.args.at i in
     let old = entry_kept sum held l.sums l.t (omega arith) l.invariant.added in
-    let right = c.rate_right-right.ensures ∙ ap (λ (u : ℕ). rateRight u c.any_rate_at-rate.result) c.units_per_step-units.ensures.0 ∙ read.right in record {
-      terms = omega arith;
-      right = c.both-within.ensures ∙ ap₂ (λ x y. x && y) l.invariant.right right ∙ rw add-one;
+    let right = c.rate_right-within.ensures ∙ ap (λ (u : ℕ). rateRight u c.any_rate_at-rate.result) c.units_per_step-units.ensures.0 ∙ read.right in record {
+      right = ap₂ (λ x y. x && y) l.invariant.right right ∙ rw add-one;
       added = table_filled sum held l.sums l.t _ (omega arith) (ap₂ (λ x y. x + y) old read.rate) l.invariant.added;
       most = λ most h. record {
         each = λ t b.

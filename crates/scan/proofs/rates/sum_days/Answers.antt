@@ -18,16 +18,13 @@ days-most w d known l = mul-le-mul {n₁ = w * 60} {m₁ = d} {n₂ = 240} {m₂
 
 pub loop-d-init : goal.loop-d-init
 unfolding table s total
-loop-d-init c = record {
-  in_run = omega arith;
-  summed = record { within = refl; sums = refl; most = record { each = λ t l. omega (arith, le_of_eq (getD-table (λ _. 0) 60 t 0 l)) } };
-}
+loop-d-init c = record { within = refl; sums = refl; most = record { each = λ t l. omega (arith, le_of_eq (getD-table (λ _. 0) 60 t 0 l)) } }
 
-pub add_any_day-right-requires-clause-start_bound : goal.add_any_day-right-requires-clause-start_bound
-add_any_day-right-requires-clause-start_bound c =
+pub add_any_day-within-requires-clause-start_bound : goal.add_any_day-within-requires-clause-start_bound
+add_any_day-within-requires-clause-start_bound c =
     let w = c.args.rate_bytes in
     let l = c.loop-d in
-    let h = l.invariant.summed in
+    let h = l.invariant in
     let few : l.d ≤ 254 = omega arith in
     let most = days-most w l.d c.requires.2 few in
     let sum = mul-le-mul {n₁ = mostRaised w} {m₁ = l.d} {n₂ = mostRaised w} {m₂ = 254} (omega arith) few in
@@ -35,7 +32,4 @@ add_any_day-right-requires-clause-start_bound c =
     (omega arith, ap length h.sums ∙ length-table _ 60, each)
 
 pub loop-d-preserved : goal.loop-d-preserved
-loop-d-preserved c = record {
-  in_run = omega arith;
-  summed = days-next c.loop-d.invariant.summed c.add_any_day-right.ensures c.both-within.ensures;
-}
+loop-d-preserved c = days-next c.loop-d.invariant c.add_any_day-within.ensures refl

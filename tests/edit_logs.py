@@ -1,9 +1,10 @@
 """Whether each must-fail edit is refused at the facts that its comment names, by all that the prover says of it.
 
-Command line: python3 tests/edit_logs.py [--kept] [NAME | NAME/EDIT ..]      every edit, unless crates or edits are named
+Command line: python3 tests/edit_logs.py [--kept] [--said FILE] [NAME | NAME/EDIT ..]      every edit, unless crates or edits are named
 
-`rt ci` and `rt must-fail` tell only the first line of a refusal. So each edit is put into a copy of the crates here, and what `rt check`
-says there is kept in target/must-fail/NAME/EDIT.log; with --kept, the logs that are there are looked at as they are.
+`rt ci` and `rt must-fail` tell only the first line of a refusal. With --said, where FILE has what one of them said, that line is enough for
+an edit of which it shows all that the comment names. Any other edit is put into a copy of the crates, and what `rt check` says there is
+kept in target/must-fail/NAME/EDIT.log; with --kept, the logs that are there are looked at as they are.
 
 An edit that is refused for another reason, because a proof no longer fits it, guards nothing. Ends with 1 if a log is missing, or if a
 statement or a fact of a function that is named has no error in it.
@@ -15,6 +16,7 @@ import shutil
 import subprocess
 import sys
 import tempfile
+from concurrent.futures import ThreadPoolExecutor
 
 sys.path.insert(0, os.path.dirname(os.path.abspath(__file__)))
 from edits import EDITS, ROOT, edited, facts, parts, place, read_text, refusing
@@ -64,16 +66,25 @@ def make_log(tree, path):
     write(os.path.join(LOGS, crate), {f"{name}.log": said})
 
 
-def make_logs(paths):
-    with tempfile.TemporaryDirectory(prefix="edit-logs-") as tree:
+def make_logs_of(paths):
+    """The logs of edits of one crate, in a copy of the crates beside the repository's own, so that files can be shared."""
+    os.makedirs(LOGS, exist_ok=True)
+    with tempfile.TemporaryDirectory(prefix="tree-", dir=LOGS) as tree:
         copied(tree)
-        for crate in sorted({place(path)[0] for path in paths}):
-            status, said = check(tree, crate)
-            if status:
-                sys.exit(f"edit_logs: {crate} is not proved as it is, so its edits show nothing\n{said[-2000:]}")
-            for path in paths:
-                if place(path)[0] == crate:
-                    make_log(tree, path)
+        crate = place(paths[0])[0]
+        status, said = check(tree, crate)
+        if status:
+            return f"edit_logs: {crate} is not proved as it is, so its edits show nothing\n{said[-2000:]}"
+        for path in paths:
+            make_log(tree, path)
+
+
+def make_logs(paths):
+    crates = sorted({place(path)[0] for path in paths})
+    with ThreadPoolExecutor(os.cpu_count()) as pool:
+        for wrong in pool.map(make_logs_of, [[path for path in paths if place(path)[0] == crate] for crate in crates]):
+            if wrong:
+                sys.exit(wrong)
 
 
 # ---------------------------------------------------------------- reading them
@@ -114,24 +125,63 @@ def silent(crate, edit, log):
         + [f"{fact} of {function}" for fact, function in facts(comment) if silent_fact(crate, fact, function, log)]
 
 
+REFUSED = re.compile(r"rt: must-fail (\S+)\.edit: refused, as it must be: (.*)")
+PLACED = re.compile(r"note: src/(\S+)\.rt:(\d+):\d+: ")
+
+
+def said_of(text):
+    """The first line of each refusal, by the edit, of what `rt ci` or `rt must-fail` said."""
+    return {edit: line for edit, line in REFUSED.findall(text)}
+
+
+def function_at(source, module, line):
+    """The function of a source text that a line is in, by its path within the crate."""
+    kind = function = None
+    for word, name in re.findall(r"^\s*(?:pub )?(?:extern \"C\" )?(fn|impl)(?:<[^>]*>)? (\w+)|^}", "\n".join(source.splitlines()[:line]), re.M):
+        kind = name if word == "impl" else kind if word else None
+        function = "::".join([*([kind] if kind else []), name]) if word == "fn" else function
+    return "::".join([*([] if module in ("lib", "main") else module.split("/")), function or "?"])
+
+
+def as_log(path, line):
+    """The first line of a refusal as a log of its own: a note on a line of the source is one on the function there."""
+    noted = PLACED.match(line)
+    if not noted:
+        return line
+    source = edited(path).get(f"src/{noted[1]}.rt") or read_text(os.path.join(os.path.dirname(path), "..", "src", f"{noted[1]}.rt"))
+    return f"{line}\nfn {place(path)[0]}::{function_at(source, noted[1], int(noted[2]))}: no proof"
+
+
+def shown(path, said):
+    """Whether the first line of a refusal shows all that the comment of the edit names."""
+    line = said.get("/".join(place(path)))
+    return line is not None and not silent(place(path)[0], read_text(path), as_log(path, line))
+
+
 def chosen(names):
     """The edits that are named, each by its crate or by its own name; all of them, if none is."""
     return [path for path in EDITS if not names or {place(path)[0], "/".join(place(path))} & set(names)]
 
 
 def main(words):
+    said = {}
+    if "--said" in words:
+        at = words.index("--said")
+        said = said_of(read_text(words[at + 1]))
+        words = words[:at] + words[at + 2:]
     paths = chosen([word for word in words if word != "--kept"])
+    rest = [path for path in paths if not shown(path, said)]
     if "--kept" not in words:
-        make_logs(paths)
+        make_logs(rest)
     wrong = 0
-    for path in paths:
+    for path in rest:
         crate, name = place(path)
         log = os.path.join(LOGS, crate, f"{name}.log")
         missing = silent(crate, read_text(path), read_text(log)) if os.path.exists(log) else ["no log"]
         if missing:
             wrong += 1
             print(f"{crate}/{name}: {', '.join(missing)}")
-    print(f"{len(paths)} edits, {wrong} not refused as their comments say")
+    print(f"{len(paths)} edits, {len(paths) - len(rest)} by their first line, {wrong} not refused as their comments say")
     return 1 if wrong or not paths else 0
 
 

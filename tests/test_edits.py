@@ -94,6 +94,15 @@ class Logs(unittest.TestCase):
         self.assertEqual(self.silent("A slip: `lower` of roots::roots no longer holds."), ["lower of roots::roots"])
         self.assertEqual(self.silent("A slip: `mul-lower` of other no longer holds."), ["mul-lower of other"])
 
+    def test_the_first_line(self):
+        said = edit_logs.said_of("rt: must-fail k/a.edit: refused, as it must be: ./proofs/f/Answers.antt:3:5: error: `returns`: it differs\n"
+                                 "rt: k: trying its must-fail edits (1)\nrt: must-fail k/b.edit: BAD EDIT\n")
+        self.assertEqual(said, {"k/a": "./proofs/f/Answers.antt:3:5: error: `returns`: it differs"})
+        self.assertEqual(edit_logs.silent("k", "# A slip: `returns` of f no longer holds.\nfile: src/a.rt\n", said["k/a"]), [])
+        source = "impl Held {\n    pub fn new() -> u64\n    {\n        1\n    }\n}\n\nfn last<'a>(x: u64)\n    ensures { x }\n{\n    x\n}\n"
+        self.assertEqual([edit_logs.function_at(source, *at) for at in (("lib", 2), ("a/b", 4), ("a", 8), ("main", 11))],
+                         ["Held::new", "a::b::Held::new", "a::last", "last"])
+
     def test_a_statement(self):
         self.assertEqual(self.silent("A slip. Refused by c5-factor and c6-factor."), ["c6-factor"])
 

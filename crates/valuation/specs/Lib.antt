@@ -1,2 +1,3 @@
--- Input has to be believed: what can be said of reading.
+-- Both have to be believed. Input: what can be said of reading. Printed: what the program prints.
 pub mod Input
+pub mod Printed

@@ -1,8 +1,10 @@
 // Reads a case file from standard input and prints its listing.
 #![tactic(auto)]
 
-ghost use Rattle.std.specs.Prelude.{length};
+ghost use Rattle.std.specs.Prelude.{OnOk, length};
+ghost use Rattle.std.specs.Io.KnownBytes.{Appends};
 ghost use Rattle.valuation.specs.Input.{AtMost, OnceRead, InputRead};
+ghost use Rattle.valuation.specs.Printed.{listingOf, Printed};
 
 use std::io;
 use std::io::{Read, Write};
@@ -48,7 +50,9 @@ fn read_input<R: Read>(input: &mut R, file: &mut [u8]) -> Input
     Input::Bytes(end)
 }
 
-fn print_listing<W: Write>(out: &mut W, file: &[u8]) -> io::Result<()> {
+fn print_listing<W: Write>(out: &mut W, file: &[u8]) -> io::Result<()>
+    ensures { OnOk result (Appends (W.contents out.old) (W.contents out.new) (listingOf file.now)) }
+{
     let valuation = engine::figures_of(file);
     let mut text = [0u8; 512];
     let n = listing::write_listing(valuation, &mut text);
@@ -56,7 +60,9 @@ fn print_listing<W: Write>(out: &mut W, file: &[u8]) -> io::Result<()> {
 }
 
 // Where a read fails nothing is printed.
-fn answer<R: Read, W: Write>(input: &mut R, out: &mut W) -> io::Result<()> {
+fn answer<R: Read, W: Write>(input: &mut R, out: &mut W) -> io::Result<()>
+    ensures { OnOk result (Printed (R.remaining input.old) (W.contents out.old) (W.contents out.new)) }
+{
     let mut file = [0u8; MOST_BYTES];
     let read = read_input(input, &mut file);
     let Input::Bytes(n) = read else {

@@ -74,14 +74,16 @@ module _ (w : RollingWindow) (f : CaseFields) (own : List ℤ) (pension bonds : 
 
   -- the contract of `value_window`: the answer, and both buffers at the end
   abbrev pub Meets : Valuation → List ℕ → List ℤ → Type 0
-  Meets v factors rates =
-      (v ≡ windowValuation w k (length f₀) (length z₀))
-      × ((factors ≡ windowFactorsAfter w k f₀ z₀) × (rates ≡ windowRatesAfter w k f₀ z₀))
+  Meets v fs zs = record {
+    value : v ≡ windowValuation w k (length f₀) (length z₀);
+    factors : fs ≡ windowFactorsAfter w k f₀ z₀;
+    rates : zs ≡ windowRatesAfter w k f₀ z₀;
+  }
 
   pub refused-window : (n : ℕ) → n ≡ windowRefusal w k (length f₀) (length z₀) → 0 < n → Meets (Refused n) f₀ z₀
   unfolding windowValuation windowFactorsAfter windowRatesAfter
   refused-window zero e l = let never : ⊥ = omega arith in absurd never
-  refused-window (suc n) e l = (rw (sym e), (rw (sym e), rw (sym e)))
+  refused-window (suc n) e l = record { value = rw (sym e); factors = rw (sym e); rates = rw (sym e) }
 
   module _ (none : windowRefusal w k (length f₀) (length z₀) ≡ 0) {sums : Sums} {case : Case} (is : sums ≡ summed 2 (daysHeld w))
       (made : case ≡ joined f w.count sums.sums pension bonds) where
@@ -104,4 +106,4 @@ module _ (w : RollingWindow) (f : CaseFields) (own : List ℤ) (pension bonds : 
         → rates ≡ ratesOn case ++ drop 240 z₀
         → Meets v factors rates
     unfolding windowValuation windowFactorsAfter windowRatesAfter
-    valued-window p q r = let (x, (y, z)) = held-valued valued limits f₀ z₀ case-holds p q r in (rw none x, (rw none y, rw none z))
+    valued-window p q r = let (x, (y, z)) = held-valued valued limits f₀ z₀ case-holds p q r in record { value = rw none x; factors = rw none y; rates = rw none z }

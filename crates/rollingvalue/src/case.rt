@@ -16,11 +16,8 @@ fn flow_or_zero(flows: &[u64], i: usize) -> u64
 fn pad(flows: &[u64], out: &mut [u64])
     ensures { out.new ≡ padded (length out.old) flows.now }
 {
-    let mut i: usize = 0;
-    while i < out.len() {
-        let flow = flow_or_zero(flows, i);
-        out[i] = flow;
-        i += 1;
+    for (i, flow) in out.iter_mut().enumerate() {
+        *flow = flow_or_zero(flows, i);
     }
 }
 

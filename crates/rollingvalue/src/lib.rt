@@ -35,10 +35,7 @@ fn refusal(
     if !held.within {
         return 27;
     }
-    if factors < 240 {
-        return 13;
-    }
-    if rates < 240 {
+    if factors < 240 || rates < 240 {
         return 13;
     }
     let own = case_check(f, case_rates, pension, bonds);

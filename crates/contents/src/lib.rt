@@ -1,11 +1,12 @@
 // The case that the bytes of a file hold: the default case, with the fields that the file has put in.
 #![tactic(auto)]
 
-ghost use Rattle.std.specs.Prelude.{◌≡◌, cond, ◌+◌, ◌≤◌};
-ghost use Rattle.model.specs.Fields.{valueAll};
-ghost use Rattle.model.specs.Layout.{flow, amountsFrom, amounts, shocksFrom, shocks, people, case_of};
+ghost use Rattle.std.specs.Prelude.{◌≡◌, ◌+◌, ◌≤◌};
+ghost use Rattle.model.specs.Numbers.{table};
+ghost use Rattle.model.specs.Layout.{amountsFrom, amounts, shocksFrom, shocks, people, case_of};
 ghost use Rattle.model.specs.Refusals.{refusal};
 ghost use Rattle.heldcase.specs.Held.{padded, held};
+ghost use Rattle.numbers.specs.inner.Entries.{entry};
 ghost use Rattle.places.specs.inner.Found.{Found};
 ghost use Rattle.scan.specs.inner.Sums.{Summed};
 
@@ -16,35 +17,14 @@ use numbers::runs::fill;
 use places::Places;
 use scan::rates::{Sums, units_per_step};
 
-// A number of the file, or the one that a file without it has.
-fn number_or(there: bool, v: u64, absent: u64) -> u64
-    ensures { result ≡ cond there v absent }
+// The first `count` numbers of `width` bytes from a position on, with zeros after the last.
+fn numbers_in<const N: usize>(file: &[u8], at: usize, width: usize, count: usize) -> [u64; N]
+    requires { (at ≤ 40000) × (width ≤ 8) × (N ≤ 5000) }
+    ensures { result ≡ padded N (table (entry file.now at width) count) }
 {
-    if there { v } else { absent }
-}
-
-fn amounts_or(there: bool, v: Amounts, absent: Amounts) -> Amounts
-    ensures { result ≡ cond there v absent }
-{
-    if there { v } else { absent }
-}
-
-fn pension_in(file: &[u8], at: usize, count: usize) -> [u64; 120]
-    requires { at ≤ 33000 }
-    ensures { result ≡ padded 120 (valueAll flow file.now (at + 1) count) }
-{
-    let mut flows = [0u64; 120];
-    fill(file, at + 1, 4, count, &mut flows);
-    flows
-}
-
-fn bonds_in(file: &[u8], at: usize, count: usize) -> [u64; 60]
-    requires { at ≤ 33000 }
-    ensures { result ≡ padded 60 (valueAll flow file.now (at + 1) count) }
-{
-    let mut flows = [0u64; 60];
-    fill(file, at + 1, 4, count, &mut flows);
-    flows
+    let mut numbers = [0u64; N];
+    fill(file, at, width, count, &mut numbers);
+    numbers
 }
 
 fn amounts_from(v: [u64; 8]) -> Amounts
@@ -66,9 +46,7 @@ fn amounts_in(file: &[u8], at: usize) -> Amounts
     requires { at ≤ 33000 }
     ensures { result ≡ amounts.value file.now at }
 {
-    let mut v = [0u64; 8];
-    fill(file, at, 8, 8, &mut v);
-    amounts_from(v)
+    amounts_from(numbers_in(file, at, 8, 8))
 }
 
 fn shocks_from(v: [u64; 10], spread: u64, duration: u64) -> Shocks
@@ -94,11 +72,10 @@ fn shocks_in(file: &[u8], at: usize) -> Shocks
     requires { at ≤ 33000 }
     ensures { result ≡ shocks.value file.now at }
 {
-    let mut v = [0u64; 10];
-    fill(file, at, 2, 10, &mut v);
+    let ten = numbers_in(file, at, 2, 10);
     let spread = number_at(file, at + 20, 2);
     let duration = number_at(file, at + 20 + 2, 2);
-    shocks_from(v, spread, duration)
+    shocks_from(ten, spread, duration)
 }
 
 fn people_in(file: &[u8], at: usize) -> People
@@ -121,24 +98,25 @@ pub fn case_in(file: &[u8], p: Places, s: Sums) -> Case
     requires accepted { refusal file.now ≡ 0 }
     ensures { result ≡ held (case_of file.now) }
 {
-    let mut case = Case::default();
-    let ufr = number_or(p.has_ufr, number_at(file, 2, 2), case.ufr);
-    let pension = pension_in(file, p.pension_at, p.pension);
-    let bonds = bonds_in(file, p.bonds_at, p.bonds);
-    let amounts = amounts_or(p.has_amounts, amounts_in(file, p.amounts_at), case.amounts);
-    let shocks = shocks_in(file, p.shocks_at);
-    let people = people_in(file, p.people_at);
-    let sums = s.sums;
-    let per_step = units_per_step(p.rate_bytes) * p.days as u64;
-    case.ufr = ufr;
-    case.per_step = per_step;
-    case.sums = sums;
-    case.pension_count = p.pension;
-    case.pension = pension;
-    case.bond_count = p.bonds;
-    case.bonds = bonds;
-    case.amounts = amounts;
-    case.shocks = shocks;
-    case.people = people;
-    case
+    let absent = Case::default();
+    Case {
+        ufr: if p.has_ufr {
+            number_at(file, 2, 2)
+        } else {
+            absent.ufr
+        },
+        per_step: units_per_step(p.rate_bytes) * p.days as u64,
+        sums: s.sums,
+        pension_count: p.pension,
+        pension: numbers_in(file, p.pension_at + 1, 4, p.pension),
+        bond_count: p.bonds,
+        bonds: numbers_in(file, p.bonds_at + 1, 4, p.bonds),
+        amounts: if p.has_amounts {
+            amounts_in(file, p.amounts_at)
+        } else {
+            absent.amounts
+        },
+        shocks: shocks_in(file, p.shocks_at),
+        people: people_in(file, p.people_at),
+    }
 }

@@ -1,4 +1,4 @@
--- `contents::amounts_in` meets its contract: the eight numbers are the table that `fill` makes.
+-- `contents::amounts_in` meets its contract: the eight numbers are the field's.
 use Rattle.std.proofs.Common.{◌∙◌, ap, sym}
 use Rattle.model.specs.Fields.{number_of}
 use Rattle.model.specs.Layout.{amountsFrom}
@@ -11,4 +11,4 @@ pub returns : goal.returns
 unfolding table
 returns c =
     c.amounts_from.ensures
-    ∙ ap amountsFrom (c.fill.ensures ∙ ap (padded 8) (sym (values-table (number_of 8 0 100000000000) _ _ 8)))
+    ∙ ap amountsFrom (c.numbers_in.ensures ∙ ap (padded 8) (sym (values-table (number_of 8 0 100000000000) _ _ 8)))

@@ -29,20 +29,22 @@ pub struct Places {
     pub end: usize,
 }
 
-// A field with a count byte: the count, and where the field ends.
+// A field with a count byte: where it starts, the count, and where it ends.
 #[derive(Clone, Copy)]
 struct Span {
+    at: usize,
     count: usize,
     end: usize,
 }
 
 fn counted(file: &[u8], at: usize, size: usize) -> Span
     requires { (at ≤ 40000) × (size ≤ 240) }
-    ensures { (result.count ≡ get_or file.now at 0) × (result.count < 256)
+    ensures { (result.at ≡ at) × (result.count ≡ get_or file.now at 0) × (result.count < 256)
         × (result.end ≡ at + 1 + size * get_or file.now at 0) × (result.end ≤ at + 1 + size * 255) }
 {
     let count = number_at(file, at, 1) as usize;
     Span {
+        at,
         count,
         end: at + 1 + size * count,
     }
@@ -51,56 +53,26 @@ fn counted(file: &[u8], at: usize, size: usize) -> Span
 // The same of a field that may be absent: it then has none, and ends where it starts.
 fn counted_if(there: bool, file: &[u8], at: usize, size: usize) -> Span
     requires { (at ≤ 40000) × (size ≤ 240) }
-    ensures { (result.count ≡ cond there (get_or file.now at 0) 0) × (result.count < 256)
+    ensures { (result.at ≡ at) × (result.count ≡ cond there (get_or file.now at 0) 0) × (result.count < 256)
         × (result.end ≡ cond there (at + 1 + size * get_or file.now at 0) at) × (result.end ≤ at + 1 + size * 255) }
 {
     if there {
         counted(file, at, size)
     } else {
-        Span { count: 0, end: at }
+        Span {
+            at,
+            count: 0,
+            end: at,
+        }
     }
 }
 
-// Where a field of one size ends, if it is there.
-fn after_if(there: bool, at: usize, size: usize) -> usize
-    requires { (at ≤ 40000) × (size ≤ 64) }
-    ensures { (result ≡ cond there (at + size) at) × (result ≤ at + size) }
-{
-    if there { at + size } else { at }
-}
-
-// The days, which are in one of two places: the offset of their count, the count, and where they end.
-#[derive(Clone, Copy)]
-struct Days {
-    at: usize,
-    count: usize,
-    end: usize,
-}
-
-fn days_in(four_bytes: bool, short_at: usize, short: Span, long_at: usize, long: Span) -> Days
-    ensures { (result.at ≡ cond four_bytes long_at short_at) × (result.count ≡ cond four_bytes long.count short.count)
+// The days, which are in one of two places.
+fn days_in(four_bytes: bool, short: Span, long: Span) -> Span
+    ensures { (result.at ≡ cond four_bytes long.at short.at) × (result.count ≡ cond four_bytes long.count short.count)
         × (result.end ≡ cond four_bytes long.end short.end) }
 {
-    if four_bytes {
-        Days {
-            at: long_at,
-            count: long.count,
-            end: long.end,
-        }
-    } else {
-        Days {
-            at: short_at,
-            count: short.count,
-            end: short.end,
-        }
-    }
-}
-
-// The bytes of a rate: 4 where bit 7 stands.
-fn rate_bytes_in(four_bytes: bool) -> u64
-    ensures { result ≡ cond four_bytes 4 2 }
-{
-    if four_bytes { 4 } else { 2 }
+    if four_bytes { long } else { short }
 }
 
 // Where each field starts, and the counts.
@@ -112,16 +84,20 @@ pub fn find(file: &[u8]) -> Places
     let has_bonds = map / 8 % 2 == 1;
     let has_amounts = map / 16 % 2 == 1;
     let four_bytes = map / 128 % 2 == 1;
-    let rate_bytes = rate_bytes_in(four_bytes);
-    let ufr_end = after_if(has_ufr, 2, 2);
+    let rate_bytes = if four_bytes { 4 } else { 2 };
+    let ufr_end = if has_ufr { 4 } else { 2 };
     let short = counted_if(rate_bytes == 2, file, ufr_end, 120);
     let pension = counted(file, short.end, 4);
     let bonds = counted_if(has_bonds, file, pension.end, 4);
-    let shocks_at = after_if(has_amounts, bonds.end, 64);
+    let shocks_at = if has_amounts {
+        bonds.end + 64
+    } else {
+        bonds.end
+    };
     let people_at = shocks_at + 24;
     let people_end = people_at + 8;
     let long = counted_if(rate_bytes == 4, file, people_end, 240);
-    let days = days_in(four_bytes, ufr_end, short, people_end, long);
+    let days = days_in(four_bytes, short, long);
     Places {
         map,
         rate_bytes,

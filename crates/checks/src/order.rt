@@ -15,11 +15,12 @@ use places::Places;
 use scan::rates::{Sums, forwards_within, units_per_step};
 
 // One check: the number so far is kept where there is one.
+#[tactic(auto, using(crate::proofs::order::Kept::keeps), unfolding(crate::specs::inner::After::after))]
 pub fn first(so_far: u8, holds: bool, number: u8) -> u8
     ensures { result ≡ after so_far holds number }
 {
-    if so_far == 0 {
-        if holds { 0 } else { number }
+    if so_far == 0 && !holds {
+        number
     } else {
         so_far
     }
@@ -134,8 +135,7 @@ pub fn refusal_with(file: &[u8], p: Places, s: Sums) -> u8
         12,
     );
     let long_days = days_check(people, file, p, s.within, 4);
-    let sums = s.sums;
     let per_step = units_per_step(p.rate_bytes) * p.days as u64;
-    let forwards = forwards_within(sums, per_step);
+    let forwards = forwards_within(s.sums, per_step);
     end_check(long_days, file, p.end, forwards)
 }

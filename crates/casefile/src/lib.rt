@@ -43,15 +43,16 @@ pub fn read(file: &[u8]) -> Reading
     let p = find(file);
     let s = sum_days(file, p.days_at + 1, p.rate_bytes, p.days);
     let number = refusal_with(file, p, s);
-    if number != 0 {
-        return Reading {
+    if number == 0 {
+        Reading {
+            answer: Answer::Accepted,
+            case: case_in(file, p, s),
+        }
+    } else {
+        Reading {
             answer: Answer::Refused(number),
             case: Case::default(),
-        };
-    }
-    Reading {
-        answer: Answer::Accepted,
-        case: case_in(file, p, s),
+        }
     }
 }
 
@@ -64,6 +65,5 @@ pub fn rates_part(file: &[u8]) -> &[u8]
     }
     let p = find(file);
     let start = p.days_at + 1;
-    let end = p.days_end;
-    &file[start..end]
+    &file[start..p.days_end]
 }

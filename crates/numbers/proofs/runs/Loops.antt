@@ -3,7 +3,6 @@ use mathlib.Core.Path.{◌≡◌, ap, sym, ◌∙◌}
 use mathlib.Core.Bool.{Bool, ◌&&◌}
 use mathlib.Core.List.{List}
 use Prim.Native.Nat.{ℕ, suc, ◌+◌, ◌*◌, ◌≤◌}
-use native.Mathlib.Nat.{mul-le-mul}
 use native.Mathlib.Omega.{arith}
 use borrow.Author.Tests.{le-leb}
 use lib.Dec.{leb}
@@ -12,10 +11,6 @@ use Rattle.model.specs.Numbers.{table}
 use Rattle.model.specs.Fields.{within, Fixed, valueAll, rightAll}
 use Rattle.theory.proofs.general.Lists.{length-table}
 use Rattle.theory.proofs.acceptance.Runs.{right-last}
-
--- a position in a run of numbers: up to eight bytes each, up to 5,000 of them
-pub run-most : (w i : ℕ) → w ≤ 8 → i ≤ 5000 → w * i ≤ 40000
-run-most w i h k = mul-le-mul h k
 
 -- past the last entry of a table
 pub table-behind : (f : ℕ → ℕ) (n i : ℕ) → n ≤ i → get_or (table f n) i 0 ≡ 0

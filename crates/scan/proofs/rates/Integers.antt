@@ -1,12 +1,11 @@
 -- An integer z that is r - m, for naturals r and m, is within limits where r is within the limits m higher. A rate is such a difference,
 -- with 100,000 steps for m.
 -- Assumes nothing.
-use Prim.Native.Nat.{ℕ, ◌+◌, ◌*◌, ◌-◌, ◌%◌, ◌^◌, ◌≤◌, ◌<◌}
-use mathlib.Core.Path.{◌≡◌, refl, ap, ap₂, sym, ◌∙◌, subst}
+use Prim.Native.Nat.{ℕ, ◌+◌, ◌*◌, ◌-◌, ◌≤◌, ◌<◌}
+use mathlib.Core.Path.{◌≡◌, refl, ap₂, sym, ◌∙◌}
 use mathlib.Core.Bool.{Bool, true, false, ◌&&◌, cond}
-use mathlib.Core.List.{List}
 use native.Mathlib.Omega.{arith}
-use borrow.Author.Tests.{ltb-true, ltb-false, leb-true, leb-false, lt-leb}
+use borrow.Author.Tests.{ltb-true, ltb-false, leb-true}
 use lib.Dec.{T, leb, ltb, eqb, leb→le, le→leb}
 use lib.IntN.{ℤ, pos, neg_ℤ, ◌+ℤ◌, ◌-ℤ◌}
 use lib.Signed.{le_z}
@@ -14,11 +13,11 @@ use Rattle.model.specs.Case.{knownForm, unitsPerStep}
 use Rattle.method.specs.Curve.{natural}
 use Rattle.model.specs.Fields.{withinZ}
 use Rattle.model.specs.Layout.{dailyRate}
-use Rattle.model.specs.Numbers.{number, twosComplement}
+use Rattle.model.specs.Numbers.{twosComplement}
 use Rattle.theory.proofs.acceptance.Form.{by_form}
-use Rattle.theory.proofs.general.Lists.{and_first, and_second, and-false}
+use Rattle.theory.proofs.general.Lists.{and_first, and_second}
 use Rattle.theory.proofs.general.Differences.{Diff, again, diff-pos, diff-sum, diff-neg, diff-minus, diff-le, le-diff, natural-is}
-use Rattle.scan.specs.inner.Sums.{raisedTwo, raisedFour, raisedRate, mostRaised, rateRight, RateRead}
+use Rattle.scan.specs.inner.Sums.{raisedTwo, raisedFour, raisedRate, mostRaised, rateRight}
 
 -- tests of the same truth
 same : (a b : Bool) → (T a → T b) → (T b → T a) → a ≡ b
@@ -65,14 +64,6 @@ raised-two v = go (ltb (2 * v) 65536) refl
         (diff-minus (pos v) (pos 65536) v 0 65536 0 (diff-pos v) (diff-pos 65536))
         (omega (arith, ltb-false (2 * v) 65536 e))
 
--- the same by a remainder
-pub wrapped : (v : ℕ) → v < 65536 → 67232 + (v + 32768) % 65536 ≡ raisedTwo v
-wrapped v l = go (ltb (2 * v) 65536) refl
-  where
-    go : (b : Bool) → ltb (2 * v) 65536 ≡ b → 67232 + (v + 32768) % 65536 ≡ cond b (100000 + v) (100000 + v - 65536)
-    go true e = omega (arith, ltb-true (2 * v) 65536 e)
-    go false e = omega (arith, ltb-false (2 * v) 65536 e)
-
 pub right-two : (v : ℕ) → rateRight 1 (raisedTwo v) ≡ (dailyRate 2).right (twosComplement 2 v)
 right-two v = within-raised 1000 10000 99000 110000 (raisedTwo v) 100000 (twosComplement 2 v) (raised-two v) refl refl
 
@@ -96,23 +87,6 @@ raised-high v h k =
 limits-high : (v : ℕ) → withinZ (neg_ℤ (pos 100000)) (pos 1000000) (pos v -ℤ pos span) ≡ (leb span (v + 100000) && leb v (span + 1000000))
 limits-high v = within-diff 100000 1000000 v span (pos v -ℤ pos span) (below-four v)
 
-pub right-four : (v : ℕ) → v < 256 ^ 4 → rateRight 100 (raisedFour v) ≡ (dailyRate 4).right (twosComplement 4 v)
-right-four v l = go (ltb (2 * v) span) refl (leb span (v + 10000000)) refl
-  where
-    go : (b : Bool) → ltb (2 * v) span ≡ b → (c : Bool) → leb span (v + 10000000) ≡ c
-        → rateRight 100 (raisedFour v) ≡ withinZ (neg_ℤ (pos 100000)) (pos 1000000) (cond b (pos v) (pos v -ℤ pos span))
-    go true e c f =
-        within-raised 100000 1000000 9900000 11000000 (raisedFour v) 10000000 (pos v) (raised-low v (ltb-true (2 * v) span e)) refl refl
-    go false e true f =
-        within-raised 100000 1000000 9900000 11000000 (raisedFour v) 10000000 (pos v -ℤ pos span)
-        (raised-high v (leb-true span (v + 10000000) f) (omega arith)) refl refl
-    go false e false f =
-        let far = leb-false span (v + 10000000) f in
-        let half = ltb-false (2 * v) span e in
-        let high : 11000000 < raisedFour v = omega arith in
-        and-false (leb 9900000 (raisedFour v)) (leb (raisedFour v) 11000000) (lt-leb (raisedFour v) 11000000 high)
-        ∙ sym (limits-high v ∙ ap (λ b. b && leb v (span + 1000000)) (lt-leb span (v + 100000) (omega arith)))
-
 raised-four : (v : ℕ) → (dailyRate 4).right (twosComplement 4 v) ≡ true → Diff (twosComplement 4 v) (raisedFour v) 10000000
 raised-four v h = go (ltb (2 * v) span) refl h
   where
@@ -132,21 +106,7 @@ raised-right w v known =
     by_form (λ w. (dailyRate w).right (twosComplement w v) ≡ true → Diff (twosComplement w v) (raisedRate w v) (100000 * unitsPerStep w))
     w known (λ h. raised-two v) (raised-four v)
 
--- what is read of a rate, and the same at another name of the number of bytes
-pub read-two : (bytes : List ℕ) (at : ℕ) {r : ℕ} → r ≡ raisedTwo (number bytes at 2) → r ≤ 132767 → RateRead 2 bytes at r
-read-two bytes at e l = record { rate = e; most = l; right = ap (rateRight 1) e ∙ right-two (number bytes at 2) }
-
-pub read-four : (bytes : List ℕ) (at : ℕ) {r : ℕ} → r ≡ raisedFour (number bytes at 4) → r ≤ 4294967295 → number bytes at 4 < 256 ^ 4
-    → RateRead 4 bytes at r
-read-four bytes at e l small = record { rate = e; most = l; right = ap (rateRight 100) e ∙ right-four (number bytes at 4) small }
-
-pub read_as : {v w at r : ℕ} {bytes : List ℕ} → w ≡ v → RateRead v bytes at r → RateRead w bytes at r
-read_as {at = at} {r} {bytes} e h = subst (λ (w : ℕ). RateRead w bytes at r) (sym e) h
-
--- how large the bytes of a rate and its natural are
-pub bytes-few : (w t : ℕ) → knownForm w ≡ true → t ≤ 60 → w * t ≤ 240
-bytes-few w t known l = by_form (λ (v : ℕ). v * t ≤ 240) w known (omega arith) (omega arith)
-
+-- how large the natural of a rate is
 pub raised-few : (w : ℕ) → mostRaised w ≤ 4294967295
 raised-few w = go (eqb w 4)
   where

@@ -8,7 +8,6 @@ ghost use Rattle.savingmodel.specs.Saving.{daysIn, daysOf};
 ghost use Rattle.scan.specs.inner.Sums.{EachAtMost};
 ghost use Rattle.givenrates.specs.inner.Raised.{raisedOr, summed, withDay};
 
-use numbers::runs::both;
 use scan::rates::{Sums, units_per_step};
 
 // 100,000 steps and the rate, where a step is `units`; 0 for a rate outside its limits. The tests are of 32 bits, so that the compiler makes
@@ -44,11 +43,7 @@ fn day_at(rates: &[i32], d: usize) -> [i32; 60]
     ensures { result ≡ dayIn rates.now d }
 {
     let mut day = [0i32; 60];
-    let mut t: usize = 0;
-    while t < 60 {
-        day[t] = rates[60 * d + t];
-        t += 1;
-    }
+    day.copy_from_slice(&rates[60 * d..60 * d + 60]);
     day
 }
 
@@ -60,12 +55,10 @@ pub fn add_day(held: Sums, day: [i32; 60], rate_bytes: u64) -> Sums
     let units = units_per_step(rate_bytes);
     let mut within = held.within;
     let mut sums = held.sums;
-    let mut t: usize = 0;
-    while t < 60 {
+    for (t, sum) in sums.iter_mut().enumerate() {
         let rate = raised(day[t], units);
-        sums[t] += rate;
-        within = both(within, rate != 0);
-        t += 1;
+        *sum += rate;
+        within &= rate != 0;
     }
     Sums { within, sums }
 }
@@ -79,11 +72,9 @@ pub fn sum_rates(rates: &[i32], rate_bytes: u64, days: usize) -> Sums
         within: true,
         sums: [0u64; 60],
     };
-    let mut d: usize = 0;
-    while d < days {
+    for d in 0..days {
         let day = day_at(rates, d);
         r = add_day(r, day, rate_bytes);
-        d += 1;
     }
     r
 }

@@ -1,6 +1,5 @@
 -- `givenrates::add_day` meets its contract: a turn tests a rate more, and adds it to the sum at t, which still was what it was passed as.
 use Rattle.std.proofs.Common.{ℕ, ℤ, Bool, FitsSigned, List, ◌≡◌, ◌+◌, ◌≤◌, ◌&&◌, ◌∙◌, ap, arith, get_or, nat_eq, not, pos, refl, rules, sym, to_z, of_z}
-use Rattle.std.proofs.Math.ListN.{length-set}
 use mathlib.Core.Path.{ap₂}
 use lib.Seq.{take_all}
 use mir.Syntax.{w32}
@@ -19,19 +18,15 @@ use Rattle.givenrates.proofs.add_day.Goals as goal
 pub loop-t-init : goal.loop-t-init
 unfolding table
 loop-t-init c = record {
-  terms = omega arith;
-  long = search rules;
-  kept = search rules;
-  before = search rules;
   tested = sym (and-true _);
   added = refl;
 }
 
-pub overflow_add-sums : goal.overflow_add-sums
-overflow_add-sums c =
+pub overflow_add-sum : goal.overflow_add-sum
+overflow_add-sum c =
     let l = c.loop-t in
     let known = c.requires.each l.t (omega arith) in
-    let old = entry_kept _ _ l.sums l.t (omega arith) l.invariant.added in
+    let old = entry_kept _ _ l.sum-items l.t (omega arith) l.invariant.added in
     let units = c.units_per_step-units in
     let most = raised-most units.result (to_z w32 (of_z w32 (get_or c.args.day l.t (pos 0)))) in
     let small : c.raised-rate.result ≤ 11000000 = omega (arith, c.raised-rate.ensures, most, units.ensures.1) in
@@ -47,14 +42,10 @@ loop-t-preserved c =
     let fits : FitsSigned w32 rate = search rules in
     let read = to_z-of_z w32 rate fits in
     let raised = c.raised-rate.ensures ∙ ap₂ raisedOr c.units_per_step-units.ensures.0 read in
-    let old = entry_kept _ a.held.sums l.sums l.t (omega arith) i.added in
+    let old = entry_kept _ a.held.sums l.sum-items l.t (omega arith) i.added in
     let right = ap (λ (r : ℕ). not (nat_eq r 0)) raised ∙ raised-right (unitsPerStep w) rate (units-few w).0 in record {
-      terms = omega arith;
-      long = i.long;
-      kept = length-set l.sums l.t _ ∙ i.kept;
-      before = i.before;
-      tested = c.both-within.ensures ∙ ap (λ (b : Bool). l.within && b) right ∙ one-tested w a.held.within l.within a.day l.t (omega arith) i.tested;
-      added = table_filled _ a.held.sums l.sums l.t _ (omega arith) (ap₂ (λ (x y : ℕ). x + y) old raised) i.added;
+      tested = ap (λ (b : Bool). l.within && b) right ∙ one-tested w a.held.within l.within a.day l.t (omega arith) i.tested;
+      added = table_filled _ a.held.sums l.sum-items l.t _ (omega arith) (ap₂ (λ (x y : ℕ). x + y) old raised) i.added;
     }
 
 pub returns : goal.returns
@@ -68,4 +59,4 @@ returns c =
     let sum : ℕ → ℕ = λ i. get_or a.held.sums i 0 + raisedOr (unitsPerStep w) (get_or a.day i (pos 0)) in
     ap₂ (λ (b : Bool) (sums : List ℕ). record { within = b; sums = sums })
     (i.tested ∙ ap (λ (v : List ℤ). a.held.within && rightAll (dailyRate w) v) (take_all l.t a.day (omega arith)))
-    (all-filled a.held.sums l.sums (table sum l.t) l.t (all ∙ sym i.before) i.added ∙ rw all)
+    (all-filled a.held.sums l.sum-items (table sum l.t) l.t (omega arith) i.added ∙ rw all)

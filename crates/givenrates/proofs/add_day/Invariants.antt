@@ -1,5 +1,5 @@
 -- After t turns of `add_day` the first t rates of the day are tested, and added to the first t sums.
-use Rattle.std.proofs.Common.{◌≡◌, ◌+◌, ◌-◌, ◌≤◌, ◌++◌, ◌&&◌, drop, get_or, length, pos, take}
+use Rattle.std.proofs.Common.{◌≡◌, ◌+◌, ◌++◌, ◌&&◌, drop, get_or, pos, take}
 use Rattle.model.specs.Case.{unitsPerStep}
 use Rattle.model.specs.Fields.{rightAll}
 use Rattle.model.specs.Layout.{dailyRate}
@@ -9,13 +9,6 @@ use Rattle.givenrates.proofs.add_day.Given as goal
 
 abbrev pub invariant-loop-t : goal.invariant-loop-t
 invariant-loop-t l = record {
-  terms : l.t ≤ 60;
-  long : length l.day ≡ 60;
-  kept : length l.sums ≡ 60;
-  before : length l.initial.sums ≡ 60;
   tested : l.within ≡ (l.initial.within && rightAll (dailyRate l.rate_bytes) (take l.t l.day));
-  added : l.sums ≡ table (λ i. get_or l.initial.sums i 0 + raisedOr (unitsPerStep l.rate_bytes) (get_or l.day i (pos 0))) l.t ++ drop l.t l.initial.sums;
+  added : l.sum-items ≡ table (λ i. get_or l.initial.sum-items i 0 + raisedOr (unitsPerStep l.rate_bytes) (get_or l.day i (pos 0))) l.t ++ drop l.t l.initial.sum-items;
 }
-
-abbrev pub decreases-loop-t : goal.decreases-loop-t
-decreases-loop-t l = 60 - l.t

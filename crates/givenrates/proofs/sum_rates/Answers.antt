@@ -5,7 +5,7 @@ use Rattle.givenrates.proofs.Days.{days-count, none-summed, units-days, summed-m
 use Rattle.givenrates.proofs.sum_rates.Goals as goal
 
 pub loop-d-init : goal.loop-d-init
-loop-d-init c = record { within = omega arith; added = none-summed _ }
+loop-d-init c = none-summed _
 
 pub add_day-r-requires : goal.add_day-r-requires
 add_day-r-requires c =
@@ -14,16 +14,14 @@ add_day-r-requires c =
     let few = c.requires.0 in
     let w = a.rate_bytes in
     let most = units-days w (length (daysIn l.d a.rates.now)) (omega (arith, days-count l.d a.rates.now)) in
-    rw l.invariant.added (summed-most w (daysIn l.d a.rates.now) 759000000 (omega (arith, most)))
+    rw l.invariant (summed-most w (daysIn l.d a.rates.now) 759000000 (omega (arith, most)))
 
 pub loop-d-preserved : goal.loop-d-preserved
 loop-d-preserved c =
-    let l = c.loop-d in record {
-      within = omega arith;
-      added = next-summed c.args.rate_bytes c.args.rates.now l.d (omega arith) l.invariant.added c.day_at-day.ensures c.add_day-r.ensures;
-    }
+    let l = c.loop-d in
+    next-summed c.args.rate_bytes c.args.rates.now l.d (omega arith) l.invariant c.day_at-day.ensures c.add_day-r.ensures
 
 pub returns : goal.returns
 returns c =
     let all : c.loop-d.d ≡ c.args.days = omega arith in
-    c.loop-d.invariant.added ∙ rw all
+    c.loop-d.invariant ∙ rw all

@@ -1,14 +1,9 @@
 -- Products and sums by digits of base 2^32, with what each digit carries to the next. Assumes nothing.
-use Prim.Native.Nat.{ℕ, ◌+◌, ◌-◌, ◌*◌, ◌/◌, ◌%◌, ◌^◌, ◌≤◌, ◌<◌}
+use Prim.Native.Nat.{ℕ, ◌+◌, ◌*◌, ◌/◌, ◌%◌, ◌^◌, ◌<◌}
 use mathlib.Core.Path.{◌≡◌, sym, ap, ◌∙◌, subst}
-use native.Mathlib.Nat.{mul-le-mul, add-zero, zero-add, div-add-mod', lt_of_le_of_lt}
+use native.Mathlib.Nat.{add-zero, zero-add, div-add-mod'}
 use native.Mathlib.Omega.{arith}
-use lib.Dec.{lit<}
 use Rattle.arith.specs.inner.Value.{value}
-
--- a product of two digits leaves room for two digits more
-pub digits_product : {d k : ℕ} → d < 2 ^ 32 → k < 2 ^ 32 → d * k ≤ (2 ^ 32 - 1) * (2 ^ 32 - 1)
-digits_product {d} {k} hd hk = mul-le-mul {n₁ = d} {m₁ = k} {n₂ = 2 ^ 32 - 1} {m₂ = 2 ^ 32 - 1} (omega arith) (omega arith)
 
 -- one digit l of w * k + v, what it carries, h, and what is above it, r
 one-digit : (d k e c l h w v r : ℕ)
@@ -69,25 +64,8 @@ digits-move d0 d1 d2 d3 d4 d5 h =
 split : (x k : ℕ) → x * (k % 2 ^ 32) + 2 ^ 32 * (x * (k / 2 ^ 32)) ≡ x * k
 split x k = omega (arith, ap (λ (n : ℕ). x * n) (div-add-mod' k (2 ^ 32)))
 
--- x * k as it is computed: z is the 0 that is added first, r the product by the upper digit of k, s that product moved up
-pub upper-product-fits : (x k z t : ℕ) → z ≡ 0 → x * k < t → x * (k / 2 ^ 32) + z < t
-upper-product-fits x k z t e h = omega (arith, split x k)
-
 pub upper-product-moves : (x k z r t : ℕ) → z ≡ 0 → r ≡ x * (k / 2 ^ 32) + z → x * k < 2 ^ 32 * t → r < t
 upper-product-moves x k z r t ez er h = above (x * (k % 2 ^ 32)) r t (omega (arith, split x k))
 
 pub both-digits : (x k z r s : ℕ) → z ≡ 0 → r ≡ x * (k / 2 ^ 32) + z → s ≡ 2 ^ 32 * r → x * (k % 2 ^ 32) + s ≡ x * k
 both-digits x k z r s ez er es = omega (arith, split x k)
-
--- x * y * z as it is computed: v is x, and t is v * y
-two-words : (v x y : ℕ) → v ≡ x → x < 2 ^ 64 → y < 2 ^ 64 → v * y ≤ (2 ^ 64 - 1) * (2 ^ 64 - 1)
-two-words v x y e hx hy = mul-le-mul {n₁ = v} {m₁ = y} {n₂ = 2 ^ 64 - 1} {m₂ = 2 ^ 64 - 1} (omega arith) (omega arith)
-
-pub two-words-fit : (v x y : ℕ) → v ≡ x → x < 2 ^ 64 → y < 2 ^ 64 → v * y < 2 ^ 192
-two-words-fit v x y e hx hy = lt_of_le_of_lt (two-words v x y e hx hy) (lit< tt)
-
-pub three-words-fit : (v t x y z : ℕ) → v ≡ x → t ≡ v * y → x < 2 ^ 64 → y < 2 ^ 64 → z < 2 ^ 64 → t * z < 2 ^ 192
-three-words-fit v t x y z e f hx hy hz =
-    lt_of_le_of_lt
-    (mul-le-mul {n₁ = t} {m₁ = z} {n₂ = (2 ^ 64 - 1) * (2 ^ 64 - 1)} {m₂ = 2 ^ 64 - 1} (rw f (two-words v x y e hx hy)) (omega arith))
-    (lit< tt)

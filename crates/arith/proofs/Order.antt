@@ -1,10 +1,8 @@
 -- The order of two numbers by their words of 64 bits: the highest in which they differ says it. Assumes nothing.
 use Prim.Native.Nat.{ℕ, ◌+◌, ◌*◌, ◌^◌, ◌≤◌, ◌<◌}
 use mathlib.Core.Path.{◌≡◌, sym, ap, ◌∙◌}
-use mathlib.Core.Bool.{true, false}
-use lib.Dec.{leb}
-use borrow.Author.Tests.{le-leb, lt-leb}
-use native.Mathlib.Nat.{le_of_lt}
+use lib.Dec.{leb, ltb}
+use Rattle.std.proofs.lemmas.Bool.Decides.{nat_tests}
 use native.Mathlib.Omega.{arith}
 use Rattle.arith.specs.inner.Value.{value}
 
@@ -52,22 +50,13 @@ module _ {x x0 x1 x2 y y0 y1 y2 : ℕ} (p : Words x x0 x1 x2) (q : Words y y0 y1
   le-0 : x2 ≡ y2 → x1 ≡ y1 → x0 ≤ y0 → x ≤ y
   le-0 e f h = rw (p.is, q.is, e, f) (plus-le x0 y0 _ h)
 
--- what each branch of `digits::at_most` answers
+-- what each branch of `digits::at_most` answers: the test of the highest words that differ is that of the numbers
 module _ {x x0 x1 x2 y y0 y1 y2 : ℕ} (p : Words x x0 x1 x2) (q : Words y y0 y1 y2) where
-  pub less-2 : x2 < y2 → true ≡ leb x y
-  less-2 h = sym (le-leb x y (le_of_lt (lt-2 p q h)))
+  pub by-2 : (x2 ≡ y2 → ⊥) → ltb x2 y2 ≡ leb x y
+  by-2 h = grind (arith, nat_tests, lt-2 p q, lt-2 q p)
 
-  pub more-2 : y2 < x2 → false ≡ leb x y
-  more-2 h = sym (lt-leb x y (lt-2 q p h))
+  pub by-1 : x2 ≡ y2 → (x1 ≡ y1 → ⊥) → ltb x1 y1 ≡ leb x y
+  by-1 e h = grind (arith, nat_tests, lt-1 p q e, lt-1 q p (sym e))
 
-  pub less-1 : x2 ≡ y2 → x1 < y1 → true ≡ leb x y
-  less-1 e h = sym (le-leb x y (le_of_lt (lt-1 p q e h)))
-
-  pub more-1 : x2 ≡ y2 → y1 < x1 → false ≡ leb x y
-  more-1 e h = sym (lt-leb x y (lt-1 q p (sym e) h))
-
-  pub less-0 : x2 ≡ y2 → x1 ≡ y1 → x0 ≤ y0 → true ≡ leb x y
-  less-0 e f h = sym (le-leb x y (le-0 p q e f h))
-
-  pub more-0 : x2 ≡ y2 → x1 ≡ y1 → y0 < x0 → false ≡ leb x y
-  more-0 e f h = sym (lt-leb x y (lt-0 q p (sym e) (sym f) h))
+  pub by-0 : x2 ≡ y2 → x1 ≡ y1 → leb x0 y0 ≡ leb x y
+  by-0 e f = grind (arith, nat_tests, le-0 p q e f, lt-0 q p (sym e) (sym f))

@@ -129,17 +129,11 @@ pub fn at_most(x: Wide, y: Wide) -> bool
     let y1 = word(y.d2, y.d3);
     let x0 = word(x.d0, x.d1);
     let y0 = word(y.d0, y.d1);
-    if x2 < y2 {
-        return true;
+    if x2 != y2 {
+        return x2 < y2;
     }
-    if y2 < x2 {
-        return false;
+    if x1 != y1 {
+        return x1 < y1;
     }
-    if x1 < y1 {
-        return true;
-    }
-    if y1 < x1 {
-        return false;
-    }
-    if x0 <= y0 { true } else { false }
+    x0 <= y0
 }

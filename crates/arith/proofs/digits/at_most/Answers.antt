@@ -2,7 +2,7 @@
 use Rattle.std.proofs.Common.{arith, ◌≡◌, ◌+◌, ◌*◌, ◌^◌, ◌<◌, ℕ}
 use Rattle.arith.specs.inner.Value.{val}
 use Rattle.arith.specs.declared.digits.Wide.{Wide}
-use Rattle.arith.proofs.Order.{Words, in_words, less-2, more-2, less-1, more-1, less-0, more-0}
+use Rattle.arith.proofs.Order.{Words, in_words, by-2, by-1, by-0}
 use Rattle.arith.proofs.digits.at_most.Goals as goal
 
 -- the words of a number
@@ -13,25 +13,13 @@ unfolding val
 words w w2 w1 w0 e0 e1 e2 h0 h1 = record { is = in_words _ _ _ _ _ _ _ _ _ e0 e1 e2; fits0 = h0; fits1 = h1 }
 
 pub returns-then-x2-y2 : goal.returns-then-x2-y2
-returns-then-x2-y2 c = less-2 (words _ _ _ _ c.word-x0.ensures c.word-x1.ensures c.word-x2.ensures (omega arith) (omega arith))
+returns-then-x2-y2 c = by-2 (words _ _ _ _ c.word-x0.ensures c.word-x1.ensures c.word-x2.ensures (omega arith) (omega arith))
     (words _ _ _ _ c.word-y0.ensures c.word-y1.ensures c.word-y2.ensures (omega arith) (omega arith)) c.if-x2-y2.true
 
-pub returns-then-y2-x2 : goal.returns-then-y2-x2
-returns-then-y2-x2 c = more-2 (words _ _ _ _ c.word-x0.ensures c.word-x1.ensures c.word-x2.ensures (omega arith) (omega arith))
-    (words _ _ _ _ c.word-y0.ensures c.word-y1.ensures c.word-y2.ensures (omega arith) (omega arith)) c.if-y2-x2.true
-
 pub returns-then-x1-y1 : goal.returns-then-x1-y1
-returns-then-x1-y1 c = less-1 (words _ _ _ _ c.word-x0.ensures c.word-x1.ensures c.word-x2.ensures (omega arith) (omega arith))
-    (words _ _ _ _ c.word-y0.ensures c.word-y1.ensures c.word-y2.ensures (omega arith) (omega arith)) (omega arith) c.if-x1-y1.true
+returns-then-x1-y1 c = by-1 (words _ _ _ _ c.word-x0.ensures c.word-x1.ensures c.word-x2.ensures (omega arith) (omega arith))
+    (words _ _ _ _ c.word-y0.ensures c.word-y1.ensures c.word-y2.ensures (omega arith) (omega arith)) c.if-x2-y2.false c.if-x1-y1.true
 
-pub returns-then-y1-x1 : goal.returns-then-y1-x1
-returns-then-y1-x1 c = more-1 (words _ _ _ _ c.word-x0.ensures c.word-x1.ensures c.word-x2.ensures (omega arith) (omega arith))
-    (words _ _ _ _ c.word-y0.ensures c.word-y1.ensures c.word-y2.ensures (omega arith) (omega arith)) (omega arith) c.if-y1-x1.true
-
-pub returns-then-x0-y0 : goal.returns-then-x0-y0
-returns-then-x0-y0 c = less-0 (words _ _ _ _ c.word-x0.ensures c.word-x1.ensures c.word-x2.ensures (omega arith) (omega arith))
-    (words _ _ _ _ c.word-y0.ensures c.word-y1.ensures c.word-y2.ensures (omega arith) (omega arith)) (omega arith) (omega arith) c.if-x0-y0.true
-
-pub returns-else-x0-y0 : goal.returns-else-x0-y0
-returns-else-x0-y0 c = more-0 (words _ _ _ _ c.word-x0.ensures c.word-x1.ensures c.word-x2.ensures (omega arith) (omega arith))
-    (words _ _ _ _ c.word-y0.ensures c.word-y1.ensures c.word-y2.ensures (omega arith) (omega arith)) (omega arith) (omega arith) c.if-x0-y0.false
+pub returns : goal.returns
+returns c = by-0 (words _ _ _ _ c.word-x0.ensures c.word-x1.ensures c.word-x2.ensures (omega arith) (omega arith))
+    (words _ _ _ _ c.word-y0.ensures c.word-y1.ensures c.word-y2.ensures (omega arith) (omega arith)) c.if-x2-y2.false c.if-x1-y1.false

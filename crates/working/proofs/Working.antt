@@ -21,8 +21,7 @@ use Rattle.theory.proofs.general.Entries.{length-byTerm, entry-is, entry_in}
 use Rattle.theory.proofs.curve.Unadjusted.{unadjusted-most}
 use Rattle.theory.proofs.money.MoneySizes.{factor-most}
 use Rattle.theory.proofs.money.Worth.{same-worth}
-use Rattle.growths.specs.declared.shift.CurveSums.{CurveSums}
-use Rattle.growths.specs.inner.Shifted.{curveOf, shiftedSum, shiftedSums, movedSums, curveHeld}
+use Rattle.growths.specs.inner.Shifted.{shiftedSum, shiftedSums, movedSums, curveHeld}
 use Rattle.growths.specs.inner.Ranges.{ShiftWithin, FactorsWithin}
 use Rattle.growths.proofs.Curves.{N-of, P-of}
 use Rattle.search.specs.inner.Ranges.{RatesWithin}
@@ -35,7 +34,7 @@ use Rattle.worth.specs.declared.Worths.{Worths}
 use Rattle.worth.specs.declared.Curves.{Curves}
 use Rattle.working.specs.inner.Ranges.{CaseFits, SumsFit}
 use Rattle.working.specs.declared.Sums.{Sums}
-use Rattle.working.specs.inner.Working.{sumsOn, factorsBy, factorsOn, curvesBy, lastUnadjusted, bondFactorsBy, bondCurvesBy, ratesOn, owed, bonds, moneyOn, moneyOf}
+use Rattle.working.specs.inner.Working.{sumsOn, factorsOn, curvesBy, lastUnadjusted, bondFactorsBy, bondCurvesBy, ratesOn, owed, bonds, moneyOn, moneyOf}
 
 -- ---- the curves
 -- the base curve's sums are the case's own
@@ -64,12 +63,6 @@ module _ {c : Case} (h : CaseFits c) where
 
 sums-within : {c : Case} (m : Move) → CaseFits c → FactorsWithin (movedSums m c)
 sums-within {c} m h = record { within = h.curves m; most = omega (arith, N-of (movedSums m c), N-held c m, h.perStep) }
-
--- what `unadjusted_factors` gives, by the adjusted factors that it is handed
-pub bond-factors-are : (s : CurveSums) (count : ℕ) (r adjusted : List ℕ) → adjusted ≡ factorsBy s
-    → r ≡ byTerm (Rounded.unadjusted (curveOf s)) (lastUnadjusted count) ++ drop (2 * lastUnadjusted count) adjusted → r ≡ bondFactorsBy count s
-bond-factors-are s count r adjusted e f =
-    f ∙ ap (λ (x : List ℕ). byTerm (Rounded.unadjusted (curveOf s)) (lastUnadjusted count) ++ drop (2 * lastUnadjusted count) x) e
 
 -- ---- the entries of three curves: those of f, at the terms to `last`
 abbrev EntriesOf : (Move → End → ℕ → ℕ) → ℕ → Curves → Type 0

@@ -14,7 +14,7 @@ use bondcurve::unadjusted_factors;
 use curve::factors;
 use growths::shift::{CurveSums, shifted_curve};
 use heldcase::Case;
-use lent::{fill_factors, fill_rates};
+use lent::fill;
 use model::figures::Valuation;
 use solvency::figures::{Money, money_by};
 use worth::{Curves, worths_of};
@@ -54,12 +54,9 @@ pub fn bond_curves_of(s: Sums, c: Curves, count: usize) -> Curves
     requires { SumsFit s × (c ≡ curvesBy s) × (count ≤ 60) }
     ensures { result ≡ bondCurvesBy s count }
 {
-    let on_base = c.base;
-    let base = unadjusted_factors(s.base, on_base, count);
-    let on_up = c.up;
-    let up = unadjusted_factors(s.up, on_up, count);
-    let on_down = c.down;
-    let down = unadjusted_factors(s.down, on_down, count);
+    let base = unadjusted_factors(s.base, c.base, count);
+    let up = unadjusted_factors(s.up, c.up, count);
+    let down = unadjusted_factors(s.down, c.down, count);
     Curves { base, up, down }
 }
 
@@ -96,11 +93,9 @@ pub fn value_case(case: Case, factors: &mut [u64], rates: &mut [i64]) -> Valuati
     let curves = curves_of(sums);
     let base = curves.base;
     let steps = zero_rates(base);
-    fill_factors(base, factors);
-    fill_rates(steps, rates);
+    fill(base, factors);
+    fill(steps, rates);
     let bond_curves = bond_curves_of(sums, curves, case.bond_count);
     let money = money_on(case, curves, bond_curves);
-    let figures = money.figures;
-    let verdict = money.verdict;
-    Valuation::Valued(figures, verdict)
+    Valuation::Valued(money.figures, money.verdict)
 }

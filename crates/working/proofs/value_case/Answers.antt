@@ -25,5 +25,5 @@ returns c =
     let all =
     valued c.requires.0 _ c.sums_of-sums.ensures _ c.curves_of-curves.ensures _ c.bond_curves_of-bond_curves.ensures _
     c.money_on-money.ensures _ _ c.args.factors.now _ _ c.args.rates.now refl c.zero_rates-steps.ensures
-    c.fill_factors.ensures c.fill_rates.ensures in
+    c.fill.ensures c.fill-2.ensures in
     record { value = all.0; factors = all.1.0; rates = all.1.1 }

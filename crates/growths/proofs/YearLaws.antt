@@ -2,9 +2,9 @@
 use Prim.Native.Nat.{ℕ, zero, suc, ◌+◌, ◌*◌, ◌-◌, ◌^◌, ◌≤◌, ◌<◌}
 use mathlib.Core.Path.{◌≡◌, refl, ◌∙◌}
 use native.Mathlib.Omega.{arith}
-use native.Mathlib.Nat.{mul-le-mul, mul-le-mul_left, mul-le-mul_right, le_of_mul-le-mul_right, lt_of_le_of_lt}
+use native.Mathlib.Nat.{mul-le-mul, mul-le-mul_left, mul-le-mul_right, le_of_mul-le-mul_right}
 use lib.Dec.{lit<}
-use Rattle.arith.specs.inner.Range.{Small, InRange}
+use Rattle.arith.specs.inner.Range.{Small}
 use Rattle.arith.specs.Rounding.{End, low, high, divide}
 use Rattle.arith.proofs.Rounding.{divide-floor, divide-ceiling, divide-le, le-divide}
 use Rattle.model.specs.Constants.{unit}
@@ -35,20 +35,11 @@ last-year-within x n p q j w k =
     let y = w.years in
     times-within x (λ e. scaled e p q j) p n k w.some w.most w.ratio (scaled-ends p q j y.some) (y.years j (omega arith))
 
--- the products of both ways: where a is below 2^23 and x below 2^41, and where they are within 2^42
+-- the product of the short way, where a is below 2^23 and x below 2^41
 pub short-way : (x a b : ℕ) → 0 < b → b ≤ 2 ^ 40 → a < 2 ^ 23 → x < 2 ^ 41 → Small x a b
 short-way x a b some most ha hx = record {
   some = some;
   fits = omega (arith, mul-le-mul {n₁ = x} {m₁ = a} {n₂ = 2 ^ 41 - 1} {m₂ = 2 ^ 23 - 1} (omega arith) (omega arith));
-}
-
-pub long-way : (x a b : ℕ) → 0 < b → b ≤ 2 ^ 40 → a ≤ 2 * b → x < 2 ^ 42 → InRange x a b
-long-way x a b some most ratio hx = record {
-  left = hx;
-  right = omega arith;
-  some = some;
-  most = omega arith;
-  fits = omega (arith, mul-le-mul {n₁ = x} {m₁ = a} {n₂ = 2 ^ 42 - 1} {m₂ = 2 * b} (omega arith) ratio);
 }
 
 -- a bracket taken once × a ÷ b, by what it was
@@ -105,10 +96,6 @@ short-at : (a b j i : ℕ) → 0 < b → j ≤ 60 → 2 * j * a ≤ (2 * j + 1) 
 short-at a b zero zero some few short h = rw (scaled-none high a b) (lit< tt)
 short-at a b zero (suc i) some few short h = absurd (let z : ⊥ = omega arith in z)
 short-at a b (suc j) i some few short h = all_short a b (suc j) some (omega arith) few short i h
-
--- the products of that test fit
-pub twice-fits : (j x : ℕ) → j ≤ 60 → x ≤ 2 ^ 40 → (2 * j + 1) * x < 2 ^ 64
-twice-fits j x h k = lt_of_le_of_lt (mul-le-mul {n₁ = 2 * j + 1} {m₁ = x} {n₂ = 121} {m₂ = 2 ^ 40} (omega arith) k) (lit< tt)
 
 -- what a bracket taken once has at each end
 pub lower-end : (r : Bracket) (x y a b : ℕ) → r ≡ bracket (λ e. divide e (end_of (record { lower = x; upper = y }) e * a) b) → r.lower ≡ divide low (x * a) b

@@ -23,11 +23,8 @@ pub fn shifted_curve(case: Case, more: u64, less: u64) -> CurveSums
     let added = per_step * more;
     let taken = per_step * less;
     let mut sums = [n; 61];
-    let mut t: usize = 1;
-    while t <= Case::LAST_MARKET_TERM {
-        let sum = case.sums[t - 1];
-        sums[t] = sum + added - taken;
-        t += 1;
+    for t in 1..=Case::LAST_MARKET_TERM {
+        sums[t] = case.sums[t - 1] + added - taken;
     }
     CurveSums {
         n,

@@ -13,12 +13,10 @@ pub fn times_both(x: Bracket, a: u64, b: u64) -> Bracket
     requires { TimesWithin x a b }
     ensures { result ≡ bracket (λ e. divide e (end_of x e * a) b) }
 {
-    if a < 0x80_0000 {
-        if x.upper < 0x200_0000_0000 {
-            let lower = times_floor(x.lower, a, b);
-            let upper = times_ceil(x.upper, a, b);
-            return Bracket { lower, upper };
-        }
+    if a < 0x80_0000 && x.upper < 0x200_0000_0000 {
+        let lower = times_floor(x.lower, a, b);
+        let upper = times_ceil(x.upper, a, b);
+        return Bracket { lower, upper };
     }
     let lower = mul_div_floor(x.lower, a, b);
     let upper = mul_div_ceil(x.upper, a, b);

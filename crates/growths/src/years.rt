@@ -52,12 +52,10 @@ pub fn over_years(a: u64, b: u64, j: usize) -> Bracket
     let mut lower = Case::UNIT;
     let mut upper = Case::UNIT;
     let twice = 2 * j as u64;
-    if a < 0x80_0000 {
-        if twice * a <= (twice + 1) * b {
-            take_short_years(&mut lower, &mut upper, a, b, j);
-            return Bracket { lower, upper };
-        }
+    if a < 0x80_0000 && twice * a <= (twice + 1) * b {
+        take_short_years(&mut lower, &mut upper, a, b, j);
+    } else {
+        take_years(&mut lower, &mut upper, a, b, j);
     }
-    take_years(&mut lower, &mut upper, a, b, j);
     Bracket { lower, upper }
 }

@@ -3,13 +3,11 @@ use Prim.Native.Nat.{ℕ, zero, suc, ◌+◌, ◌*◌, ◌-◌, ◌≤◌}
 use mathlib.Core.Path.{◌≡◌}
 use mathlib.Core.List.{List}
 use native.Mathlib.Omega.{arith}
-use native.Mathlib.Nat.{mul-le-mul_left}
 use lib.ListN.{get_or}
 use Rattle.model.specs.Constants.{stepsPerOne}
 use Rattle.model.specs.Numbers.{table}
 use Rattle.heldcase.specs.declared.Case.{Case}
 use Rattle.growths.specs.inner.Shifted.{shiftedSum, shiftedSums}
-use Rattle.growths.specs.inner.Ranges.{ShiftWithin}
 
 module _ (more less : ℕ) (k : Case) where
   pub sum-at : (t : ℕ) → 1 ≤ t → (get_or k.sums (t - 1) 0 + k.per_step * more) - k.per_step * less ≡ shiftedSum more less k t
@@ -20,10 +18,3 @@ module _ (more less : ℕ) (k : Case) where
   pub all-sums : (l : List ℕ) → l ≡ table (shiftedSum more less k) 61 → record { n = stepsPerOne * k.per_step; sums = l; ufr = k.ufr } ≡ shiftedSums more less k
   unfolding shiftedSums
   all-sums l e = rw e
-
-  module _ (w : ShiftWithin k more less) where
-    pub added-most : k.per_step * more ≤ 1000 * k.per_step
-    added-most = omega (arith, mul-le-mul_left k.per_step w.moreMost)
-
-    pub taken-most : k.per_step * less ≤ 1000 * k.per_step
-    taken-most = omega (arith, mul-le-mul_left k.per_step w.lessMost)

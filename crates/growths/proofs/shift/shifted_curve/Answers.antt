@@ -9,15 +9,13 @@ use Rattle.growths.proofs.shift.shifted_curve.Goals as goal
 
 pub loop-t-init : goal.loop-t-init
 unfolding table shiftedSum
-loop-t-init c = record { from = omega arith; to = omega arith; all = refl; filled = refl }
+loop-t-init c = record { all = refl; filled = refl }
 
 pub loop-t-preserved : goal.loop-t-preserved
 loop-t-preserved c =
     let inv = c.loop-t.invariant in record {
-      from = omega arith;
-      to = omega arith;
       all = simp length-set inv.all;
-      filled = table_filled _ _ _ _ _ (omega arith) (sum-at _ _ _ _ inv.from) inv.filled;
+      filled = table_filled _ _ _ _ _ (omega arith) (sum-at _ _ _ _ (omega arith)) inv.filled;
     }
 
 pub returns : goal.returns

@@ -18,8 +18,8 @@ returns-then-twice-a c =
 pub take_years-requires : goal.take_years-requires
 take_years-requires c = start-within _ _ _ c.requires
 
-pub returns : goal.returns
-returns c =
+pub returns-else-a-lt8388608 : goal.returns-else-a-lt8388608
+returns-else-a-lt8388608 c =
     let a = c.args in
     let taken = c.take_years.ensures in
     bracket-by _ _ (λ e. scaled e a.a a.b a.j) (taken.0 ∙ all-taken low _ _ _) (taken.1 ∙ all-taken high _ _ _)

@@ -27,9 +27,7 @@ fn weighed_growth(n: u64, sums: &[u64; 61], ufr: u64, t: usize) -> Bracket
 {
     let ufr_growth = Case::UNIT + ufr * 10_000_000;
     let j = t - 1;
-    let p = sums[t];
-    let q = sums[j];
-    let unweighed = growth(n, p, q, j);
+    let unweighed = growth(n, sums[t], sums[j], j);
     let weight = weight_of(t);
     weigh(unweighed, weight, ufr_growth)
 }
@@ -51,8 +49,7 @@ fn factor_of_term(n: u64, sums: &[u64; 61], ufr: u64, before: Bracket, t: usize)
     ensures { result ≡ bracket (λ e. Rounded.factor (curveOf (sumsOf n sums.now ufr)) e t) }
 {
     if t <= Case::LAST_UNWEIGHED_TERM {
-        let p = sums[t];
-        return over_years(n, p, t);
+        return over_years(n, sums[t], t);
     }
     if Case::LAST_MARKET_TERM < t {
         return times_both(before, Case::STEPS_PER_ONE, Case::STEPS_PER_ONE + ufr);
@@ -67,18 +64,15 @@ pub fn factors(c: CurveSums) -> [u64; 240]
     requires { FactorsWithin c }
     ensures { result ≡ byTerm (Rounded.factor (curveOf c)) 120 }
 {
-    let sums = c.sums;
     let mut out = [0; 240];
     let mut f = Bracket {
         lower: Case::UNIT,
         upper: Case::UNIT,
     };
-    let mut t: usize = 0;
-    while t < Case::LAST_TERM {
-        f = factor_of_term(c.n, &sums, c.ufr, f, t + 1);
+    for t in 0..Case::LAST_TERM {
+        f = factor_of_term(c.n, &c.sums, c.ufr, f, t + 1);
         out[2 * t] = f.lower;
         out[2 * t + 1] = f.upper;
-        t += 1;
     }
     out
 }

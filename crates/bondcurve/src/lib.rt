@@ -18,13 +18,10 @@ pub fn unadjusted_factors(c: CurveSums, adjusted: [u64; 240], count: usize) -> [
     ensures { result ≡ byTerm (Rounded.unadjusted (curveOf c)) (max 20 count) ++ drop (2 * max 20 count) adjusted }
 {
     let mut out = adjusted;
-    let mut t = Case::LAST_UNWEIGHED_TERM;
-    while t < count {
-        let p = c.sums[t + 1];
-        let f = over_years(c.n, p, t + 1);
+    for t in Case::LAST_UNWEIGHED_TERM..count {
+        let f = over_years(c.n, c.sums[t + 1], t + 1);
         out[2 * t] = f.lower;
         out[2 * t + 1] = f.upper;
-        t += 1;
     }
     out
 }

@@ -11,7 +11,7 @@ use Rattle.growths.proofs.UnadjustedLaws.{unadjusted-within, unadjusted-are, fir
 use Rattle.bondcurve.proofs.unadjusted_factors.Goals as goal
 
 pub loop-t-init : goal.loop-t-init
-loop-t-init c = record { from = omega arith; to = omega arith; all = search rules; filled = first-terms _ _ c.requires.1 }
+loop-t-init c = record { to = omega arith; all = search rules; filled = first-terms _ _ c.requires.1 }
 
 pub over_years-f-requires : goal.over_years-f-requires
 over_years-f-requires c = unadjusted-within _ c.requires.0 _ (omega arith)
@@ -23,7 +23,6 @@ loop-t-preserved c =
     let r = c.over_years-f.result in
     let factor : End → ℕ = λ e. Rounded.unadjusted (curveOf c.args.c) e (t + 1) in
     let f : r ≡ bracket factor = unadjusted-are c.args.c r (t + 1) c.over_years-f.ensures in record {
-      from = omega arith;
       to = omega arith;
       all = simp length-set inv.all;
       filled = term-filled _ _ _ _ _ _ (omega arith) (end_is r factor f low) (end_is r factor f high) inv.filled;

@@ -27,9 +27,7 @@ fn rounded_result(up: bool, t: usize, i: u64) -> u64
 {
     let divisor = FIRST_DIVISOR + i;
     let mut x = Case::UNIT;
-    let mut k: usize = 0;
-    while k < t {
-        k += 1;
+    for _ in 0..t {
         if up {
             x = times_ceil(x, Case::STEPS_PER_ONE, divisor);
         } else {
@@ -47,16 +45,9 @@ pub fn result_bounds(t: usize, i: u64) -> Bracket
     let power = power_bounds(t, i);
     let lower = times_floor(power.lower, 244_140_625, 0x4_0000);
     let upper = times_ceil(power.upper, 244_140_625, 0x4_0000);
-    let most = upper + WIDEST;
-    if lower < WIDEST {
-        return Bracket {
-            lower: 0,
-            upper: most,
-        };
-    }
     Bracket {
-        lower: lower - WIDEST,
-        upper: most,
+        lower: lower.saturating_sub(WIDEST),
+        upper: upper + WIDEST,
     }
 }
 
@@ -75,7 +66,8 @@ pub fn passes(up: bool, t: usize, i: u64, factor: u64) -> bool
     }
     let result = rounded_result(up, t, i);
     if up {
-        return result <= factor;
+        result <= factor
+    } else {
+        factor <= result
     }
-    factor <= result
 }

@@ -48,9 +48,7 @@ pub fn power_bounds(t: usize, i: u64) -> Bracket
         lower: ONE,
         upper: ONE,
     };
-    let mut k = TERM_BITS;
-    while 0 < k {
-        k -= 1;
+    for k in (0..TERM_BITS).rev() {
         power = product(power, power);
         if (t >> k) % 2 == 1 {
             power = product(power, year);

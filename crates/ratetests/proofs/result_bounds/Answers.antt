@@ -10,14 +10,8 @@ times_floor-lower-requires c = lower-fits c.requires c.power_bounds-power.ensure
 pub times_ceil-upper-requires : goal.times_ceil-upper-requires
 times_ceil-upper-requires c = upper_fits c.requires c.power_bounds-power.ensures
 
-pub overflow_add-most : goal.overflow_add-most
-overflow_add-most c = omega (arith, upper-most c.requires c.power_bounds-power.ensures _ c.times_ceil-upper.ensures)
-
-pub returns-then-lower-lt-WIDEST : goal.returns-then-lower-lt-WIDEST
-returns-then-lower-lt-WIDEST c = record {
-  lower = omega arith;
-  upper = upper-bound c.requires c.power_bounds-power.ensures _ c.times_ceil-upper.ensures;
-}
+pub overflow_add-result : goal.overflow_add-result
+overflow_add-result c = omega (arith, upper-most c.requires c.power_bounds-power.ensures _ c.times_ceil-upper.ensures)
 
 pub returns : goal.returns
 returns c = record {

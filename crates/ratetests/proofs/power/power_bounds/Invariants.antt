@@ -1,10 +1,7 @@
 -- `ratetests::power::power_bounds`: before a turn the power is that of t / 2^k years.
-use Rattle.std.proofs.Common.{◌/◌, ◌^◌, ◌≤◌}
+use Rattle.std.proofs.Common.{◌/◌, ◌^◌}
 use Rattle.ratetests.specs.inner.Powers.{Encloses, powerMost}
 use Rattle.ratetests.proofs.power.power_bounds.Given as goal
 
 abbrev pub invariant-loop-k : goal.invariant-loop-k
-invariant-loop-k l = (l.k ≤ 7) × Encloses l.power (l.t / 2 ^ l.k) l.i (powerMost (l.t / 2 ^ l.k))
-
-abbrev pub decreases-loop-k : goal.decreases-loop-k
-decreases-loop-k l = l.k
+invariant-loop-k l = Encloses l.power (l.t / 2 ^ l.k) l.i (powerMost (l.t / 2 ^ l.k))

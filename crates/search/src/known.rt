@@ -32,13 +32,7 @@ pub fn guess_rate(t: usize, step: u64, before: u64, factor: u64) -> u64
     let years = t as u64;
     let growth = before * Case::STEPS_PER_ONE / factor;
     let mean = (years * (FIRST_DIVISOR + step) + growth) / (years + 1);
-    if mean < FIRST_DIVISOR {
-        return 0;
-    }
-    if FIRST_DIVISOR + LAST_GUESS < mean {
-        return LAST_GUESS;
-    }
-    mean - FIRST_DIVISOR
+    mean.saturating_sub(FIRST_DIVISOR).min(LAST_GUESS)
 }
 
 // The number of steps whose results are sure to be above both ends of the factor: the steps up to i, or none.
@@ -48,12 +42,11 @@ fn surely_above(t: usize, i: u64, factor: Bracket) -> u64
     ensures upper { AboveUntil t factor.upper result }
 {
     let bounds = result_bounds(t, i);
-    if factor.lower < bounds.lower {
-        if factor.upper < bounds.lower {
-            return i + 1;
-        }
+    if factor.lower < bounds.lower && factor.upper < bounds.lower {
+        i + 1
+    } else {
+        0
     }
-    0
 }
 
 // The first of the steps whose results are sure to be below both ends of the factor: i, or none.
@@ -63,12 +56,11 @@ fn surely_below(t: usize, i: u64, factor: Bracket) -> u64
     ensures upper { BelowFrom t factor.upper result }
 {
     let bounds = result_bounds(t, i);
-    if bounds.upper < factor.lower {
-        if bounds.upper < factor.upper {
-            return i;
-        }
+    if bounds.upper < factor.lower && bounds.upper < factor.upper {
+        i
+    } else {
+        LAST_STEP + 1
     }
-    LAST_STEP + 1
 }
 
 // What is known from step `guess` and from the second step after it, at both ends of the factor.

@@ -31,9 +31,10 @@ fn middle_step(up: bool, left: StepsLeft) -> u64
     ensures { result ≡ middle (endBy up) left }
 {
     if up {
-        return (left.first + left.last) / 2;
+        (left.first + left.last) / 2
+    } else {
+        (left.first + left.last + 1) / 2
     }
-    (left.first + left.last + 1) / 2
 }
 
 // What one test leaves. A single step is not tested.
@@ -46,27 +47,20 @@ fn halve(up: bool, t: usize, factor: u64, known: Interval, left: StepsLeft) -> S
     }
     let step = middle_step(up, left);
     let passing = test_step(up, t, step, factor, known);
-    if up {
-        if passing {
-            return StepsLeft {
-                first: left.first,
-                last: step,
-            };
-        }
-        return StepsLeft {
+    match (up, passing) {
+        (true, true) => StepsLeft { last: step, ..left },
+        (true, false) => StepsLeft {
             first: step + 1,
-            last: left.last,
-        };
-    }
-    if passing {
-        return StepsLeft {
+            ..left
+        },
+        (false, true) => StepsLeft {
             first: step,
-            last: left.last,
-        };
-    }
-    StepsLeft {
-        first: left.first,
-        last: step - 1,
+            ..left
+        },
+        (false, false) => StepsLeft {
+            last: step - 1,
+            ..left
+        },
     }
 }
 
@@ -80,10 +74,8 @@ pub fn steps_left(up: bool, t: usize, factor: u64, tests: usize, known: Interval
         first: 0,
         last: LAST_STEP,
     };
-    let mut done: usize = 0;
-    while done < tests {
+    for _ in 0..tests {
         left = halve(up, t, factor, known, left);
-        done += 1;
     }
     left
 }

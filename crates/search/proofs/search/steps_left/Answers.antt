@@ -1,16 +1,16 @@
 -- `search::search::steps_left` meets its contract. Assumes nothing.
-use Rattle.std.proofs.Common.{refl, add-one, arith}
+use Rattle.std.proofs.Common.{refl, add-one}
 use Rattle.searchmodel.specs.Bisection.{afterTests}
 use Rattle.search.proofs.Left.{left-within}
 use Rattle.search.proofs.search.steps_left.Goals as goal
 
-pub loop-done-init : goal.loop-done-init
+pub loop-init : goal.loop-init
 unfolding afterTests
-loop-done-init c = (omega arith, refl)
+loop-init c = refl
 
 pub halve-left-requires : goal.halve-left-requires
-halve-left-requires c = (c.requires.0, c.requires.1, left-within _ _ _ c.loop-done.invariant.1)
+halve-left-requires c = (c.requires.0, c.requires.1, left-within _ _ _ c.loop.invariant)
 
-pub loop-done-preserved : goal.loop-done-preserved
+pub loop-preserved : goal.loop-preserved
 unfolding afterTests
-loop-done-preserved c = (omega arith, rw (add-one c.loop-done.done, ← c.loop-done.invariant.1) c.halve-left.ensures)
+loop-preserved c = rw (add-one c.loop.counter, ← c.loop.invariant) c.halve-left.ensures

@@ -1,2 +1,0 @@
--- What the proofs of the search cite.
-mod Middle

@@ -30,8 +30,7 @@ pub fn zero_rates(factors: [u64; 240]) -> [i64; 240]
     // The upper factor and the step of the lower rate of the term before, by which the rate is guessed.
     let mut before = Case::UNIT;
     let mut step: u64 = 0;
-    let mut t: usize = 0;
-    while t < 120 {
+    for t in 0..Case::LAST_TERM {
         let factor = Bracket {
             lower: factors[2 * t],
             upper: factors[2 * t + 1],
@@ -44,7 +43,6 @@ pub fn zero_rates(factors: [u64; 240]) -> [i64; 240]
         out[2 * t] = rate_at(lower.first);
         out[2 * t + 1] = rate_at(upper.first);
         before = factor.upper;
-        t += 1;
     }
     out
 }

@@ -9,7 +9,7 @@ use Rattle.zerorates.proofs.rates.zero_rates.Goals as goal
 
 pub loop-t-init : goal.loop-t-init
 unfolding byTerm
-loop-t-init c = record { in_range = omega arith; long = refl; filled = refl; step_most = omega arith; before_most = omega arith }
+loop-t-init c = record { long = refl; filled = refl; step_most = omega arith; before_most = omega arith }
 
 pub guess_rate-guess-requires : goal.guess_rate-guess-requires
 guess_rate-guess-requires c =
@@ -26,7 +26,6 @@ loop-t-preserved c =
     let lower = c.steps_left-lower.ensures in
     let upper = c.steps_left-upper.ensures in
     record {
-      in_range = omega arith;
       long = simp length-set c.loop-t.invariant.long;
       filled = term-filled _ _ _ _ _ _ (omega arith)
           (lower-rate _ _ c.requires (omega arith) _ _ c.rate_at.ensures lower)

@@ -14,8 +14,6 @@ use Rattle.arith.specs.inner.Range.{InRange}
 use Rattle.arith.specs.Rounding.{End, low, high, divide}
 use Rattle.arith.proofs.Rounding.{divide-le}
 use Rattle.method.specs.Rounded.{worth}
-use Rattle.method.specs.Brackets.{bracket}
-use Rattle.model.specs.declared.figures.Bracket.{Bracket}
 use Rattle.worth.specs.inner.Ranges.{FactorsFit}
 
 worth-last : (e : End) (f : ℕ → ℕ) (t : ℕ) (xs : List ℕ) (x : ℕ) → worth e f t (xs ++ (x ∷ [])) ≡ worth e f t xs + divide e (x * f (t + length xs)) (10 ^ 10)
@@ -61,9 +59,3 @@ flow-range x f h k = record {
 
 pub flow-most : (e : End) (x f v : ℕ) → x ≤ 100000000 → f ≤ 34 * 10 ^ 11 → v ≡ divide e (x * f) 10000000000 → v ≤ 34 * 10 ^ 9
 flow-most e x f v h k p = rw p (divide-le e (x * f) 10000000000 (34 * 10 ^ 9) (lit< tt) (le_trans (mul-le-mul h k) (lit≤ tt)))
-
--- all counted flows
-pub worth-done : (flows factors : List ℕ) (i count lower upper : ℕ) → i ≡ count
-    → lower ≡ worth low (entry_of factors low) 1 (take i flows) → upper ≡ worth high (entry_of factors high) 1 (take i flows)
-    → ◌≡◌ {A = Bracket} (record { lower = lower; upper = upper }) (bracket (λ e. worth e (entry_of factors e) 1 (take count flows)))
-worth-done flows factors i count lower upper e p q = rw (p, q, e)

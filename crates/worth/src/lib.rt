@@ -53,15 +53,9 @@ pub fn worths_of(flows: &[u64], count: usize, c: Curves) -> Worths
     ensures value { result ≡ worths (λ m e. worth e (entry_of (entriesOn c m) e) 1 (take count flows.now)) }
     ensures bound { WorthsFit result }
 {
-    let base = c.base;
-    let on_base = worth_of(flows, count, &base);
-    let up = c.up;
-    let on_up = worth_of(flows, count, &up);
-    let down = c.down;
-    let on_down = worth_of(flows, count, &down);
     Worths {
-        base: on_base,
-        up: on_up,
-        down: on_down,
+        base: worth_of(flows, count, &c.base),
+        up: worth_of(flows, count, &c.up),
+        down: worth_of(flows, count, &c.down),
     }
 }

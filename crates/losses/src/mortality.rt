@@ -1,6 +1,5 @@
 // S6: the mortality margin.
 ghost use Rattle.std.specs.Prelude.{◌≡◌};
-ghost use Rattle.model.specs.Case.{ageGap};
 ghost use Rattle.model.specs.Limits.{PeopleWithin};
 ghost use Rattle.method.specs.Brackets.{bracket, end_of};
 ghost use Rattle.method.specs.Rounded.{mortalityLoss};
@@ -12,24 +11,13 @@ use arith::digits::product;
 use model::case::People;
 use model::figures::Bracket;
 
-// The months by which the pension age exceeds the mean age, or 0.
-fn age_gap(p: People) -> u64
-    ensures { result ≡ ageGap p }
-{
-    if p.mean_age < p.pension_age {
-        p.pension_age - p.mean_age
-    } else {
-        0
-    }
-}
-
 // S6: the liabilities times the root of TSO² + NSA², by document 01's fraction.
 pub fn s6(l: Bracket, p: People) -> Bracket
     requires { WorthFits l × PeopleWithin p }
     ensures value { result ≡ bracket (mortalityLoss (end_of l) p) }
     ensures bound { LossFits result }
 {
-    let gap = age_gap(p);
+    let gap = p.pension_age.saturating_sub(p.mean_age);
     let g = 320 + 3 * gap;
     let k = p.heads * (g * g) + 92_160_000;
     let d = 256_000_000 * p.heads;

@@ -17,10 +17,6 @@ use Rattle.worth.specs.inner.Ranges.{UpTo}
 pub up_to : (m a b : ℕ) (f : End → ℕ) → a ≡ f low → b ≡ f high → ((e : End) → f e ≤ m) → UpTo m (record { lower = a; upper = b })
 up_to m a b f p q h = record { lower = rw p (h low); upper = rw q (h high) }
 
--- a loss: an amount times thousandths
-pub loss-most : (a b : ℕ) → a ≤ 100000000000 → b ≤ 1000 → a * b ≤ 10 ^ 14
-loss-most a b h k = le_trans (mul-le-mul h k) (lit≤ tt)
-
 -- S5: 100 ÷ 10^9 is 1 ÷ 10^7
 pub credit-is : (a : Amounts) (x : Shocks) (e : End) → divide e (a.credit * (x.duration * x.spread * x.spread_rise)) 10000000 ≡ creditLoss a x e
 credit-is a x e =

@@ -8,7 +8,7 @@ pub roots-requires : goal.roots-requires
 roots-requires c =
     let p = c.requires in
     let heads = c.args.p.heads in
-    let gap = c.age_gap-gap.result in
+    let gap = c.saturating_sub-gap.result in
     let old : gap ≤ 1200 = omega arith in (
       margin-fits heads gap p.1.some p.1.most old _ _ _ p.0.lower refl c.product-least.ensures,
       margin-fits heads gap p.1.some p.1.most old _ _ _ p.0.upper refl c.product-most.ensures,
@@ -18,7 +18,7 @@ pub returns-clause-bound : goal.returns-clause-bound
 returns-clause-bound c =
     let p = c.requires in
     let heads = c.args.p.heads in
-    let gap = c.age_gap-gap.result in
+    let gap = c.saturating_sub-gap.result in
     let old : gap ≤ 1200 = omega arith in
     record {
       lower = margin-end heads gap p.1.some p.1.most old _ _ _ p.0.lower refl c.product-least.ensures low _ c.roots.ensures.lower;

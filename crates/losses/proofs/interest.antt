@@ -1,2 +1,0 @@
--- Laws of S1.
-pub mod Falls

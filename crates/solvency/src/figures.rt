@@ -53,8 +53,7 @@ pub fn figures(l: Worths, b: Worths, a: Amounts, x: Shocks, p: People) -> Figure
     let fourth = s4(a, x);
     let fifth = s5(a, x);
     let sixth = s6(owed, p);
-    let correlation = x.correlation;
-    let root = buffer(correlation, first, second, third, fourth, fifth, sixth);
+    let root = buffer(x.correlation, first, second, third, fourth, fifth, sixth);
     Figures {
         l: owed,
         b: bonds,

@@ -1,2 +1,0 @@
--- The figures, put together from their parts.
-pub mod Joined

@@ -4,7 +4,6 @@ ghost use Rattle.model.specs.Layout.{amounts, shocks, people};
 
 use crate::runs::{amounts_in_order, each_at_most, shocks_in_order};
 use model::case::{Amounts, People, Shocks};
-use numbers::runs::both;
 
 pub fn amounts_right(a: Amounts) -> bool
     ensures { result ≡ amounts.right a }
@@ -17,13 +16,11 @@ pub fn shocks_right(x: Shocks) -> bool
     ensures { result ≡ shocks.right x }
 {
     let values = shocks_in_order(x);
-    let ten = each_at_most(&values, 1_000);
-    both(ten, both(x.spread <= 10_000, x.duration <= 500))
+    each_at_most(&values, 1_000) && x.spread <= 10_000 && x.duration <= 500
 }
 
 pub fn people_right(p: People) -> bool
     ensures { result ≡ people.right p }
 {
-    let heads = both(1 <= p.heads, p.heads <= 1_000_000);
-    both(heads, both(p.pension_age <= 1_200, p.mean_age <= 1_200))
+    1 <= p.heads && p.heads <= 1_000_000 && p.pension_age <= 1_200 && p.mean_age <= 1_200
 }

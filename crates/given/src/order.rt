@@ -11,7 +11,6 @@ use crate::runs::each_at_most;
 use checks::order::first;
 use givenrates::{day_count, sum_rates};
 use model::case::CaseFields;
-use numbers::runs::both;
 use scan::rates::{forwards_within, units_per_step};
 
 // Pension or bond flows: their count, and the flows.
@@ -19,7 +18,7 @@ fn flows_check(so_far: u8, flows: &[u64], least: usize, most: usize) -> u8
     ensures { result ≡ afterAll so_far ((within least most (length flows.now), 7) ∷ (rightAll flow flows.now, 8) ∷ []) }
 {
     let count = flows.len();
-    let counted = first(so_far, both(least <= count, count <= most), 7);
+    let counted = first(so_far, least <= count && count <= most, 7);
     first(counted, each_at_most(flows, 100_000_000), 8)
 }
 
@@ -35,7 +34,7 @@ fn days_check(so_far: u8, there: bool, count: usize, right: bool) -> u8
     ensures { result ≡ afterAll so_far (cond there ((within 1 70 count, 4) ∷ (right, 5) ∷ []) []) }
 {
     if there {
-        let counted = first(so_far, both(1 <= count, count <= 70), 4);
+        let counted = first(so_far, 1 <= count && count <= 70, 4);
         first(counted, right, 5)
     } else {
         so_far
@@ -46,11 +45,7 @@ fn days_check(so_far: u8, there: bool, count: usize, right: bool) -> u8
 fn known_form(rate_bytes: u64) -> bool
     ensures { result ≡ knownForm rate_bytes }
 {
-    if rate_bytes == 2 {
-        true
-    } else {
-        rate_bytes == 4
-    }
+    rate_bytes == 2 || rate_bytes == 4
 }
 
 // The number that a case is refused with; 0 where it is within the limits.
@@ -69,8 +64,7 @@ pub fn case_check(f: CaseFields, rates: &[i32], pension: &[u64], bonds: &[u64]) 
     let shocks = first(amounts, shocks_right(f.shocks), 11);
     let people = first(shocks, people_right(f.people), 12);
     let long_days = days_check(people, f.rate_bytes == 4, count, s.within);
-    let sums = s.sums;
     let per_step = units_per_step(f.rate_bytes) * summed as u64;
-    let forwards = forwards_within(sums, per_step);
+    let forwards = forwards_within(s.sums, per_step);
     first(long_days, forwards, 6)
 }

@@ -5,7 +5,6 @@ ghost use Rattle.model.specs.Layout.{amountsInOrder, shocksInOrder};
 ghost use Rattle.savingmodel.specs.Saving.{allZero};
 
 use model::case::{Amounts, Shocks};
-use numbers::runs::both;
 
 pub fn amounts_in_order(a: Amounts) -> [u64; 8]
     ensures { result ≡ amountsInOrder a }
@@ -45,10 +44,8 @@ pub fn each_at_most(values: &[u64], most: u64) -> bool
     ensures { result ≡ rightAll (number_of 8 0 most) values.now }
 {
     let mut within = true;
-    let mut i: usize = 0;
-    while i < values.len() {
-        within = both(within, values[i] <= most);
-        i += 1;
+    for v in values {
+        within &= *v <= most;
     }
     within
 }

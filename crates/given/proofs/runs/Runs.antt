@@ -1,18 +1,14 @@
--- Tests of a run of numbers do not depend on how many bytes they have in a file; and numbers that are at most 0 are 0. Assumes nothing.
+-- Numbers that are at most 0 are 0. Assumes nothing.
 use Prim.Native.Nat.{ℕ, zero, suc}
-use mathlib.Core.Path.{◌≡◌, refl, ap, ap₂, sym, ◌∙◌}
+use mathlib.Core.Path.{◌≡◌, refl, ap₂, sym, ◌∙◌}
 use mathlib.Core.Bool.{◌&&◌}
 use mathlib.Core.List.{List, [], ◌∷◌}
 use native.Mathlib.Omega.{arith}
 use borrow.Author.Tests.{lt-leb, ne_eqb}
 use lib.Dec.{leb, eqb}
-use Rattle.model.specs.Fields.{within, number_of, rightAll}
+use Rattle.model.specs.Fields.{number_of, rightAll}
 use Rattle.savingmodel.specs.Saving.{allZero}
 use Rattle.numbers.proofs.runs.Loops.{at_most}
-
-pub any_width : (w u most : ℕ) (vs : List ℕ) → rightAll (number_of w 0 most) vs ≡ rightAll (number_of u 0 most) vs
-any_width w u most [] = refl
-any_width w u most (v ∷ vs) = ap (λ b. within 0 most v && b) (any_width w u most vs)
 
 pub zero_right : (vs : List ℕ) → rightAll (number_of 8 0 0) vs ≡ allZero vs
 zero_right [] = refl

@@ -1,11 +1,11 @@
 -- The bytes of a run: how many there are, and what storing one value more gives.
-use mathlib.Core.Path.{◌≡◌, refl, ap, ◌∙◌}
+use mathlib.Core.Path.{◌≡◌, refl, ◌∙◌}
 use mathlib.Core.List.{List, [], ◌∷◌, ◌++◌, append_assoc, append-nil}
 use Prim.Native.Nat.{ℕ, ◌+◌, ◌*◌, ◌<◌}
 use native.Mathlib.Numerals.{add-one}
 use native.Mathlib.Omega.{arith}
 use lib.ListN.{length, take, get_or, length-append}
-use lib.Seq.{take-length, take-suc}
+use lib.Seq.{take-suc}
 use Rattle.model.specs.Fields.{Fixed, number_of, bytesAll}
 use Rattle.output.specs.inner.Wrote.{Wrote}
 use Rattle.output.proofs.Stores.{then, as-text}
@@ -36,8 +36,3 @@ module _ {A : Type 0} (x : Fixed A) where
       → Wrote b at (bytesAll x (take i vs)) (x.size * i) r c → Wrote c r (x.bytes (get_or vs i d)) x.size q e
       → Wrote b at (bytesAll x (take (i + 1) vs)) (x.size * (i + 1)) q e
   one-stored vs i d h p o = as-text (front-next vs i d h) (omega arith) (then p o)
-
-  pub all-stored : {b : List ℕ} {at r : ℕ} {c : List ℕ} (vs : List A) (i : ℕ) → i ≡ length vs
-      → Wrote b at (bytesAll x (take i vs)) (x.size * i) r c → Wrote b at (bytesAll x vs) (x.size * length vs) r c
-  all-stored vs i e p =
-      as-text (ap (λ (k : ℕ). bytesAll x (take k vs)) e ∙ ap (bytesAll x) (take-length vs)) (omega (arith, ap (λ (k : ℕ). x.size * k) e)) p

@@ -27,10 +27,8 @@ pub fn put_run(buf: &mut [u8], at: usize, width: usize, values: &[u64]) -> usize
     ensures { Wrote buf.old at (bytesRun width values.now) (width * length values.now) result buf.new }
 {
     let mut next = at;
-    let mut i: usize = 0;
-    while i < values.len() {
-        next = put_bytes(buf, next, width, values[i]);
-        i += 1;
+    for v in values {
+        next = put_bytes(buf, next, width, *v);
     }
     next
 }

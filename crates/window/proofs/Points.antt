@@ -1,10 +1,9 @@
 -- What a point shows, by its number and by the sizes of its ends. Assumes nothing.
-use mathlib.Core.Path.{◌≡◌, refl}
-use mathlib.Core.Bool.{Bool, true, false, ◌&&◌, cond}
+use mathlib.Core.Path.{◌≡◌}
+use mathlib.Core.Bool.{cond}
 use mathlib.Core.List.{List}
 use Prim.Native.Nat.{ℕ, ◌*◌, ◌-◌, ◌^◌, ◌≤◌, ◌<◌}
 use native.Mathlib.Omega.{arith}
-use lib.Dec.{leb}
 use lib.ListN.{length, get_or}
 use borrow.Author.Tests.{le-leb, lt-leb}
 use Rattle.method.specs.Window.{holds, figuresInOrder, factorPoint, moneyPoint, factorBracket, windowPoint}
@@ -17,16 +16,6 @@ use Rattle.model.specs.declared.window.Point.TheVariants.{Blank}
 module _ (b : Bracket) (point : Point) where
   pub held : b.lower ≤ 2 ^ 53 → b.upper ≤ 2 ^ 53 → cond (holds b) point Blank ≡ point
   held h g = simp (le-leb b.lower (2 ^ 53) h, le-leb b.upper (2 ^ 53) g)
-
-  pub large-lower : 2 ^ 53 < b.lower → cond (holds b) point Blank ≡ Blank
-  large-lower h = simp (lt-leb b.lower (2 ^ 53) h)
-
-  pub large-upper : 2 ^ 53 < b.upper → cond (holds b) point Blank ≡ Blank
-  large-upper h = rw (lt-leb b.upper (2 ^ 53) h) (neither (leb b.lower (2 ^ 53)))
-    where
-      neither : (t : Bool) → cond (t && false) point Blank ≡ Blank
-      neither true = refl
-      neither false = refl
 
 abbrev pub noBracket : Bracket
 noBracket = record { lower = 0; upper = 0 }

@@ -25,10 +25,7 @@ pub fn doubles(b: Bracket) -> Doubles
 fn factor_point(b: Bracket) -> Point
     ensures { result ≡ factorPoint b }
 {
-    if LARGEST < b.lower {
-        return Point::Blank;
-    }
-    if LARGEST < b.upper {
+    if LARGEST < b.lower || LARGEST < b.upper {
         return Point::Blank;
     }
     let ends = doubles(b);
@@ -39,10 +36,7 @@ fn factor_point(b: Bracket) -> Point
 fn money_point(b: Bracket) -> Point
     ensures { result ≡ moneyPoint b }
 {
-    if LARGEST < b.lower {
-        return Point::Blank;
-    }
-    if LARGEST < b.upper {
+    if LARGEST < b.lower || LARGEST < b.upper {
         return Point::Blank;
     }
     let ends = doubles(b);
@@ -73,10 +67,7 @@ fn figure(i: u64, f: Figures) -> Bracket
 pub fn window_point(point: u64, factors: &[u64], figures: Figures) -> Point
     ensures { result ≡ windowPoint point factors.now figures }
 {
-    if point < 1 {
-        return Point::Blank;
-    }
-    if 130 < point {
+    if point < 1 || 130 < point {
         return Point::Blank;
     }
     if 121 <= point {

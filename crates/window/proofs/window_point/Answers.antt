@@ -1,13 +1,10 @@
 -- `window_point`: each answer by the law of the points that get there.
-use Rattle.std.proofs.Common.{sym, ◌∙◌, arith}
+use Rattle.std.proofs.Common.{sym, ◌∙◌, arith, inl, inr}
 use Rattle.window.proofs.Points.{none-shown, later-shown, short-shown, factor-shown, money-shown}
 use Rattle.window.proofs.window_point.Goals as goal
 
 pub returns-then-point-lt1 : goal.returns-then-point-lt1
-returns-then-point-lt1 c = sym (none-shown _ _ _ (omega arith))
-
-pub returns-then-point-gt130 : goal.returns-then-point-gt130
-returns-then-point-gt130 c = sym (later-shown _ _ _ (omega arith))
+returns-then-point-lt1 c = sym (elim c.then-point-lt1.either [ inl low ↦ none-shown _ _ _ low | inr past ↦ later-shown _ _ _ past.1 ])
 
 pub returns-then-point-ge121 : goal.returns-then-point-ge121
 returns-then-point-ge121 c =

@@ -58,10 +58,8 @@ fn put_rates(buf: &mut [u8], at: usize, rates: &[i32], rate_bytes: u64) -> usize
     ensures { Wrote buf.old at (bytesAll (dailyRate rate_bytes) rates.now) (rate_bytes * length rates.now) result buf.new }
 {
     let mut next = at;
-    let mut i: usize = 0;
-    while i < rates.len() {
-        next = put_rate(buf, next, rates[i], rate_bytes);
-        i += 1;
+    for rate in rates {
+        next = put_rate(buf, next, *rate, rate_bytes);
     }
     next
 }

@@ -1,17 +1,17 @@
 -- A rate within its limits is the one that its 32 bits stand for. Its two bytes are the lowest of 2^31 and the rate, its four bytes those
 -- of 2^32 and the rate, modulo 2^32.
-use mathlib.Core.Path.{◌≡◌, refl, ap, ◌∙◌}
+use mathlib.Core.Path.{◌≡◌}
 use mathlib.Core.Bool.{true}
 use mathlib.Core.List.{List}
-use Prim.Native.Nat.{ℕ, suc, ◌+◌, ◌/◌, ◌%◌, ◌≤◌}
+use Prim.Native.Nat.{ℕ, suc, ◌+◌, ◌/◌, ◌%◌}
 use native.Mathlib.Numerals.{add-one}
 use native.Mathlib.Omega.{arith}
 use borrow.Author.Tests.{leb-true, le-ltb}
 use lib.Dec.{leb}
 use lib.ListN.{set}
 use lib.IntN.{ℤ, pos, negsuc, ◌+ℤ◌}
-use mir.Syntax.{w32, w64}
-use mir.Val.{SFits, to_z, of_z}
+use mir.Syntax.{w32}
+use mir.Val.{to_z, of_z}
 use mir.ValLaws.{to_z-of_z}
 use Rattle.model.specs.Case.{knownForm}
 use Rattle.method.specs.Curve.{natural}
@@ -36,30 +36,6 @@ held-bits w known = by_form (λ v. (z : ℤ) → (dailyRate v).right z ≡ true 
 
 abbrev pub biased : ℤ → ℕ
 biased z = natural (pos 2147483648 +ℤ z)
-
-biased-sum : (z : ℤ) → SFits w32 z → (z +ℤ pos 2147483648 ≡ pos (biased z)) × (biased z ≤ 4294967295)
-biased-sum (pos n) f = (ap pos (omega arith), omega (arith, f.sfits))
-biased-sum (negsuc n) f = rw (le-ltb 2147483648 (suc n) (omega (arith, f.sfits))) (refl, omega arith)
-
--- the 32 bits of a rate, read in 64 bits
-module _ (z : ℤ) (f : SFits w32 z) where
-  pub wide_fits : SFits w64 (to_z w32 (of_z w32 z))
-  wide_fits = rw (to_z-of_z w32 z f) record { sfits = omega (arith, f.sfits) }
-
-  abbrev wide-sum : ℤ
-  wide-sum = to_z w64 (of_z w64 (to_z w32 (of_z w32 z))) +ℤ pos 2147483648
-
-  wide_is : wide-sum ≡ pos (biased z)
-  wide_is = ap (λ (y : ℤ). y +ℤ pos 2147483648) (to_z-of_z w64 (to_z w32 (of_z w32 z)) wide_fits ∙ to_z-of_z w32 z f) ∙ (biased-sum z f).0
-
-  pub biased-most : biased z ≤ 4294967295
-  biased-most = (biased-sum z f).1
-
-  pub biased-fits : SFits w64 wide-sum
-  biased-fits = rw wide_is record { sfits = omega (arith, biased-most) }
-
-  pub biased-read : to_z w64 (of_z w64 wide-sum) ≡ pos (biased z)
-  biased-read = to_z-of_z w64 wide-sum biased-fits ∙ wide_is
 
 -- ---- two bytes
 

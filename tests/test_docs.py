@@ -37,7 +37,7 @@ def tree():
     """Every file and folder of the working tree, as paths from its root; no build products."""
     found = set()
     for folder, folders, names in os.walk(ROOT):
-        folders[:] = [name for name in folders if name not in (".git", "target", "__pycache__")]
+        folders[:] = [name for name in folders if name not in (".git", "target", "out", "__pycache__")]
         for name in folders + names:
             found.add(os.path.relpath(os.path.join(folder, name), ROOT))
     return found

@@ -1,18 +1,11 @@
 // Runs of big-endian numbers of one width: whether each is within its limit, and the numbers themselves.
-ghost use Rattle.std.specs.Prelude.{◌≡◌, ◌&&◌, ◌≤◌, get_or, length};
+ghost use Rattle.std.specs.Prelude.{◌≡◌, ◌≤◌, get_or, length};
 ghost use Rattle.model.specs.Fields.{number_of, valueAll, rightAll};
 ghost use Rattle.model.specs.Numbers.{table};
 ghost use Rattle.heldcase.specs.Held.{padded};
 ghost use Rattle.numbers.specs.inner.Entries.{entry};
 
 use crate::cursor::number_at;
-
-// Whether both of two tests hold.
-pub fn both(a: bool, b: bool) -> bool
-    ensures { result ≡ (a && b) }
-{
-    a & b
-}
 
 // Whether each of `count` numbers is at most `most`. What is found is kept in a flag: a loop with one way out has one invariant.
 pub fn each_at_most(file: &[u8], at: usize, width: usize, count: usize, most: u64) -> bool

@@ -1,11 +1,10 @@
 -- Runs of stores, and the digits of a number. Assumes nothing.
 use mathlib.Core.Path.{◌≡◌, refl, sym, ap, ◌∙◌, subst}
 use mathlib.Core.List.{List, [], ◌∷◌, ◌++◌}
-use Prim.Native.Nat.{ℕ, zero, suc, ◌+◌, ◌-◌, ◌/◌, ◌%◌, ◌^◌, ◌≤◌, ◌<◌}
-use native.Mathlib.Nat.{add-zero, add-suc, suc-add, div-lt_iff_lt-mul, pow-suc}
+use Prim.Native.Nat.{ℕ, zero, suc, ◌+◌, ◌-◌, ◌/◌, ◌%◌, ◌≤◌, ◌<◌}
+use native.Mathlib.Nat.{add-zero, add-suc, suc-add}
 use native.Mathlib.Omega.{arith}
 use native.Mathlib.Numerals.{add-one}
-use lib.Dec.{lit<}
 use lib.ListN.{length, set, take, drop, get_or, length-append}
 use lib.Seq.{sets, sets-eq, take-suc, length-take-le}
 use borrow.Author.Tests.{lt-ltb, le-ltb}
@@ -64,12 +63,3 @@ last-digit {b} {at} {r} {c} (suc k) n h l p =
     let one : Wrote c r ((48 + n % 10) ∷ []) 1 (r + 1) (set c r (48 + n % 10)) = record { within = omega arith; place = refl; held = refl } in
     let e : suc k - 1 ≡ k = omega arith in
     as-text (rw e (simp (le-ltb n 10 l))) (omega arith) (then p one)
-
-pub tenth : (k n : ℕ) → 0 < k → n < 10 ^ k → n / 10 < 10 ^ (k - 1)
-tenth zero n h l = absurd (let z : ⊥ = omega arith in z)
-tenth (suc k) n h l = let e : suc k - 1 ≡ k = omega arith in rw e ((div-lt_iff_lt-mul (lit< tt)).1 (rw pow-suc at l))
-
-pub two_digits : (k n : ℕ) → n < 10 ^ k → 10 ≤ n → 1 < k
-two_digits zero n l h = absurd (let z : ⊥ = omega arith in z)
-two_digits (suc zero) n l h = absurd (let z : ⊥ = omega arith in z)
-two_digits (suc (suc k)) n l h = omega arith

@@ -21,7 +21,7 @@ PAGES = [os.path.relpath(page, ROOT) for pattern in ("README.md", "CHANGELOG.md"
          for page in sorted(glob.glob(os.path.join(ROOT, pattern)))]
 
 SUFFIXES = "md py rt antt toml case curve txt csv months c h a so edit rs json yml sh".split()
-PRODUCTS = ("target/", "hosts/target/", "bench/target/", "libhost.a/", "libginghamowl.a/")  # made by a build, never committed
+PRODUCTS = ("target/", "out/", "crates/*/out/", "hosts/target/", "bench/target/", "libhost.a/", "libginghamowl.a/")  # made by a build, never committed
 PLACEHOLDERS = ("NAME", "FILE", "DIR", "...")
 READERS_OWN = {"fund.case", "my_program.c"}  # files that a reader makes while following a page
 CRATE_FOLDERS = ("src/", "specs/", "proofs/", "must-fail/")  # a path within a crate, named without the crate

@@ -15,8 +15,8 @@ LEFT_OUT = "left out"
 
 # One token for another of the same type, by the kind of the mistake.
 EXCHANGED = {
-    "order": {"≤": "<", "<": "≤", "leb": "ltb", "ltb": "leb", "≤ℤ": "<ℤ", "<ℤ": "≤ℤ", "leZ": "ltZ", "ltZ": "leZ", "less": "atMost",
-              "atMost": "less", "eqb": "leb", "max": "min"},
+    "order": {"≤": "<", "<": "≤", "leb": "ltb", "ltb": "leb", "≤ℤ": "<ℤ", "<ℤ": "≤ℤ", "le_z": "lt_z", "lt_z": "le_z", "less": "at_most",
+              "at_most": "less", "eqb": "leb", "max": "min"},
     "end": {"low": "high", "high": "low", "lower": "upper", "upper": "lower", ".lower": ".upper", ".upper": ".lower",
             "lowerTest": "upperTest", "upperTest": "lowerTest", "e": "(other e)"},
     "curve": {"base": "up", "up": "down", "down": "up"},
@@ -29,7 +29,7 @@ EXCHANGED = {
 }
 
 # Functions that may be left out, since what they make has the type of what they take.
-UNARY = {"other", "suc", "negℤ", "not", "square"}
+UNARY = {"other", "suc", "neg_ℤ", "not", "square"}
 
 # Names of one type, in an order: each is exchanged for the one behind it, the last for the one before.
 NAMES = [
@@ -47,12 +47,8 @@ VARIABLES = {
 
 # The modules of the toolchain's names that a mutant may need and its file may lack. Other names are looked for in the definitions.
 KIT = {
-    "Prim.Native.Nat": "_≤_ _<_ _+_ _-_ _*_ _/_ _%_ min",
-    "lib.Dec": "leb ltb",
-    "lib.Signed": "_≤ℤ_ _<ℤ_ leZ ltZ",
-    "lib.IntN": "_+ℤ_ _-ℤ_",
-    "lib.ListN": "take drop",
-    "mathlib.Core.Bool": "true false _||_",
+    "Rattle.std.specs.Prelude": "◌≤◌ ◌<◌ ◌+◌ ◌-◌ ◌*◌ ◌/◌ ◌%◌ min leb ltb ◌≤ℤ◌ ◌<ℤ◌ ◌+ℤ◌ ◌-ℤ◌ take drop true false ◌||◌",
+    "Rattle.std.specs.Int.Signed": "le_z lt_z",
 }
 # The variants of the model's types that are exchanged, by the module of the type.
 VARIANTS = {"figures.Verdict": "Dekkingstekort Reservetekort VrijVermogen Onbeslist", "window.Point": "Factor Money"}
@@ -95,7 +91,8 @@ class Token:
         return self.start + len(self.text)
 
 
-ANTT = re.compile(r'--[^\n]*|"(?:\\.|[^"\\])*"|[(){};,]|[^\s(){};,"]+')
+# A projection `.field` is a token of its own; a name with its module in front, as Exact.L, is one token.
+ANTT = re.compile(r'--[^\n]*|"(?:\\.|[^"\\])*"|[(){};,]|[A-Z][^\s(){};,"]*|\.[^\s(){};,".]+|[^\s(){};,".]+|\.')
 CODE = re.compile(r'//[^\n]*|b?"(?:\\.|[^"\\])*"|[A-Za-z_]\w*|\d\w*|[<>=!+\-*/%&|]=|&&|\|\||->|=>|::|\.\.|\S')
 
 
@@ -145,11 +142,11 @@ def fields(record, tokens):
 
 
 def names_something(texts, i):
-    """Token i names what stands behind it: a field or a `let` before its `=`, or a bound variable before its colon."""
+    """Token i names what stands behind it: a field or a `let` before its `=`, or a bound variable before its colon or point."""
     after = i + 1
-    while after < len(texts) and re.fullmatch(r"[\w«»²]+", texts[after]):
+    while after < len(texts) and re.fullmatch(r"[\w²]+", texts[after]):
         after += 1
-    return texts[i + 1:i + 2] == ["="] or (i > 0 and texts[after:after + 1] == [":"])
+    return texts[i + 1:i + 2] == ["="] or (i > 0 and texts[after:after + 1] in ([":"], ["."]))
 
 
 # ---------------------------------------------------------------- what a token may become
@@ -236,7 +233,7 @@ def struct_types(text):
     structs = {}
     for name, body in re.findall(r"\bstruct (\w+) \{(.*?)\n\}", text, re.S):
         pairs = re.findall(r"^\s*pub (\w+): (.*),$", body, re.M)
-        structs[name] = {(f"«{field}»" if "_" in field else field): kind for field, kind in pairs}
+        structs[name] = dict(pairs)
     for name, body in re.findall(r"\benum (\w+) \{(.*?)\n\}", text, re.S):
         structs[name] = {"": body}
     return structs
@@ -260,7 +257,7 @@ def symbols(new):
     if not new or new.startswith((".", '"')):
         return []
     words = [w for w in re.findall(r"[^\s()]+", new) if "." not in w and not w.isdigit()]
-    return [w if re.match(r"\w", w) else f"_{w}_" for w in words]
+    return [w if re.match(r"\w", w) else f"◌{w}◌" for w in words]
 
 
 @dataclass(frozen=True)
@@ -278,7 +275,8 @@ def uses(text):
         texts = text_of(item)
         if texts[0] == "use" and "{" in texts:
             last = item[-2] if texts[-2] != "," else item[-3]
-            found.append(Use(texts[1].rstrip("."), frozenset(texts[3:]), last.end, item[-1].end))
+            names = texts.index("{")
+            found.append(Use("".join(texts[1:names]).rstrip("."), frozenset(texts[names + 1:]), last.end, item[-1].end))
     return found
 
 
@@ -290,7 +288,7 @@ def homes(root, paths):
         for name in defined(read(root, path)):
             found[name] = None if name in found else (crate, stem)
     for module, variants in VARIANTS.items():
-        found.update({name: ("model", f"declared.{module}.the-variants") for name in variants.split()})
+        found.update({name: ("model", f"declared.{module}.TheVariants") for name in variants.split()})
     return {name: home for name, home in found.items() if home}
 
 
@@ -305,15 +303,15 @@ def defined(text):
     return names
 
 
-def module_of(name, crate, known):
-    """The module that a file of a crate imports a name from, or None."""
+def module_of(name, known):
+    """The module that a name is imported from, or None."""
     for module, names in KIT.items():
         if name in names.split():
             return module
     if name not in known:
         return None
     home, module = known[name]
-    return f"Rattle·{home}·specs.specs.{module}" if home == crate else f"Rattle·{home}.specs.{module}"
+    return f"Rattle.{home}.specs.{module}"
 
 
 def with_use(text, name, module, lines):
@@ -357,7 +355,7 @@ class Definitions:
         for name in symbols(new):
             if name in bound or name in self.names or any(name in line.names for line in self.lines):
                 continue
-            module = module_of(name, self.crate, self.known_names)
+            module = module_of(name, self.known_names)
             if module is None:
                 return None
             text = with_use(text, name, module, self.lines)
@@ -462,7 +460,7 @@ def of_code(path, text, known_types):
     """The mutants of one file of code."""
     seen, made = Counter(), []
     names = set(text_of(tokens_of(CODE, text, "//")))
-    chains = [[field.strip("«»") for field in chain] for chain in chains_in(names, known_types)]
+    chains = chains_in(names, known_types)
     for name, tokens in code_bodies(text):
         texts = text_of(tokens)
         for i, token in enumerate(tokens):

@@ -32,7 +32,6 @@ import argparse
 import hashlib
 import json
 import os
-import platform
 import random
 import re
 import shutil
@@ -73,6 +72,7 @@ PROGRAMS = {"valuation", "monthsvaluation", "batch", "answers", "searches"}
 # A refusal by one of them is counted apart.
 APART = {"definitions": DEFINED, "theory": ("theory",),
          "long": ("twelvecases", "pinned", "accepted", "refusals", "rollingcases", "monthscases", "fourbytecases")}
+LIBRARIES = ("core", "std")  # of the kit, for every crate
 TIMEOUT = 180  # seconds for one stage
 
 ILL_FORMED, REFUSED, TIME, SURVIVES = "ill-formed", "refused", "time", "survives"
@@ -115,7 +115,7 @@ def naming(path, texts):
     """The crates whose own files name the module of a file: what refuses an edit of it is nearly always among them."""
     crate, folder, rest = path.split("/", 1)[1].split("/", 2)
     stem = os.path.splitext(rest)[0]
-    module = rf"Rattle·{crate}\.specs\.{stem}\b" if folder == "specs" else rf"\b{crate}::{stem}\b"
+    module = rf"Rattle\.{crate}\.specs\.{stem}\b" if folder == "specs" else rf"\b{crate}::{stem}\b"
     return {name for name, text in texts.items() if re.search(module, text)}
 
 
@@ -157,20 +157,19 @@ class Prover:
 
     def __init__(self, deps, deadline=None):
         rt = shutil.which("rt") or sys.exit("mutants: no rt on the path")
-        home = os.environ.get("RATTLE_HOME") or os.path.dirname(os.path.dirname(os.path.realpath(rt)))
+        kit = os.environ.get("RATTLE_HOME") or os.path.dirname(os.path.dirname(os.path.realpath(rt)))
         self.deps, self.deadline, self.stop = deps, deadline, threading.Event()
-        own = os.path.join(home, "on", platform.machine())
-        self.rattle = os.path.join(own, "bin", "rattle")
-        self.kit = ["--extern", f"std={own}/rlib/std.rlib", "-L", f"dependency={own}/rlib",
-                    "--antt-project", f"{home}/logic/antt-project.json", "--logic-built", f"{own}/logic-built"]
+        self.rattle = os.path.join(kit, "bin", "rattle")
+        self.kit = [*(word for name in LIBRARIES for word in ("--extern", f"{name}={kit}/rlibs/{name}.rlib")), "-L", f"dependency={kit}/rlibs",
+                    "--antt-project", f"{kit}/rattle/logic/antt-project.json", "--logic-built", f"{kit}/logic_built"]
 
     def words(self, tree, crate, incremental):
         libraries = []
         for dep in reached(crate, self.deps):
-            used = ",".join(self.deps[dep] + ["std"])
+            used = ",".join([*LIBRARIES, *self.deps[dep]])
             libraries += ["--lib", f"{dep}:{used}={tree}/crates/{dep}/src/lib.rt"]
-        return [self.rattle, "check", "--crate-name", crate, f"{tree}/crates/{crate}/src/lib.rt", *libraries, *self.kit,
-                "--incremental", incremental]
+        return [self.rattle, "check", "--crate-name", crate, f"{tree}/crates/{crate}/src/lib.rt", *libraries, *self.kit, "--jobs", "1",
+                "--links", f"{crate}=", "--incremental", incremental]
 
     def check(self, tree, crate, incremental, seconds=TIMEOUT):
         """(exit status, or None where the time was too short; what was said)."""

@@ -18,13 +18,13 @@ from mutants import ILL_FORMED, REFUSED, SURVIVES, TIME, Outcome
 PATH = "crates/model/specs/Small.antt"
 SMALL = '''\
 -- The number 7 of a comment, and 8 of a `use` line below.
-use Prim.Native.Nat.{ℕ, _≤_, _+_}
-use lib.Dec.{
-  leb,
+use Rattle.std.specs.Prelude.{ℕ, ◌≤◌, ◌+◌}
+use Rattle.std.specs.Int.Signed.{
+  le_z,
 }
-use Rattle·arith.specs.Rounding.{End, low, high}
+use Rattle.arith.specs.Rounding.{End, low, high}
 
-infix 40 _≈_
+infix 40 ◌≈◌
 pub record Held (n : ℕ) : Type 0 where
   pub first : n ≤ 120
   -- 3 in a comment
@@ -34,7 +34,7 @@ pub data Sort : Type 0 where
   one two : Sort
 
 abbrev pub sized : ℕ → ℕ
-sized n = leb n 20 + n
+sized n = le_z n 20 + n
 
 unfoldable pub chosen : End → ℕ
 chosen low = record { low = 5; high = other high }
@@ -55,7 +55,7 @@ class Made(unittest.TestCase):
     def test_exactly_these(self):
         self.assertEqual([m.key.removeprefix("model/Small:") for m in small()], [
             "Held.first:≤#1→<", "Held.first:120#1→121", "Held.first:120#1→240", "Held.second:≤#1→<", "Held.second:1#1→2",
-            "sized:leb#1→ltb", "sized:20#1→21", "sized:20#1→40", "sized:+#1→-",
+            "sized:le_z#1→lt_z", "sized:20#1→21", "sized:20#1→40", "sized:+#1→-",
             "chosen:5#1→6", "chosen:5#1→10", "chosen:other#1→left out", "chosen:high#2→low"])
 
     def test_lines_and_kinds(self):
@@ -65,15 +65,15 @@ class Made(unittest.TestCase):
 
     def test_a_name_that_is_missing_comes_into_its_use_line(self):
         texts = {m.key: m.text for m in small()}
-        self.assertIn("use Prim.Native.Nat.{ℕ, _≤_, _+_, _<_}\n", texts["model/Small:Held.first:≤#1→<"])
-        self.assertIn("  leb, ltb,\n}\n", texts["model/Small:sized:leb#1→ltb"])
+        self.assertIn("use Rattle.std.specs.Prelude.{ℕ, ◌≤◌, ◌+◌, ◌<◌}\n", texts["model/Small:Held.first:≤#1→<"])
+        self.assertIn("  le_z, lt_z,\n}\n", texts["model/Small:sized:le_z#1→lt_z"])
         self.assertEqual(texts["model/Small:chosen:high#2→low"].count("low, high}"), 1)
 
     def test_a_module_that_is_missing_gets_a_use_line(self):
         text = SMALL.replace("chosen low = record { low = 5; high = other high }", "chosen e = root e")
         self.assertIn("{End, low, high, other}", small(text)[-1].text)
-        elsewhere = text.replace("use Rattle·arith.specs.Rounding.{End, low, high}\n", "")
-        self.assertIn("\n}\nuse Rattle·arith.specs.Rounding.{other}\n", small(elsewhere)[-1].text)
+        elsewhere = text.replace("use Rattle.arith.specs.Rounding.{End, low, high}\n", "")
+        self.assertIn("\n}\nuse Rattle.arith.specs.Rounding.{other}\n", small(elsewhere)[-1].text)
 
     def test_a_name_that_nobody_has_makes_no_mutant(self):
         text = SMALL.replace("chosen low = record { low = 5; high = other high }", "chosen e = root e")
@@ -82,7 +82,7 @@ class Made(unittest.TestCase):
     def test_fields_only_of_types_that_the_file_reaches(self):
         known = {"Case": Type(frozenset({"Amounts"}), ()), "Amounts": Type(frozenset(), (("cash", "credit"),)),
                  "Curve": Type(frozenset(), (("cash", "N"),))}
-        text = "use Case.{Case}\nworth : Case → ℕ\nworth k = k .amounts .cash\n"
+        text = "use Case.{Case}\nworth : Case → ℕ\nworth k = k.amounts.cash\n"
         self.assertEqual([m.key for m in Definitions(PATH, text, known, {}).mutants()], ["model/Small:worth:.cash#1→.credit"])
 
 
@@ -130,7 +130,7 @@ class OfTheRepository(unittest.TestCase):
 CODE = '''\
 // 7 in a comment
 use a::b;
-ghost use lib.Dec.{leb};
+ghost use Rattle.std.specs.Int.Signed.{le_z};
 const MOST: u64 = 1_000;
 
 pub struct Ends {
@@ -139,8 +139,8 @@ pub struct Ends {
 }
 
 fn wide(b: Ends, x: [u64; 15]) -> bool
-    requires { ⌜ b .lower ≤ 12 ⌝ }
-    ensures named { λ r. ⌜ r ≡ leb 3 4 ⌝ }
+    requires { b.lower ≤ 12 }
+    ensures named { result ≡ le_z 3 4 }
 {
     let lower: u64 = 0;
     b.lower < b.upper
@@ -201,18 +201,18 @@ class Reported(unittest.TestCase):
         return well, said.getvalue()
 
     def test_a_survivor(self):
-        key = "model/Small:sized:leb#1→ltb"
+        key = "model/Small:sized:le_z#1→lt_z"
         outcomes = {m.key: Outcome(REFUSED, "model") for m in small()}
         self.assertEqual(self.report(outcomes)[0], True)
         well, said = self.report({**outcomes, key: Outcome(SURVIVES)})
         self.assertFalse(well)
-        self.assertIn("SURVIVES crates/model/specs/Small.antt:18 leb → ltb", said)
+        self.assertIn("SURVIVES crates/model/specs/Small.antt:18 le_z → lt_z", said)
         well, said = self.report({**outcomes, key: Outcome(SURVIVES)}, [key])
         self.assertTrue(well)
         self.assertNotIn("SURVIVES crates", said)
 
     def test_a_list_that_is_wrong_is_told(self):
-        key = "model/Small:sized:leb#1→ltb"
+        key = "model/Small:sized:le_z#1→lt_z"
         said = self.report({key: Outcome(REFUSED, "model")}, [key, "model/Small:gone:1#1→2"])[1]
         self.assertIn(f"listed as the same, and refused: {key}", said)
         self.assertIn("listed as the same, and no mutant: model/Small:gone:1#1→2", said)
@@ -273,7 +273,7 @@ class Stages(unittest.TestCase):
         self.assertEqual(mutants.stages("window", self.DEPS), ["window"])
 
     def test_those_that_name_the_file_come_first(self):
-        texts = {"theory": "use Rattle·model.specs.Windows.{a}", "window": "use Rattle·model.specs.Window.{a}", "arith": ""}
+        texts = {"theory": "use Rattle.model.specs.Windows.{a}", "window": "use Rattle.model.specs.Window.{a}", "arith": ""}
         first = mutants.naming("crates/model/specs/Window.antt", texts)
         self.assertEqual(first, {"window"})
         self.assertEqual(mutants.stages("model", self.DEPS, first), ["model", "window", "theory", "curve"])

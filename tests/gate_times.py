@@ -1,30 +1,24 @@
 """What the must-fail edits of the gate cost, by crate. Each edit is a whole check of its crate, so most of the gate's time goes to them.
 
-    python3 tests/gate_times.py LOG               reads what .ci/run printed; a row per crate, the dearest first
     python3 tests/gate_times.py --checks [TREE]   measures: checks each crate of TREE (the repository) once, one at a time
 
-LOG has wall seconds, of a machine that runs two checks at a time: only shares can be compared between machines. A crate whose share
-grows from one state of the repository to the next is the one to look at.
-
---checks has processor seconds, user and system together, of `rt check NAME`, each crate after those that it depends on. TREE should be
-a fresh clone, without target/: a crate that is already proved costs nothing. A row ends with (edits + 1) x seconds, which is about what
-the crate costs the gate.
+It prints processor seconds, user and system together, of `rt check NAME`, each crate after those that it depends on. TREE should be a
+fresh clone, without out/ in its crates: a crate that is already proved costs little. rt also begins with what a check of another
+checkout on this machine kept, so a whole measure is of a machine that has no other; the rows of such crates say so. A row ends with
+(edits + 1) x seconds, which is about what the crate costs the gate.
 
 Ends with 1 if there is nothing to show or a check fails, and with 2 after a wrong command line.
 """
 
 import glob
 import os
-import re
 import resource
 import subprocess
 import sys
 from graphlib import CycleError, TopologicalSorter
 
 ROOT = os.path.dirname(os.path.dirname(os.path.abspath(__file__)))
-USAGE = "usage: python3 tests/gate_times.py LOG | --checks [TREE]"
-EDIT = re.compile(r"rt: must-fail (\w+)/\S+: .*\b(\d+) s\)")
-CHECK = re.compile(r"rt: (\w+) proved \((\d+) s\)")
+USAGE = "usage: python3 tests/gate_times.py --checks [TREE]"
 
 
 def fail(message):
@@ -36,47 +30,6 @@ def read_text(path):
     with open(path, encoding="utf-8", errors="replace") as file:
         return file.read()
 
-
-# ---------------------------------------------------------------- what a gate printed
-
-def times(log):
-    """{crate: the seconds of each of its edits} and {crate: the seconds of its own check}, by the lines of a log."""
-    edits, checks = {}, {}
-    for line in map(str.strip, log.splitlines()):
-        if edit := EDIT.fullmatch(line):
-            edits.setdefault(edit[1], []).append(int(edit[2]))
-        elif check := CHECK.fullmatch(line):
-            checks.setdefault(check[1], int(check[2]))
-    return edits, checks
-
-
-def row(name, count, spent, total, check):
-    each = f"{spent / count:.1f}" if count else "-"
-    share = f"{100 * spent / total:.1f} %" if total else "-"
-    return f"{name:16} {count:5} {each:>10} {spent:9} {share:>8} {check:>15}"
-
-
-def table(edits, checks):
-    spent = {name: sum(edits.get(name, [])) for name in edits | checks}
-    total = sum(spent.values())
-    yield f"{'crate':16} {'edits':>5} {'s an edit':>10} {'s in all':>9} {'share':>8} {'s of its check':>15}"
-    for name in sorted(spent, key=lambda name: (-spent[name], name)):
-        yield row(name, len(edits.get(name, [])), spent[name], total, checks.get(name, "-"))
-    yield row("all", sum(map(len, edits.values())), total, total, sum(checks.values()))
-
-
-def show(log):
-    try:
-        edits, checks = times(read_text(log))
-    except OSError as problem:
-        return fail(f"cannot read {log}: {problem.strerror}")
-    if not edits:
-        return fail(f"{log} has no line of a must-fail edit")
-    print(*table(edits, checks), sep="\n")
-    return 0
-
-
-# ---------------------------------------------------------------- measured
 
 def in_order(text):
     """The crates of a crates.txt, each behind those that it depends on. The kit's libraries are only depended on."""
@@ -112,7 +65,7 @@ def measure(tree):
         spent, passed, said = run_check(tree, name)
         if not passed:
             return fail(f"the check of {name} failed:\n" + "\n".join(said.splitlines()[-20:]))
-        already = "  already proved" if f"rt: {name} proved (unchanged" in said else ""
+        already = "  over kept work" if f"rt: {name}: begins with what a check kept" in said else ""
         print(f"{name:16} edits {count:4} {spent:8.2f} s {(count + 1) * spent:10.2f} s{already}", flush=True)
         edits, seconds, gate = edits + count, seconds + spent, gate + (count + 1) * spent
     if not names:
@@ -123,8 +76,6 @@ def measure(tree):
 
 def main(words):
     named = [word for word in words if not word.startswith("-")]
-    if words == named and len(named) == 1:
-        return show(named[0])
     if words == ["--checks", *named] and len(named) <= 1:
         return measure(*named or [ROOT])
     print(USAGE, file=sys.stderr)

@@ -1,4 +1,4 @@
-"""gate_times.py on made-up logs, and on a tree of four crates whose checks are a stand-in's."""
+"""gate_times.py on a tree of four crates whose checks are a stand-in's."""
 
 import contextlib
 import io
@@ -11,28 +11,6 @@ from unittest import mock
 
 sys.path.insert(0, str(Path(__file__).resolve().parent))
 import gate_times
-
-LOG = """temporary files: /tmp
-fn arith::digits::step: proved
-rt: arith proved (10 s)
-rt: model_2 proved (11 s)
-rt: seen proved (unchanged since it was last proved)
-rt: broken NOT PROVED (exit 1, 9 s)
-rt: valuation proved (19 s)
-rt: must-fail arith/lost_carry: refused, as it must be (first at proofs/digits/times_plus/Proof.antt:33:6; 8 s)
-rt: must-fail arith/root_119: refused, as it must be (4 s)
-rt: must-fail model_2/a_b: refused, as it must be (first at proofs/Case.antt:3:12; 25 s)
-rt: must-fail model_2/c: NOT REFUSED: the crate is still proved with this edit (11 s)
-rt: must-fail model_2/d: BAD EDIT: an 'old:' text is not in src/lib.rt
-rt: must-fail rates7/e: refused, as it must be (0 s)
-rt: valuation ran as nobody, and wrote what its file 'stdout' has (3 s)
-rt: arith proved (99 s)
-5 passed, 0 failed
-"""
-ROWS = [["crate", "edits", "s", "an", "edit", "s", "in", "all", "share", "s", "of", "its", "check"],
-        ["model_2", "2", "18.0", "36", "75.0", "%", "11"], ["arith", "2", "6.0", "12", "25.0", "%", "10"],
-        ["rates7", "1", "0.0", "0", "0.0", "%", "-"], ["valuation", "0", "-", "0", "0.0", "%", "19"],
-        ["all", "5", "9.6", "48", "100.0", "%", "40"]]
 
 CRATES = """# first: the program
 program: low_1 io high libc
@@ -47,7 +25,7 @@ echo "$PWD $* $RT_JOBS" >> "$STAND_IN/calls"
 case $2 in
   high) sh -c 'turn=0; while [ $turn -lt 60000 ]; do turn=$((turn + 1)); done' ;;
   mid2) sleep 0.3 ;;
-  program) echo 'rt: high proved (unchanged since it was last proved)' ;;
+  program) echo 'rt: high: begins with what a check kept in /elsewhere/crates/high' ;;
 esac
 [ ! -e "$STAND_IN/$2" ] || { cat "$STAND_IN/$2"; exit 1; }
 """
@@ -71,31 +49,6 @@ class InAFolder(unittest.TestCase):
         path.parent.mkdir(parents=True, exist_ok=True)
         path.write_text(text)
         return path
-
-
-class Log(InAFolder):
-    def test_rows(self):
-        for text in (LOG, LOG.replace("\n", "\r\n"), LOG + "\udcff\n"):
-            (self.folder / "log").write_bytes(text.encode(errors="surrogateescape"))
-            self.assertEqual(self.call(self.folder / "log"), (0, ROWS, ""))
-
-    def test_no_seconds(self):
-        status, rows, _ = self.call(self.write("log", "rt: must-fail a/b: refused, as it must be (0 s)\n"))
-        self.assertEqual((status, rows[1:]), (0, [["a", "1", "0.0", "0", "-", "-"], ["all", "1", "0.0", "0", "-", "0"]]))
-
-    def test_nothing_to_show(self):
-        for text in ("", "rt: arith proved (10 s)\n5 passed, 0 failed\n", "note: rt: must-fail a/b: refused, as it must be (1 s)\n"):
-            status, rows, said = self.call(self.write("log", text))
-            self.assertEqual((status, rows), (1, []))
-            self.assertIn("no line of a must-fail edit", said)
-        for path in (self.folder, self.folder / "none"):
-            status, rows, said = self.call(path)
-            self.assertEqual((status, rows), (1, []))
-            self.assertIn(f"cannot read {path}", said)
-
-    def test_wrong_words(self):
-        for words in ((), ("a", "b"), ("--wrong",), ("-h",), ("a", "--checks"), ("--checks", "a", "b"), ("--checks", "--checks"), ("--check",)):
-            self.assertEqual(self.call(*words), (2, [], gate_times.USAGE + "\n"))
 
 
 class Checks(InAFolder):
@@ -130,10 +83,10 @@ class Checks(InAFolder):
         self.assertEqual((status, [row[0] for row in rows]), (1, ["low_1"]))
         self.assertEqual(said, "gate_times: the check of mid2 failed:\nrt: mid2 NOT PROVED (exit 1, 9 s)\n")
 
-    def test_already_proved(self):
-        self.write("bin/rt", "#!/bin/sh\necho 'rt: low_1 proved (unchanged since it was last proved)'\n")
+    def test_over_kept_work(self):
+        self.write("bin/rt", "#!/bin/sh\necho 'rt: low_1: begins with what a check kept in /elsewhere/crates/low_1'\n")
         _, rows, _ = self.call("--checks", self.folder / "tree")
-        self.assertEqual([row[0] for row in rows if row[-2:] == ["already", "proved"]], ["low_1"])
+        self.assertEqual([row[0] for row in rows if row[-3:] == ["over", "kept", "work"]], ["low_1"])
 
     def test_nothing_to_measure(self):
         for text in ("# none\n", "a: b\nb: a\n"):
@@ -143,6 +96,10 @@ class Checks(InAFolder):
         self.write("tree/crates.txt", CRATES)
         with mock.patch.dict(os.environ, PATH=f"{self.folder}/tree"):  # where no rt is
             self.assertEqual(self.call("--checks", self.folder / "tree")[:2], (1, []))
+
+    def test_wrong_words(self):
+        for words in ((), ("a",), ("a", "b"), ("--wrong",), ("-h",), ("a", "--checks"), ("--checks", "a", "b"), ("--checks", "--checks"), ("--check",)):
+            self.assertEqual(self.call(*words), (2, [], gate_times.USAGE + "\n"))
 
 
 if __name__ == "__main__":

@@ -22,6 +22,7 @@ sys.path.insert(0, os.path.dirname(os.path.abspath(__file__)))
 from edits import EDITS, ROOT, edited, facts, parts, place, read_text, refusing
 
 LOGS = os.path.join(ROOT, "target", "must-fail")
+PART = 7  # so many edits share a copy of the crates
 NOTE = re.compile(r"note: \S+:\d+:\d+: it is not proved that .*? \(`([^`]+)`\)")
 TOLD = re.compile(r"fn (\S+): (.*)")
 
@@ -80,9 +81,12 @@ def make_logs_of(paths):
 
 
 def make_logs(paths):
+    """The logs of all, a few edits of one crate at a time, on as many cores as there are."""
     crates = sorted({place(path)[0] for path in paths})
+    of_crates = [[path for path in paths if place(path)[0] == crate] for crate in crates]
+    parts = [of_crate[at:at + PART] for of_crate in of_crates for at in range(0, len(of_crate), PART)]
     with ThreadPoolExecutor(os.cpu_count()) as pool:
-        for wrong in pool.map(make_logs_of, [[path for path in paths if place(path)[0] == crate] for crate in crates]):
+        for wrong in pool.map(make_logs_of, parts):
             if wrong:
                 sys.exit(wrong)
 

@@ -4,7 +4,8 @@ Command line: python3 tests/edit_logs.py [--kept] [--said FILE] [NAME | NAME/EDI
 
 `rt ci` and `rt must-fail` tell only the first line of a refusal. With --said, where FILE has what one of them said, that line is enough for
 an edit of which it shows all that the comment names. Any other edit is put into a copy of the crates, and what `rt check` says there is
-kept in target/must-fail/NAME/EDIT.log; with --kept, the logs that are there are looked at as they are.
+kept in target/must-fail/NAME/EDIT.log; with --kept, the logs that are there are looked at as they are. While this runs, its copies stand in
+target/, and `rt must-fail` in the same clone takes their crates, which have no edits, for the clone's own.
 
 An edit that is refused for another reason, because a proof no longer fits it, guards nothing. Ends with 1 if a log is missing, or if a
 statement or a fact of a function that is named has no error in it.
@@ -19,7 +20,7 @@ import tempfile
 from concurrent.futures import ThreadPoolExecutor
 
 sys.path.insert(0, os.path.dirname(os.path.abspath(__file__)))
-from edits import EDITS, ROOT, edited, facts, parts, place, read_text, refusing
+from edits import EDITS, ROOT, edited, facts, functions_of, parts, place, read_text, refusing
 
 LOGS = os.path.join(ROOT, "target", "must-fail")
 PART = 7  # so many edits share a copy of the crates
@@ -140,11 +141,7 @@ def said_of(text):
 
 def function_at(source, module, line):
     """The function of a source text that a line is in, by its path within the crate."""
-    kind = function = None
-    for word, name in re.findall(r"^\s*(?:pub )?(?:extern \"C\" )?(fn|impl)(?:<[^>]*>)? (\w+)|^}", "\n".join(source.splitlines()[:line]), re.M):
-        kind = name if word == "impl" else kind if word else None
-        function = "::".join([*([kind] if kind else []), name]) if word == "fn" else function
-    return "::".join([*([] if module in ("lib", "main") else module.split("/")), function or "?"])
+    return [name for begins, name in functions_of(source, module) if begins <= line][-1]
 
 
 def as_log(path, line):

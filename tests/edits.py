@@ -58,18 +58,46 @@ def place(path):
     return crate, name
 
 
+HEAD = re.compile(r"^ *(?:pub )?(?:extern \"C\" )?fn (\w+)|^impl(?:<[^{]*?>)? (\w+)(?:<([^{]*?)>)?(?: for (\(.*\)|\w+)[^{]*)? \{|^}", re.M)
+
+
+def kind_of(trait, arguments, kind):
+    """The name of an impl of a trait, as the prover says it: the type, the trait and the trait's arguments. That of pairs begins with Tuple2."""
+    if kind.startswith("("):
+        kind = f"Tuple{kind.count(',') + 1}"
+    return kind + trait + "".join(word[0].upper() + word[1:] for word in re.findall(r"\w+", arguments or ""))
+
+
+def home_of(kind, source, module):
+    """The module of an inherent impl: that of its type, which may be another one of the crate."""
+    used = re.search(rf"^use (?:crate|super)::(\w+(?:::\w+)*)::(?:{kind}|\{{[^}}]*\b{kind}\b[^}}]*\}});", source, re.M)
+    return used[1].split("::") if used else module
+
+
+def functions_of(source, module):
+    """The functions of a source text, each by the line where it or its first attribute begins, and its path within the crate."""
+    module = [] if module in ("lib", "main") else module.split("/")
+    path, lines = module, source.splitlines()
+    for head in HEAD.finditer(source):
+        name, first, arguments, second = head.groups()
+        if name is not None:
+            begins = source.count("\n", 0, head.start(1)) + 1
+            while begins > 1 and lines[begins - 2].lstrip().startswith("#["):
+                begins -= 1
+            yield begins, "::".join([*path, name])
+        elif first is None:
+            path = module
+        elif second is None:
+            path = [*home_of(first, source, module), first]
+        else:
+            path = [*module, kind_of(first, arguments, second)]
+
+
 def functions(crate):
     """The functions of a crate, each by its path within the crate."""
-    found = set()
-    for path in glob.glob(os.path.join(ROOT, "crates", crate, "src", "**", "*.rt"), recursive=True):
-        module = os.path.relpath(path, os.path.join(ROOT, "crates", crate, "src")).removesuffix(".rt").split(os.sep)
-        module = [] if module in (["lib"], ["main"]) else module
-        kind = None
-        for word, name in re.findall(r"^\s*(?:pub )?(?:extern \"C\" )?(fn|impl) (\w+)|^}", read_text(path), re.M):
-            kind = name if word == "impl" else kind if word else None
-            if word == "fn":
-                found.add("::".join([*module, *([kind] if kind else []), name]))
-    return found
+    folder = os.path.join(ROOT, "crates", crate, "src")
+    return {name for path in glob.glob(os.path.join(folder, "**", "*.rt"), recursive=True)
+            for _, name in functions_of(read_text(path), os.path.relpath(path, folder).removesuffix(".rt"))}
 
 
 def statements(crate):

@@ -73,7 +73,7 @@ class Mutant:
 
 
 def where(path):
-    """crates/method/specs/Exact.antt as model/Exact; crates/growths/src/shift.rt as growths/src/shift."""
+    """crates/method/specs/Exact.antt as model/Exact; crates/curves/src/sums.rt as curves/src/sums."""
     crate, folder, rest = path.split("/", 1)[1].split("/", 2)
     rest = os.path.splitext(rest)[0]
     return f"{crate}/{rest}" if folder == "specs" else f"{crate}/{folder}/{rest}"

@@ -52,9 +52,11 @@ from mutant_edits import where
 ROOT = os.path.dirname(os.path.dirname(os.path.abspath(__file__)))
 SAME = os.path.join(ROOT, "tests", "mutants_same.txt")
 
-# The files of definitions that a reader must believe, by crate. Part of `host` is not here: no token of its one definition has a wrong edit.
+# The files of definitions that a reader must believe, by crate. Part of `ratesplace` is not here: no token of its one
+# definition has a wrong edit.
 DEFINITIONS = {
-    "arith": "Rounding Root",
+    "arith": "Rounding Root Brackets",
+    "refusal": "Numbered",
     "model": "Constants Numbers Case Limits Fields Layout Refusals",
     "method": "Fraction Brackets Curve Exact Rounded Margins Demand3 Buffers Window Listing FourBytes",
     "heldcase": "Held",
@@ -62,7 +64,7 @@ DEFINITIONS = {
     "rollingmodel": "Rolling",
     "searchmodel": "Bisection",
     "monthsmodel": "Months",
-    "casefile": "Answers",
+    "reader": "Answers",
     "window": "Holds Shown",
     "engine": "Guarantee",
     "flat": "Flat",
@@ -72,7 +74,7 @@ PROGRAMS = {"valuation", "monthsvaluation", "batch", "answers", "searches"}
 # A refusal by one of them is counted apart.
 APART = {"definitions": DEFINED, "theory": ("theory",),
          "long": ("twelvecases", "pinned", "accepted", "refusals", "rollingcases", "monthscases", "fourbytecases")}
-LIBRARIES = ("core", "std")  # of the kit, for every crate
+LIBRARIES = ("core", "std")  # of the kit, for every crate; crates.txt names others
 TIMEOUT = 180  # seconds for one stage
 
 ILL_FORMED, REFUSED, TIME, SURVIVES = "ill-formed", "refused", "time", "survives"
@@ -104,11 +106,17 @@ def crates(root):
 
 
 def reached(crate, deps):
-    """What a crate depends on, directly or not, each behind what it depends on itself."""
+    """What a crate depends on, directly or not, each behind what it depends on itself. The kit's libraries are left out."""
     found = []
     for dep in deps[crate]:
-        found += [d for d in reached(dep, deps) + [dep] if d not in found]
+        if dep in deps:
+            found += [d for d in reached(dep, deps) + [dep] if d not in found]
     return found
+
+
+def of_kit(crate, deps):
+    """The kit's libraries that a crate and what it depends on name, behind those of every crate."""
+    return [*LIBRARIES, *sorted({dep for name in [crate, *reached(crate, deps)] for dep in deps[name] if dep not in deps})]
 
 
 def naming(path, texts):
@@ -159,16 +167,16 @@ class Prover:
         rt = shutil.which("rt") or sys.exit("mutants: no rt on the path")
         kit = os.environ.get("RATTLE_HOME") or os.path.dirname(os.path.dirname(os.path.realpath(rt)))
         self.deps, self.deadline, self.stop = deps, deadline, threading.Event()
-        self.rattle = os.path.join(kit, "bin", "rattle")
-        self.kit = [*(word for name in LIBRARIES for word in ("--extern", f"{name}={kit}/rlibs/{name}.rlib")), "-L", f"dependency={kit}/rlibs",
-                    "--antt-project", f"{kit}/rattle/logic/antt-project.json", "--logic-built", f"{kit}/logic_built"]
+        self.rattle, self.rlibs = os.path.join(kit, "bin", "rattle"), os.path.join(kit, "rlibs")
+        self.logic = ["--antt-project", f"{kit}/rattle/logic/antt-project.json", "--logic-built", f"{kit}/logic_built"]
 
     def words(self, tree, crate, incremental):
-        libraries = []
+        libraries = [word for name in of_kit(crate, self.deps) for word in ("--extern", f"{name}={self.rlibs}/{name}.rlib")]
+        libraries += ["-L", f"dependency={self.rlibs}"]
         for dep in reached(crate, self.deps):
             used = ",".join([*LIBRARIES, *self.deps[dep]])
             libraries += ["--lib", f"{dep}:{used}={tree}/crates/{dep}/src/lib.rt"]
-        return [self.rattle, "check", "--crate-name", crate, f"{tree}/crates/{crate}/src/lib.rt", *libraries, *self.kit, "--jobs", "1",
+        return [self.rattle, "check", "--crate-name", crate, f"{tree}/crates/{crate}/src/lib.rt", *libraries, *self.logic, "--jobs", "1",
                 "--links", f"{crate}=", "--incremental", incremental]
 
     def check(self, tree, crate, incremental, seconds=TIMEOUT):

@@ -135,12 +135,12 @@ use mathlib.Core.Path.{◌≡◌, refl}
 use mathlib.Core.List.{List, [], ◌∷◌, ◌++◌, map}
 use lib.ListN.{replicate}
 use lib.IntN.{pos, neg_ℤ}
+use Rattle.std.specs.Prelude.{Ok, Err}
 use Rattle.model.specs.Case.{FileCase}
 use Rattle.savingmodel.specs.Saving.{given, caseRefusal, shortest, saveRefusal, saveAnswer, savedAfter}
 use Rattle.model.specs.declared.case.Amounts.{Amounts}
 use Rattle.model.specs.declared.case.Shocks.{Shocks}
 use Rattle.model.specs.declared.case.CaseFields.{CaseFields}
-use Rattle.savingmodel.specs.declared.Saved.TheVariants.{Written, Refused}
 use Rattle.model.proofs.Computing.{pairs}
 use Rattle.savingmodel.proofs.Computing.{all}
 """
@@ -247,12 +247,12 @@ use mathlib.Core.Path.{◌≡◌, refl}
 use mathlib.Core.List.{List, [], ◌∷◌, ◌++◌}
 use lib.ListN.{replicate, take, drop}
 use lib.IntN.{pos, neg_ℤ}
+use Rattle.std.specs.Prelude.{Ok, Err}
 use Rattle.arith.specs.Rounding.{low, high}
 use Rattle.method.specs.Buffers.{entry_of, rateEntryOf}
 use Rattle.monthsmodel.specs.Months.{monthsOf, oldestFirst, total, ufrRefusal, ufrAnswer}
 use Rattle.monthsmodel.specs.Months.{monthsRefusal, monthsValuation, monthsFactorsAfter, monthsRatesAfter}
 use Rattle.method.specs.Listing.{listing}
-use Rattle.monthsmodel.specs.declared.Ufr.TheVariants.{Found, Refused}
 use Rattle.model.proofs.Computing.{pairs}
 use Rattle.method.proofs.Computing.{text}
 use Rattle.monthsmodel.proofs.Computing.{all}
@@ -305,8 +305,8 @@ use mathlib.Core.Path.{◌≡◌, refl}
 use mathlib.Core.List.{List, [], ◌∷◌, ◌++◌, map}
 use lib.ListN.{replicate}
 use lib.IntN.{pos, neg_ℤ}
+use Rattle.std.specs.Prelude.{Ok, Err}
 use Rattle.model.specs.Case.{FileCase}
-use Rattle.savingmodel.specs.declared.Saved.TheVariants.{Written, Refused}
 use Rattle.model.proofs.Computing.{pairs}
 use Rattle.model.proofs.FourByteCases.{quads, finerFile, finerCase, oldCase, newCase, oldFile, newFile}
 use Rattle.savingmodel.specs.Saving.{given, caseRefusal, shortest, saveRefusal, saveAnswer, savedAfter}
@@ -689,7 +689,7 @@ def after_equation(name, given, held):
 def answer_equation(name, given, room):
     """What a call with a buffer of this length answers."""
     saved = reference.save(given, bytes(room))
-    answer = f"Refused {saved.refusal}" if saved.refusal else f"Written {saved.written}"
+    answer = f"Err {saved.refusal}" if saved.refusal else f"Ok {saved.written}"
     return f"saveAnswer {name} {room} ≡ {answer}"
 
 
@@ -1111,7 +1111,7 @@ def month_statements():
 
 def ufr_equation(history, start):
     found = months.ufr_of(history, start)
-    answer = f"Refused {found.refusal}" if found.refusal else f"Found {found.ufr}"
+    answer = f"Err {found.refusal}" if found.refusal else f"Ok {found.ufr}"
     return f"ufrAnswer {bytes_argument(history)} {start} ≡ {answer}"
 
 

@@ -11,7 +11,7 @@ import mutants
 from edits import ROOT, functions, read_text
 
 # A crate that holds a value of a type without naming it: its proofs name the crate of the type.
-HELD = {("engine", "heldcase"), ("valuation", "model"), ("searches", "searchmodel")}
+HELD = {("searches", "searchmodel")}
 
 
 def listed(text):
@@ -62,8 +62,8 @@ class Crates(unittest.TestCase):
 
     def test_of_the_test(self):
         self.assertEqual(list(listed("# order\n\n# one\na:\nb: a d\n\nc: b\n")), [("one", "a", []), ("one", "b", ["a", "d"]), (None, "c", ["b"])])
-        self.assertIn("theory", named("scan"))
-        self.assertNotIn("engine", named("scan"))
+        self.assertIn("theory", named("reader"))
+        self.assertNotIn("engine", named("reader"))
 
 
 if __name__ == "__main__":

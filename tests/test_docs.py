@@ -24,6 +24,7 @@ SUFFIXES = "md py rt antt toml case curve txt csv months c h a so edit rs json y
 PRODUCTS = ("target/", "out/", "crates/*/out/", "hosts/target/", "bench/target/", "libhost.a/", "libginghamowl.a/")  # made by a build, never committed
 PLACEHOLDERS = ("NAME", "FILE", "DIR", "...")
 READERS_OWN = {"fund.case", "my_program.c"}  # files that a reader makes while following a page
+FIGURES = {"result.a", "f.a"}  # the figure A in a clause, and no archive
 CRATE_FOLDERS = ("src/", "specs/", "proofs/", "must-fail/")  # a path within a crate, named without the crate
 
 PATH = re.compile(r"[\w.*{][\w.*{},+-]*(/[\w.*{},+-]+)*/?")
@@ -78,7 +79,7 @@ def resolves(word):
 # ---------------------------------------------------------------- the pages
 
 def exempt(word):
-    return ((word.rstrip("/") + "/").startswith(PRODUCTS) or word in READERS_OWN
+    return ((word.rstrip("/") + "/").startswith(PRODUCTS) or word in READERS_OWN or word in FIGURES
             or any(placeholder in word for placeholder in PLACEHOLDERS))
 
 

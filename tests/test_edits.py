@@ -9,7 +9,7 @@ import unittest
 
 sys.path.insert(0, os.path.dirname(os.path.abspath(__file__)))
 import edit_logs
-from edits import DEFINED, EDITS, ROOT, facts, functions, parts, place, read_text, refusing, statements
+from edits import DEFINED, EDITS, ROOT, facts, functions, functions_of, parts, place, read_text, refusing, statements
 
 
 class Edits(unittest.TestCase):
@@ -60,8 +60,17 @@ class Edits(unittest.TestCase):
         self.assertEqual(facts("A slip: `a-b`, `c` and `d-2` of m::f and `e` of g no longer hold, nor `h`."),
                          [("a-b", "m::f"), ("c", "m::f"), ("d-2", "m::f"), ("e", "g")])
         self.assertEqual(facts("A slip."), [])
-        self.assertIn("Case::default", functions("heldcase"))
-        self.assertIn("rates::add_day", functions("scan"))
+        self.assertIn("Refusal::number", functions("refusal"))
+        self.assertIn("end::HighEnd::root", functions("arith"))
+
+    def test_functions_of_impls(self):
+        source = "impl<const N: usize> Ring<N> {\n    fn new() {\n}\n}\nimpl From<Ring<u64>> for Pair {\n    fn from() {}\n}\n" \
+            "impl<T: Field> Field for Option<T> {\n    fn check() {}\n}\nimpl<A: Field, B: Field> Field for (A, B) {\n    fn check() {}\n}\n" \
+            "impl Field for Days<'_> {\n    #[tactic(auto)]\n    fn check() {}\n}\npub extern \"C\" fn last() {\n}\n"
+        self.assertIn("sums::CurveSums::factors", functions("curves"))
+        self.assertEqual(list(functions_of(source, "a/b")), [
+            (2, "a::b::Ring::new"), (6, "a::b::PairFromRingU64::from"), (9, "a::b::OptionField::check"), (12, "a::b::Tuple2Field::check"),
+            (15, "a::b::DaysField::check"), (18, "a::b::last")])
 
 
 LOG = """\

@@ -85,6 +85,12 @@ class Table(unittest.TestCase):
             self.assertEqual(json.loads(arms.pop("_")), otherwise)
             self.assertEqual({int(n): json.loads(words) for n, words in arms.items()}, by_number(entries, field))
 
+    def test_engine(self):
+        """The engine's enum prints the same sentences, each under the same number."""
+        found = re.findall(r'^    #\[error\((".*")\)\]\n    \w+ = (\d+),$', text("crates/refusal/src/lib.rt"), re.MULTILINE)
+        self.assertEqual([(int(number), json.loads(words)) for words, number in found],
+                         [(entry["number"], entry["sentence"]) for entry in REFUSALS])
+
     def test_python(self):
         self.assertEqual(ginghamowl.SENTENCES, by_number(REFUSALS, "sentence"))
         self.assertEqual({verdict.name: verdict.value for verdict in ginghamowl.Verdict},

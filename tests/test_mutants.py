@@ -151,7 +151,7 @@ fn wide(b: Ends, x: [u64; 15]) -> bool
 class OfCode(unittest.TestCase):
     def test_exactly_these(self):
         known = {"Ends": Type(frozenset(), (("lower", "upper"),))}
-        self.assertEqual([m.key.removeprefix("curve/src/lib:") for m in mutant_edits.of_code("crates/curve/src/lib.rt", CODE, known)],
+        self.assertEqual([m.key.removeprefix("curves/src/lib:") for m in mutant_edits.of_code("crates/curves/src/lib.rt", CODE, known)],
                          ["MOST:1_000#1→1001", "MOST:1_000#1→2000", "wide:0#1→1", "wide:lower#2→upper", "wide:<#1→<=", "wide:upper#1→lower"])
 
     def test_programs_have_none(self):
@@ -265,10 +265,10 @@ class Resumed(unittest.TestCase):
 
 
 class Stages(unittest.TestCase):
-    DEPS = {"arith": [], "model": ["arith"], "theory": ["arith", "model"], "curve": ["model"], "window": ["model", "theory"], "cursor": []}
+    DEPS = {"arith": [], "model": ["arith"], "theory": ["arith", "model"], "curves": ["model"], "window": ["model", "theory", "arrayvec"], "cursor": []}
 
     def test_the_own_crate_first_then_those_above(self):
-        self.assertEqual(mutants.stages("model", self.DEPS), ["model", "theory", "curve", "window"])
+        self.assertEqual(mutants.stages("model", self.DEPS), ["model", "theory", "curves", "window"])
         self.assertEqual(mutants.stages("theory", self.DEPS), ["theory", "window"])
         self.assertEqual(mutants.stages("window", self.DEPS), ["window"])
 
@@ -276,11 +276,16 @@ class Stages(unittest.TestCase):
         texts = {"theory": "use Rattle.model.specs.Windows.{a}", "window": "use Rattle.model.specs.Window.{a}", "arith": ""}
         first = mutants.naming("crates/model/specs/Window.antt", texts)
         self.assertEqual(first, {"window"})
-        self.assertEqual(mutants.stages("model", self.DEPS, first), ["model", "window", "theory", "curve"])
-        self.assertEqual(mutants.naming("crates/arith/src/digits.rt", {"curve": "use arith::digits::sum;", "host": "digits"}), {"curve"})
+        self.assertEqual(mutants.stages("model", self.DEPS, first), ["model", "window", "theory", "curves"])
+        self.assertEqual(mutants.naming("crates/arith/src/scale.rt", {"curves": "use arith::scale::Long;", "host": "scale"}), {"curves"})
 
     def test_what_a_crate_reaches(self):
         self.assertEqual(mutants.reached("window", self.DEPS), ["arith", "model", "theory"])
+
+    def test_what_it_takes_of_the_kit(self):
+        self.assertEqual(mutants.of_kit("window", self.DEPS), ["core", "std", "arrayvec"])
+        self.assertEqual(mutants.of_kit("theory", self.DEPS), ["core", "std"])
+        self.assertIn("itoa", mutants.of_kit("host", mutants.crates(mutants.ROOT)))
 
     def test_every_crate_of_the_tables_is_listed(self):
         listed = mutants.crates(mutants.ROOT)

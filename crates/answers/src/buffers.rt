@@ -1,6 +1,6 @@
 // What a valuation leaves in two lent buffers, in two lines: F and the entries of the factor buffer, Z and those of the rate buffer.
 // Both have 242 entries, all 7 beforehand, so that what a valuation leaves alone can be seen. To each zero rate 100,000 steps are added.
-use super::row::print_numbers;
+use super::row::{print_number, print_numbers};
 use std::io;
 use std::io::Write;
 
@@ -15,23 +15,21 @@ fn raised(rate: i64) -> u64 {
     (rate + 100_000) as u64
 }
 
-fn print_rates<W: Write>(out: &mut W, rates: [i64; 242]) -> io::Result<()> {
-    let mut numbers = [0u64; 242];
-    let mut i = 0;
-    while i < numbers.len() {
-        numbers[i] = raised(rates[i]);
-        i += 1;
+fn print_rates<W: Write>(out: &mut W, rates: &[i64]) -> io::Result<()> {
+    for rate in rates {
+        print_number(out, raised(*rate))?;
     }
-    print_numbers(out, &numbers)
+    Ok(())
 }
 
 pub(super) fn print_buffers<W: Write>(out: &mut W, file: &[u8]) -> io::Result<()> {
     let mut factors = [7u64; 242];
     let mut rates = [7i64; 242];
-    engine::value(file, &mut factors, &mut rates);
+    // the answer is that of the listing
+    let _ = engine::value(file, &mut factors, &mut rates);
     out.write_all(b"F")?;
     print_numbers(out, &factors)?;
     out.write_all(b"\nZ")?;
-    print_rates(out, rates)?;
+    print_rates(out, &rates)?;
     out.write_all(b"\n")
 }

@@ -6,14 +6,14 @@ mod buffers;
 mod reading;
 mod row;
 
+use refusal::Refusal;
 use std::io;
-use std::io::{Read, Write};
+use std::io::{BufWriter, Write};
 
 fn print_listing<W: Write>(out: &mut W, file: &[u8]) -> io::Result<()> {
-    let valuation = engine::figures_of(file);
-    let mut text = [0u8; 512];
-    let n = listing::write_listing(valuation, &mut text);
-    out.write_all(&text[..n])
+    let valuation = engine::figures_of(file).map_err(Refusal::number);
+    let text = listing::text_of(valuation);
+    out.write_all(text.as_slice())
 }
 
 fn print_answers<W: Write>(out: &mut W, file: &[u8]) -> io::Result<()> {
@@ -22,29 +22,9 @@ fn print_answers<W: Write>(out: &mut W, file: &[u8]) -> io::Result<()> {
     buffers::print_buffers(out, file)
 }
 
-// Takes the next file, and answers whether there was one of at most 100,000 bytes.
-fn print_next<R: Read, W: Write>(input: &mut R, out: &mut W) -> io::Result<bool> {
-    let mut buf = [0u8; 100000];
-    let length = batch::next_length(input);
-    if buf.len() < length {
-        return Ok(false);
-    }
-    let n = batch::read_file(input, length, &mut buf);
-    print_answers(out, &buf[..n])?;
-    Ok(true)
-}
-
-// A proved loop has to end, and nothing says that the input does. No run uses up the turns.
-fn print_all<R: Read, W: Write>(input: &mut R, out: &mut W) -> io::Result<()> {
-    for _ in 0..u64::MAX {
-        if !print_next(input, out)? {
-            break;
-        }
-    }
-    Ok(())
-}
-
-// Ends with 1 where an answer cannot be written.
+// Ends with 1 where an answer cannot be written. The output is buffered, since a write for each number would take most of a run's time.
 fn main(rt: HostRuntime) -> io::Result<()> {
-    print_all(&mut rt.stdin(), &mut rt.stdout())
+    let mut out = BufWriter::new(rt.alloc(), rt.stdout())?;
+    batch::for_each(&mut rt.stdin(), |file| print_answers(&mut out, file))?;
+    out.flush()
 }

@@ -1,8 +1,8 @@
 // The line of a reading: R and the number of the refusal; or C and every field of the case in the order of the struct, the arrays whole;
 // after them, where the part that holds the rates begins, its length and a hash of its bytes.
 use super::row::{print_number, print_numbers};
-use casefile::Answer;
 use heldcase::Case;
+use heldcase::flows::Flows;
 use model::case::{Amounts, People, Shocks};
 use std::io;
 use std::io::Write;
@@ -43,20 +43,25 @@ fn print_people<W: Write>(out: &mut W, p: People) -> io::Result<()> {
     print_numbers(out, &[p.heads, p.pension_age, p.mean_age])
 }
 
+// How many there are, the flows, and a 0 for each more that there could be.
+fn print_flows<W: Write, const MOST: usize>(out: &mut W, flows: &Flows<MOST>) -> io::Result<()> {
+    let given = flows.as_slice();
+    let zeros: &[u64] = &[0; MOST];
+    print_number(out, given.len() as u64)?;
+    print_numbers(out, given)?;
+    print_numbers(out, &zeros[given.len()..])
+}
+
 fn print_case<W: Write>(out: &mut W, c: Case) -> io::Result<()> {
     let sums = c.sums;
-    let pension = c.pension;
-    let bonds = c.bonds;
     let amounts = c.amounts;
     let shocks = c.shocks;
     let people = c.people;
     print_number(out, c.ufr)?;
     print_number(out, c.per_step)?;
     print_numbers(out, &sums)?;
-    print_number(out, c.pension_count as u64)?;
-    print_numbers(out, &pension)?;
-    print_number(out, c.bond_count as u64)?;
-    print_numbers(out, &bonds)?;
+    print_flows(out, &c.pension)?;
+    print_flows(out, &c.bonds)?;
     print_amounts(out, amounts)?;
     print_shocks(out, shocks)?;
     print_people(out, people)
@@ -69,17 +74,15 @@ fn hashed(hash: u64, byte: u8) -> u64 {
 
 fn hash_of(part: &[u8]) -> u64 {
     let mut hash = 0;
-    let mut i = 0;
-    while i < part.len() {
-        hash = hashed(hash, part[i]);
-        i += 1;
+    for byte in part {
+        hash = hashed(hash, *byte);
     }
     hash
 }
 
 // Where the part begins is what a host is told, its bytes are those of the slice. A refused file has an empty part at 0.
 fn print_part<W: Write>(out: &mut W, file: &[u8]) -> io::Result<()> {
-    let part = casefile::rates_part(file);
+    let part = reader::file::rates_part(file);
     let place = ratesplace::rates_place(file);
     print_numbers(
         out,
@@ -89,17 +92,14 @@ fn print_part<W: Write>(out: &mut W, file: &[u8]) -> io::Result<()> {
 }
 
 pub(super) fn print_reading<W: Write>(out: &mut W, file: &[u8]) -> io::Result<()> {
-    let reading = casefile::read(file);
-    let answer = reading.answer;
-    let case = reading.case;
-    match answer {
-        Answer::Refused(number) => {
+    match reader::file::read(file) {
+        Err(refusal) => {
             out.write_all(b"R")?;
-            print_number(out, number as u64)?;
+            print_number(out, refusal.number() as u64)?;
         }
-        Answer::Accepted => {
+        Ok(reading) => {
             out.write_all(b"C")?;
-            print_case(out, case)?;
+            print_case(out, reading.case)?;
         }
     }
     print_part(out, file)

@@ -2,8 +2,6 @@
 pub mod Rounding
 pub mod Root
 pub mod Ends
-pub mod Worked
 pub mod LongDivision
-pub mod Carry
-pub mod Order
-pub mod Bisection
+pub mod Roots
+pub mod Worked

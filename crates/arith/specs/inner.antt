@@ -1,3 +1,3 @@
--- Nobody has to believe these. Range: the operands for which the code fits 64 bits. Value: the number that a Wide holds.
+-- Nobody has to believe these. Range: the operands for which the code fits 64 bits. Ways: what is proved of them.
 pub mod Range
-pub mod Value
+pub mod Ways

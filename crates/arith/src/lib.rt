@@ -1,6 +1,6 @@
-// Exact arithmetic on whole numbers, rounded at an end: products that pass 64 bits, their quotients, and roots of fractions.
+// Exact arithmetic on whole numbers, rounded at an end of a bracket: quotients of products, and roots of fractions.
 #![tactic(auto)]
 
-pub mod digits;
-pub mod halving;
+pub mod bracket;
+pub mod end;
 pub mod scale;

@@ -1,2 +1,2 @@
--- Reading: what stands at the front of a buffer after a read into the rest of it; the crate valuation cites it too.
+-- Reading: what stands at the front of a buffer after a read into the rest of it.
 pub mod Reading

@@ -1,58 +1,94 @@
 // Many files in one input, each behind its length in four bytes, the highest first.
 #![tactic(auto)]
 
-ghost use Rattle.std.specs.Prelude.{◌<◌, ◌≡◌, ◌⊎◌, OnOk, length, take};
-ghost use Rattle.std.specs.Io.KnownBytes.{Consumes, IsAtEnd};
-ghost use Rattle.batch.specs.Input.{endOfInput, LengthOrEnd, LengthRead, IsPrefixLen, FileRead};
+ghost use Rattle.std.specs.Prelude.{◌<◌, ◌≤◌, ◌≡◌, IfErr, IfOk, length, drop};
+ghost use Rattle.std.specs.Io.KnownBytes.{IsAtEnd};
+ghost use Rattle.batch.specs.Input.{LosesFront, LengthGiven, FileGiven};
 
-use numbers::cursor::number_at;
 use std::io;
 use std::io::Read;
 
-// No file is so long: what next_length answers at the end of the input.
-const END: usize = usize::MAX;
+// What for_each has room for.
+const MOST_BYTES: usize = 100_000;
 
-// Reads until buf is full, the input ends or a read fails, also one that a signal interrupts. Answers how many bytes it put to the
-// front of buf, and whether the last read failed. The reader has lost these bytes and no others.
-pub fn read_full<R: Read>(input: &mut R, buf: &mut [u8]) -> (usize, io::Result<()>)
-    ensures count { IsPrefixLen result.0 buf.new }
-    ensures bytes { Consumes (R.remaining input.old) (R.remaining input.new) (take result.0 buf.new) }
-    ensures end { OnOk result.1 (result.0 < length buf.new → IsAtEnd (R.remaining input.new)) }
+/// A read that failed, also one that a signal interrupts, and how many bytes had come before it.
+#[derive(Drop)]
+pub struct Cut {
+    pub count: usize,
+    pub error: io::Error,
+}
+
+/// Reads until `buf` is full or the input ends, and answers how many bytes it put to the front of `buf`. The reader has lost these bytes
+/// and no others, also where a read fails.
+pub fn read_full<R: Read>(input: &mut R, buf: &mut [u8]) -> Result<usize, Cut>
+    ensures bytes { IfOk result (LosesFront (R.remaining input.old) (R.remaining input.new) buf.new) }
+    ensures end { IfOk result (λ n. n < length buf.new → IsAtEnd (R.remaining input.new)) }
+    ensures failed { IfErr result (λ cut. LosesFront (R.remaining input.old) (R.remaining input.new) buf.new cut.count) }
 {
     let mut done = 0;
     while done < buf.len() {
-        match input.read(&mut buf[done..]) {
-            Ok(0) => return (done, Ok(())),
-            Ok(n) => done += n,
-            Err(e) => return (done, Err(e)),
+        let n = match input.read(&mut buf[done..]) {
+            Ok(n) => n,
+            Err(error) => return Err(Cut { count: done, error }),
+        };
+        if n == 0 {
+            return Ok(done);
         }
+        done += n;
     }
-    (done, Ok(()))
+    Ok(done)
 }
 
-// The length before the next file; at the end of the input, and where a read fails, one that no buffer has.
-pub fn next_length<R: Read>(input: &mut R) -> usize
-    ensures range { LengthOrEnd result }
-    ensures bytes { (result ≡ endOfInput) ⊎ LengthRead (R.remaining input.old) (R.remaining input.new) result }
+/// The length before the next file; none at the end of the input, where fewer than its four bytes are left.
+pub fn next_length<R: Read>(input: &mut R) -> Result<Option<usize>, Cut>
+    ensures { IfOk result (LengthGiven (R.remaining input.old) (R.remaining input.new)) }
 {
     let mut head = [0u8; 4];
-    let (got, _) = read_full(input, &mut head);
-    if got < 4 {
-        return END;
+    let n = read_full(input, &mut head)?;
+    if n < 4 {
+        return Ok(None);
     }
-    number_at(&head, 0, 4) as usize
+    Ok(Some(u32::from_be_bytes(head) as usize))
 }
 
-// Reads the next so many bytes to the front of buf, and answers how many there were. What buf holds between that count and
-// `length` is not said: a read may leave anything there.
-pub fn read_file<R: Read>(input: &mut R, length: usize, buf: &mut [u8]) -> usize
-    ensures count { IsPrefixLen result buf.new }
-    ensures read { FileRead length result buf.old buf.new }
-    ensures bytes { Consumes (R.remaining input.old) (R.remaining input.new) (take result buf.new) }
+/// Reads the next `wanted` bytes to the front of `buf`, and answers how many there were; none, and nothing is read, where `buf` is
+/// shorter. What `buf` holds between that count and `wanted` is not said: a read may leave anything there.
+pub fn read_file<R: Read>(
+    input: &mut R,
+    wanted: usize,
+    buf: &mut [u8],
+) -> Result<Option<usize>, Cut>
+    ensures given { IfOk result (FileGiven wanted (R.remaining input.old) (R.remaining input.new) buf.old buf.new) }
+    ensures rest { drop wanted buf.new ≡ drop wanted buf.old }
+    ensures failed { IfErr result (λ cut. (wanted ≤ length buf.old) × (cut.count ≤ wanted)
+        × LosesFront (R.remaining input.old) (R.remaining input.new) buf.new cut.count) }
 {
-    if buf.len() < length {
-        return 0;
+    if buf.len() < wanted {
+        return Ok(None);
     }
-    let (count, _) = read_full(input, &mut buf[..length]);
-    count
+    let count = read_full(input, &mut buf[..wanted])?;
+    Ok(Some(count))
+}
+
+/// Calls `visit` with each file in turn; of a file that the input cuts short, with what there is. It ends well where the input does, a
+/// read fails or a file has more than 100,000 bytes. An error is one of `visit`, after which no file is read.
+pub fn for_each<R: Read, F: FnMut(&[u8]) -> io::Result<()>>(
+    input: &mut R,
+    mut visit: F,
+) -> io::Result<()>
+    requires { F.IsAlwaysCallable visit }
+    ensures { IfErr result (λ error. (state : F) × (file : _) × F.post state file (Err error)) }
+{
+    let mut buf = [0u8; MOST_BYTES];
+    // A proved loop has to end, and nothing says that the input does. No run uses up the turns.
+    for _ in 0..u64::MAX {
+        let Ok(Some(wanted)) = next_length(input) else {
+            break;
+        };
+        let Ok(Some(count)) = read_file(input, wanted, &mut buf) else {
+            break;
+        };
+        visit(&buf[..count])?;
+    }
+    Ok(())
 }

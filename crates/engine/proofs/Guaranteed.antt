@@ -12,6 +12,7 @@ use lib.ListN.{length, get_or, drop}
 use lib.Seq.{drop_at}
 use mir.Syntax.{w8}
 use mir.Val.{Fits}
+use Rattle.std.specs.Prelude.{Ok}
 use Rattle.arith.specs.Rounding.{End, low, high}
 use Rattle.model.specs.Numbers.{Bytes}
 use Rattle.model.specs.Case.{FileCase}
@@ -21,16 +22,14 @@ use Rattle.model.specs.Refusals.{first_of, checks, refusal}
 use Rattle.method.specs.Curve.{base, curve}
 use Rattle.method.specs.Rounded as Rounded
 use Rattle.method.specs.Buffers.{valuationRefusal, byTerm, factorEntries, rateEntries, factorsAfter, ratesAfter, answered, valuationOf, refusalNumber}
-use Rattle.model.specs.declared.figures.Figures.{Figures}
-use Rattle.model.specs.declared.figures.Verdict.{Verdict}
-use Rattle.model.specs.declared.figures.Valuation.TheVariants.{Valued}
+use Rattle.model.specs.declared.figures.Valuation.{Valuation}
 use Rattle.theory.proofs.acceptance.Acceptance.{accepted-keeps, keeps-accepted}
 use Rattle.theory.proofs.demand3.Demand3Proved.{IsRounded}
 use Rattle.theory.proofs.general.Entries.{length-byTerm, lower_in, upper_in}
 use Rattle.theory.proofs.demand3.Files.{demand3-of-files}
 use Rattle.theory.proofs.demand3.Written.{written-rounded}
 use Rattle.theory.proofs.general.Lists.{and_first, and_second}
-use Rattle.casefile.proofs.AcceptedReading.{slice-bytes}
+use Rattle.reader.proofs.Exactly.{slice-bytes}
 use Rattle.engine.specs.Guarantee.{given, RefusedCall, AcceptedCall, AcceptedExactly, Call}
 use Rattle.engine.proofs.Valued.{passes, fails, own-refusal}
 
@@ -66,7 +65,8 @@ module _ (file : List ℕ) (factors : List ℕ) (rates : List ℤ) where
   refused-call n e = record { answer = rw e; factorsKept = rw e; ratesKept = rw e }
 
   module _ (h : valuationRefusal (length factors) (length rates) file ≡ 0) where
-    answer-is : valuationOf (length factors) (length rates) file ≡ Valued (Rounded.figures (case_of file)) (Rounded.verdict (case_of file))
+    answer-is : valuationOf (length factors) (length rates) file
+        ≡ Ok (record { figures = Rounded.figures (case_of file); verdict = Rounded.verdict (case_of file) })
     unfolding valuationOf
     answer-is = rw h
 
@@ -91,11 +91,11 @@ module _ (file : List ℕ) (factors : List ℕ) (rates : List ℤ) where
     upper-rate t l = rw rates-are (upper_in (Rounded.zeroRate (curve (case_of file) base)) 120 (drop 240 rates) (pos 0) t l)
 
     -- what the call gives is that of the rounded working
-    is-rounded : (figures : Figures) (verdict : Verdict) → valuationOf (length factors) (length rates) file ≡ Valued figures verdict
-        → IsRounded (case_of file) (given figures verdict (factorsAfter file factors rates) (ratesAfter file factors rates))
+    is-rounded : (v : Valuation) → valuationOf (length factors) (length rates) file ≡ Ok v
+        → IsRounded (case_of file) (given v (factorsAfter file factors rates) (ratesAfter file factors rates))
     unfolding factorEntries rateEntries
-    is-rounded figures verdict e =
-        written-rounded (case_of file) figures verdict (factorsAfter file factors rates) (drop 240 factors) (ratesAfter file factors rates)
+    is-rounded v e =
+        written-rounded (case_of file) v (factorsAfter file factors rates) (drop 240 factors) (ratesAfter file factors rates)
         (drop 240 rates) (sym e ∙ answer-is) factors-are rates-are
 
     accepted-call : Bytes file → AcceptedCall file factors rates
@@ -114,7 +114,7 @@ module _ (file : List ℕ) (factors : List ℕ) (rates : List ℤ) where
           upperRate = upper-rate;
           laterFactors = rw factors-are (later (Rounded.factor (curve (case_of file) base)) (drop 240 factors));
           laterRates = rw rates-are (later (Rounded.zeroRate (curve (case_of file) base)) (drop 240 rates));
-          demand3 = λ f v e. demand3-of-files file p.2 (given f v (factorsAfter file factors rates) (ratesAfter file factors rates)) (is-rounded f v e);
+          demand3 = λ v e. demand3-of-files file p.2 (given v (factorsAfter file factors rates) (ratesAfter file factors rates)) (is-rounded v e);
         }
 
   accepted-exactly : Bytes file → AcceptedExactly file factors rates

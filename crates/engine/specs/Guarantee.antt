@@ -1,8 +1,8 @@
 -- The page to open first: what holds of every call `value(file, factors, rates)`. Its contract (src/lib.rt) says that it answers
--- `valuationOf (length factors) (length rates) file`, that it leaves `factorsAfter file factors rates` and `ratesAfter file factors rates`
--- in the buffers, and that `Call file factors rates` holds. So nothing is asked of a host: that the file is a list of bytes is known of
--- the lent slice, whose type is `&[u8]`. proofs/Guaranteed.antt proves `Call` of every list of bytes.
-use Rattle.std.specs.Prelude.{ℕ, suc, ◌+◌, ◌*◌, ◌≤◌, ◌<◌, ◌≡◌, List, ℤ, pos, length, get_or, drop}
+-- `valuationOf (length factors) (length rates) file`, a refusal by its number (`answer_of`), that it leaves `factorsAfter file factors rates`
+-- and `ratesAfter file factors rates` in the buffers, and that `Call file factors rates` holds. So nothing is asked of a host: that the file
+-- is a list of bytes is known of the lent slice, whose type is `&[u8]`. proofs/Guaranteed.antt proves `Call` of every list of bytes.
+use Rattle.std.specs.Prelude.{ℕ, suc, ◌+◌, ◌*◌, ◌≤◌, ◌<◌, ◌≡◌, List, ℤ, pos, length, get_or, drop, Ok, Err}
 use Rattle.arith.specs.Rounding.{low, high}
 use Rattle.model.specs.Numbers.{Bytes}
 use Rattle.model.specs.Layout.{Keeps}
@@ -11,22 +11,20 @@ use Rattle.method.specs.Curve.{base, curve}
 use Rattle.method.specs.Rounded as Rounded
 use Rattle.method.specs.Demand3.{Given, Demand3}
 use Rattle.method.specs.Buffers.{valuationRefusal, valuationOf, refusalNumber, factorsAfter, ratesAfter, entry_of, rateEntryOf}
-use Rattle.model.specs.declared.figures.Figures.{Figures}
-use Rattle.model.specs.declared.figures.Verdict.{Verdict}
-use Rattle.model.specs.declared.figures.Valuation.TheVariants.{Refused, Valued}
+use Rattle.model.specs.declared.figures.Valuation.{Valuation}
 
 -- what a call gives: the figures and the verdict of its answer, and what stands in both buffers after it
-abbrev pub given : Figures → Verdict → List ℕ → List ℤ → Given
-given figures verdict factors rates = record {
-  figures = figures;
-  verdict = verdict;
+abbrev pub given : Valuation → List ℕ → List ℤ → Given
+given v factors rates = record {
+  figures = v.figures;
+  verdict = v.verdict;
   factor = entry_of factors;
   rate = rateEntryOf rates;
 }
 
 -- a refused call: "it gets the number that document 01's order of checks gives it, and every lent buffer then holds what it held"
 pub record RefusedCall (file : List ℕ) (factors : List ℕ) (rates : List ℤ) : Type 0 where
-  pub answer : valuationOf (length factors) (length rates) file ≡ Refused (valuationRefusal (length factors) (length rates) file)
+  pub answer : valuationOf (length factors) (length rates) file ≡ Err (valuationRefusal (length factors) (length rates) file)
   pub factorsKept : factorsAfter file factors rates ≡ factors
   pub ratesKept : ratesAfter file factors rates ≡ rates
 
@@ -38,7 +36,8 @@ pub record AcceptedCall (file : List ℕ) (factors : List ℕ) (rates : List ℤ
   pub keeps : Keeps file
   pub held : keeps.held ≡ case_of file
   -- "every figure, and the verdict, is that of its rounded working"
-  pub answer : valuationOf (length factors) (length rates) file ≡ Valued (Rounded.figures (case_of file)) (Rounded.verdict (case_of file))
+  pub answer : valuationOf (length factors) (length rates) file
+      ≡ Ok (record { figures = Rounded.figures (case_of file); verdict = Rounded.verdict (case_of file) })
   -- entries 0 to 239: lower, upper, term by term; later entries keep their content
   pub lowerFactor : (t : ℕ) → t < 120 → get_or (factorsAfter file factors rates) (2 * t) 0 ≡ Rounded.factor (curve (case_of file) base) low (suc t)
   pub upperFactor : (t : ℕ) → t < 120 → get_or (factorsAfter file factors rates) (2 * t + 1) 0 ≡ Rounded.factor (curve (case_of file) base) high (suc t)
@@ -47,9 +46,9 @@ pub record AcceptedCall (file : List ℕ) (factors : List ℕ) (rates : List ℤ
   pub laterFactors : drop 240 (factorsAfter file factors rates) ≡ drop 240 factors
   pub laterRates : drop 240 (ratesAfter file factors rates) ≡ drop 240 rates
   -- the third demand, of the very figures and verdict that are answered and of the entries that are written
-  pub demand3 : (figures : Figures) (verdict : Verdict)
-      → valuationOf (length factors) (length rates) file ≡ Valued figures verdict
-      → Demand3 (case_of file) (given figures verdict (factorsAfter file factors rates) (ratesAfter file factors rates))
+  pub demand3 : (v : Valuation)
+      → valuationOf (length factors) (length rates) file ≡ Ok v
+      → Demand3 (case_of file) (given v (factorsAfter file factors rates) (ratesAfter file factors rates))
 
 -- whether a call is accepted: "With lent buffers as long as document 01 wants, a file is accepted exactly when it keeps the layout and
 -- limits there"

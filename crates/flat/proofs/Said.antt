@@ -2,13 +2,14 @@
 use mathlib.Core.Path.{◌≡◌, refl, ap}
 use mathlib.Core.List.{List}
 use Prim.Native.Nat.{ℕ, zero, suc}
+use Rattle.std.specs.Prelude.{Result, Ok}
 use Rattle.model.specs.Case.{FileCase}
 use Rattle.method.specs.Buffers.{answered, valuationRefusal, valuationOf}
 use Rattle.model.specs.Layout.{case_of}
 use Rattle.method.specs.Rounded as Rounded
 use Rattle.model.specs.declared.figures.Verdict.{Verdict}
 use Rattle.model.specs.declared.figures.Verdict.TheVariants.{Dekkingstekort, Reservetekort, VrijVermogen, Onbeslist}
-use Rattle.model.specs.declared.figures.Valuation.TheVariants.{Valued}
+use Rattle.model.specs.declared.figures.Valuation.{Valuation}
 use Rattle.flat.specs.Flat.{verdictNumber, verdictFrom, hostValuation, valuationFrom}
 
 pub verdict-said : (v : Verdict) → verdictFrom (verdictNumber v) ≡ v
@@ -17,8 +18,12 @@ verdict-said Reservetekort = refl
 verdict-said VrijVermogen = refl
 verdict-said Onbeslist = refl
 
+-- a case's figures with a verdict
+abbrev judged : FileCase → Verdict → Result Valuation ℕ
+judged k verdict = Ok (record { figures = Rounded.figures k; verdict = verdict })
+
 answer-said : (r : ℕ) (k : FileCase) → valuationFrom (hostValuation (answered r k)) ≡ answered r k
-answer-said zero k = ap (λ v. Valued (Rounded.figures k) v) (verdict-said (Rounded.verdict k))
+answer-said zero k = ap (judged k) (verdict-said (Rounded.verdict k))
 answer-said (suc r) k = refl
 
 -- what a valuation gave a host says that valuation: its listing is that of the file

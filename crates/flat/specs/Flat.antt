@@ -1,63 +1,23 @@
 -- The answers of the engine as structs that C knows, and what such a struct says. Assumes nothing.
-use Rattle.std.specs.Prelude.{ℕ, zero, suc, cond, eqb}
+use Rattle.std.specs.Prelude.{ℕ, zero, suc, cond, eqb, Result, Ok, Err}
 use Rattle.std.specs.Float.{binary64}
 use Rattle.std.specs.Float.Ieee.{of_bits}
-use Rattle.model.specs.declared.figures.Bracket.{Bracket}
+use Rattle.arith.specs.declared.bracket.Bracket.{Bracket}
 use Rattle.model.specs.declared.figures.Figures.{Figures}
 use Rattle.model.specs.declared.figures.Verdict.{Verdict}
 use Rattle.model.specs.declared.figures.Verdict.TheVariants.{Dekkingstekort, Reservetekort, VrijVermogen, Onbeslist}
 use Rattle.model.specs.declared.figures.Valuation.{Valuation}
-use Rattle.model.specs.declared.figures.Valuation.TheVariants.{Refused, Valued}
-use Rattle.monthsmodel.specs.declared.Ufr.{Ufr}
-use Rattle.savingmodel.specs.declared.Saved.{Saved}
 use Rattle.model.specs.declared.window.Point.{Point}
 use Rattle.model.specs.declared.window.Point.TheVariants.{Factor, Money, Blank}
-use Rattle.flat.specs.declared.HostBracket.{HostBracket}
-use Rattle.flat.specs.declared.HostFigures.{HostFigures}
 use Rattle.flat.specs.declared.HostValuation.{HostValuation}
 use Rattle.flat.specs.declared.HostPoint.{HostPoint}
 use Rattle.flat.specs.declared.HostSaved.{HostSaved}
 use Rattle.flat.specs.declared.HostUfr.{HostUfr}
 
--- figures to a host, and back
-abbrev pub hostBracket : Bracket → HostBracket
-hostBracket b = record { lower = b.lower; upper = b.upper }
-
-abbrev pub bracketFrom : HostBracket → Bracket
-bracketFrom b = record { lower = b.lower; upper = b.upper }
-
-abbrev pub hostFigures : Figures → HostFigures
-hostFigures f = record {
-  l = hostBracket f.l;
-  b = hostBracket f.b;
-  a = hostBracket f.a;
-  s1 = hostBracket f.s1;
-  s2 = hostBracket f.s2;
-  s3 = hostBracket f.s3;
-  s4 = hostBracket f.s4;
-  s5 = hostBracket f.s5;
-  s6 = hostBracket f.s6;
-  s = hostBracket f.s;
-}
-
-abbrev pub figuresFrom : HostFigures → Figures
-figuresFrom f = record {
-  l = bracketFrom f.l;
-  b = bracketFrom f.b;
-  a = bracketFrom f.a;
-  s1 = bracketFrom f.s1;
-  s2 = bracketFrom f.s2;
-  s3 = bracketFrom f.s3;
-  s4 = bracketFrom f.s4;
-  s5 = bracketFrom f.s5;
-  s6 = bracketFrom f.s6;
-  s = bracketFrom f.s;
-}
-
-abbrev pub nothing : HostBracket
+abbrev pub nothing : Bracket
 nothing = record { lower = 0; upper = 0 }
 
-abbrev pub noFigures : HostFigures
+abbrev pub noFigures : Figures
 noFigures = record {
   l = nothing;
   b = nothing;
@@ -84,16 +44,16 @@ verdictFrom number =
     cond (eqb number 1) Dekkingstekort (cond (eqb number 2) Reservetekort (cond (eqb number 3) VrijVermogen Onbeslist))
 
 -- "A refusal returns only its number": the verdict and the figures of a refused file are 0
-abbrev pub hostValuation : Valuation → HostValuation
-hostValuation (Refused r) = record { refusal = r; verdict = 0; figures = noFigures }
-hostValuation (Valued f v) = record { refusal = 0; verdict = verdictNumber v; figures = hostFigures f }
+abbrev pub hostValuation : Result Valuation ℕ → HostValuation
+hostValuation (Err r) = record { refusal = r; verdict = 0; figures = noFigures }
+hostValuation (Ok v) = record { refusal = 0; verdict = verdictNumber v.verdict; figures = v.figures }
 
 -- what a host's struct says, whether or not a valuation gave it: a number other than 0 is a refusal, whatever stands beside it
-abbrev pub numbered : ℕ → ℕ → HostFigures → Valuation
-numbered zero verdict figures = Valued (figuresFrom figures) (verdictFrom verdict)
-numbered (suc r) verdict figures = Refused (suc r)
+abbrev pub numbered : ℕ → ℕ → Figures → Result Valuation ℕ
+numbered zero verdict figures = Ok (record { figures = figures; verdict = verdictFrom verdict })
+numbered (suc r) verdict figures = Err (suc r)
 
-abbrev pub valuationFrom : HostValuation → Valuation
+abbrev pub valuationFrom : HostValuation → Result Valuation ℕ
 valuationFrom v = numbered v.refusal v.verdict v.figures
 
 -- "a factor .., a money figure .. or blank"
@@ -103,11 +63,11 @@ hostPoint (Factor lower upper) = record { kind = 1; lower = lower; upper = upper
 hostPoint (Money lower upper) = record { kind = 2; lower = lower; upper = upper }
 
 -- "The writer returns the count of bytes written."; a refusal has written none
-abbrev pub hostSaved : Saved → HostSaved
-hostSaved (Saved.Written count) = record { refusal = 0; written = count }
-hostSaved (Saved.Refused r) = record { refusal = r; written = 0 }
+abbrev pub hostSaved : Result ℕ ℕ → HostSaved
+hostSaved (Ok count) = record { refusal = 0; written = count }
+hostSaved (Err r) = record { refusal = r; written = 0 }
 
 -- "The UFR found"; a refusal has found none
-abbrev pub hostUfr : Ufr → HostUfr
-hostUfr (Ufr.Found ufr) = record { refusal = 0; ufr = ufr }
-hostUfr (Ufr.Refused r) = record { refusal = r; ufr = 0 }
+abbrev pub hostUfr : Result ℕ ℕ → HostUfr
+hostUfr (Ok ufr) = record { refusal = 0; ufr = ufr }
+hostUfr (Err r) = record { refusal = r; ufr = 0 }

@@ -1,37 +1,13 @@
-// What a host in another language is given and gives back: structs without enums or slices, and the
-// way to them and back.
+// What a host in another language is given and gives back: structs without enums or slices, and the way to them and back. Figures and
+// brackets are laid out as C does it, so these go as they are.
 #![tactic(auto)]
 
 ghost use Rattle.std.specs.Prelude.{◌≡◌};
-ghost use Rattle.flat.specs.Flat.{hostBracket, bracketFrom, hostFigures, figuresFrom, noFigures, verdictNumber, verdictFrom, hostValuation, valuationFrom, hostPoint, hostSaved, hostUfr};
+ghost use Rattle.flat.specs.Flat.{verdictFrom};
 
-use model::figures::{Bracket, Figures, Valuation, Verdict};
+use model::figures::{Figures, Valuation, Verdict};
 use model::window::Point;
-use monthsmodel::Ufr;
-use savingmodel::Saved;
-
-// Cents.
-#[repr(C)]
-#[derive(Clone, Copy)]
-pub struct HostBracket {
-    pub lower: u64,
-    pub upper: u64,
-}
-
-#[repr(C)]
-#[derive(Clone, Copy)]
-pub struct HostFigures {
-    pub l: HostBracket,
-    pub b: HostBracket,
-    pub a: HostBracket,
-    pub s1: HostBracket,
-    pub s2: HostBracket,
-    pub s3: HostBracket,
-    pub s4: HostBracket,
-    pub s5: HostBracket,
-    pub s6: HostBracket,
-    pub s: HostBracket,
-}
+use refusal::Refusal;
 
 // `refusal` is 0 for a case that is valued. A refused one has verdict 0 and figures of 0.
 #[repr(C)]
@@ -39,7 +15,7 @@ pub struct HostFigures {
 pub struct HostValuation {
     pub refusal: u8,
     pub verdict: u8,
-    pub figures: HostFigures,
+    pub figures: Figures,
 }
 
 // `kind` is 0 for blank, 1 for a factor, 2 for a money figure. The doubles of a blank point are 0.
@@ -67,104 +43,25 @@ pub struct HostUfr {
     pub ufr: u64,
 }
 
-fn flat_bracket(b: Bracket) -> HostBracket
-    ensures { result ≡ hostBracket b }
-{
-    HostBracket {
-        lower: b.lower,
-        upper: b.upper,
-    }
-}
+impl From<Result<Valuation, Refusal>> for HostValuation {
+    ghost use Rattle.flat.specs.Flat.{hostValuation};
+    ghost use Rattle.refusal.specs.Numbered.{answer_of};
 
-fn bracket_from(held: HostBracket) -> Bracket
-    ensures { result ≡ bracketFrom held }
-{
-    Bracket {
-        lower: held.lower,
-        upper: held.upper,
-    }
-}
+    ghost from_gives = { λ answer host. host ≡ hostValuation (answer_of answer) };
 
-fn flat_figures(f: Figures) -> HostFigures
-    ensures { result ≡ hostFigures f }
-{
-    let l = flat_bracket(f.l);
-    let b = flat_bracket(f.b);
-    let a = flat_bracket(f.a);
-    let s1 = flat_bracket(f.s1);
-    let s2 = flat_bracket(f.s2);
-    let s3 = flat_bracket(f.s3);
-    let s4 = flat_bracket(f.s4);
-    let s5 = flat_bracket(f.s5);
-    let s6 = flat_bracket(f.s6);
-    let s = flat_bracket(f.s);
-    HostFigures {
-        l,
-        b,
-        a,
-        s1,
-        s2,
-        s3,
-        s4,
-        s5,
-        s6,
-        s,
-    }
-}
-
-pub fn figures_from(f: HostFigures) -> Figures
-    ensures { result ≡ figuresFrom f }
-{
-    let l = bracket_from(f.l);
-    let b = bracket_from(f.b);
-    let a = bracket_from(f.a);
-    let s1 = bracket_from(f.s1);
-    let s2 = bracket_from(f.s2);
-    let s3 = bracket_from(f.s3);
-    let s4 = bracket_from(f.s4);
-    let s5 = bracket_from(f.s5);
-    let s6 = bracket_from(f.s6);
-    let s = bracket_from(f.s);
-    Figures {
-        l,
-        b,
-        a,
-        s1,
-        s2,
-        s3,
-        s4,
-        s5,
-        s6,
-        s,
-    }
-}
-
-fn no_figures() -> HostFigures
-    ensures { result ≡ noFigures }
-{
-    let zero = HostBracket { lower: 0, upper: 0 };
-    HostFigures {
-        l: zero,
-        b: zero,
-        a: zero,
-        s1: zero,
-        s2: zero,
-        s3: zero,
-        s4: zero,
-        s5: zero,
-        s6: zero,
-        s: zero,
-    }
-}
-
-fn verdict_number(v: Verdict) -> u8
-    ensures { result ≡ verdictNumber v }
-{
-    match v {
-        Verdict::Dekkingstekort => 1,
-        Verdict::Reservetekort => 2,
-        Verdict::VrijVermogen => 3,
-        Verdict::Onbeslist => 4,
+    fn from(answer: Result<Valuation, Refusal>) -> HostValuation {
+        match answer {
+            Ok(valued) => HostValuation {
+                refusal: 0,
+                verdict: valued.verdict as u8,
+                figures: valued.figures,
+            },
+            Err(refusal) => HostValuation {
+                refusal: refusal.number(),
+                verdict: 0,
+                figures: Figures::default(),
+            },
+        }
     }
 }
 
@@ -180,86 +77,74 @@ fn verdict_from(number: u8) -> Verdict
     }
 }
 
-pub fn flat_valuation(v: Valuation) -> HostValuation
-    ensures { result ≡ hostValuation v }
-{
-    match v {
-        Valuation::Refused(number) => {
-            let figures = no_figures();
-            HostValuation {
-                refusal: number,
-                verdict: 0,
-                figures,
-            }
+/// The error is the number of a refusal, as the host gives it: any but 0. It goes first: beside one, neither the verdict nor the figures
+/// are looked at.
+impl TryFrom<HostValuation> for Valuation {
+    ghost use Rattle.flat.specs.Flat.{valuationFrom};
+
+    type Error = u8;
+
+    ghost try_from_gives = { λ host answer. answer ≡ valuationFrom host };
+
+    fn try_from(host: HostValuation) -> Result<Valuation, u8> {
+        if host.refusal != 0 {
+            return Err(host.refusal);
         }
-        Valuation::Valued(f, said) => {
-            let figures = flat_figures(f);
-            let verdict = verdict_number(said);
-            HostValuation {
+        Ok(Valuation {
+            figures: host.figures,
+            verdict: verdict_from(host.verdict),
+        })
+    }
+}
+
+impl From<Result<usize, Refusal>> for HostSaved {
+    ghost use Rattle.flat.specs.Flat.{hostSaved};
+    ghost use Rattle.refusal.specs.Numbered.{answer_of};
+
+    ghost from_gives = { λ answer host. host ≡ hostSaved (answer_of answer) };
+
+    fn from(answer: Result<usize, Refusal>) -> HostSaved {
+        match answer {
+            Ok(written) => HostSaved {
                 refusal: 0,
-                verdict,
-                figures,
-            }
+                written,
+            },
+            Err(refusal) => HostSaved {
+                refusal: refusal.number(),
+                written: 0,
+            },
         }
     }
 }
 
-// The refusal goes first: beside one, neither the verdict nor the figures are looked at.
-pub fn valuation_from(v: HostValuation) -> Valuation
-    ensures { result ≡ valuationFrom v }
-{
-    let number = v.refusal;
-    if number != 0 {
-        return Valuation::Refused(number);
-    }
-    let flat = v.figures;
-    let figures = figures_from(flat);
-    let verdict = verdict_from(v.verdict);
-    Valuation::Valued(figures, verdict)
-}
+impl From<Result<u64, Refusal>> for HostUfr {
+    ghost use Rattle.flat.specs.Flat.{hostUfr};
+    ghost use Rattle.refusal.specs.Numbered.{answer_of};
 
-pub fn flat_point(p: Point) -> HostPoint
-    ensures { result ≡ hostPoint p }
-{
-    match p {
-        Point::Blank => HostPoint {
-            kind: 0,
-            lower: 0.0,
-            upper: 0.0,
-        },
-        Point::Factor(lower, upper) => HostPoint {
-            kind: 1,
-            lower,
-            upper,
-        },
-        Point::Money(lower, upper) => HostPoint {
-            kind: 2,
-            lower,
-            upper,
-        },
+    ghost from_gives = { λ answer host. host ≡ hostUfr (answer_of answer) };
+
+    fn from(answer: Result<u64, Refusal>) -> HostUfr {
+        match answer {
+            Ok(ufr) => HostUfr { refusal: 0, ufr },
+            Err(refusal) => HostUfr {
+                refusal: refusal.number(),
+                ufr: 0,
+            },
+        }
     }
 }
 
-pub fn flat_saved(s: Saved) -> HostSaved
-    ensures { result ≡ hostSaved s }
-{
-    match s {
-        Saved::Written(written) => HostSaved {
-            refusal: 0,
-            written,
-        },
-        Saved::Refused(refusal) => HostSaved {
-            refusal,
-            written: 0,
-        },
-    }
-}
+impl From<Point> for HostPoint {
+    ghost use Rattle.flat.specs.Flat.{hostPoint};
 
-pub fn flat_ufr(u: Ufr) -> HostUfr
-    ensures { result ≡ hostUfr u }
-{
-    match u {
-        Ufr::Found(ufr) => HostUfr { refusal: 0, ufr },
-        Ufr::Refused(refusal) => HostUfr { refusal, ufr: 0 },
+    ghost from_gives = { λ p host. host ≡ hostPoint p };
+
+    fn from(p: Point) -> HostPoint {
+        let (kind, lower, upper) = match p {
+            Point::Blank => (0, 0.0, 0.0),
+            Point::Factor(lower, upper) => (1, lower, upper),
+            Point::Money(lower, upper) => (2, lower, upper),
+        };
+        HostPoint { kind, lower, upper }
     }
 }

@@ -2,24 +2,24 @@
 // adds to a sum.
 #![tactic(auto)]
 
+pub mod flows;
+
 ghost use Rattle.std.specs.Prelude.{◌≡◌};
 ghost use Rattle.heldcase.specs.Held.{defaultCase};
 
+use flows::Flows;
 use model::case::{Amounts, People, Shocks};
 
 // `sums` has P(t) of the terms 1 to 60: over the days, the sum of 1 and the rate, in the units of the rates. `per_step` is what one rate
 // step adds to such a sum: the number of days, or 100 times that of rates of four bytes. N, which is 1 in these units, is 100,000 times
 // `per_step`.
-// Of `pension` and `bonds` the first `pension_count` and `bond_count` are flows, and the rest is 0.
 #[derive(Clone, Copy)]
 pub struct Case {
     pub ufr: u64,
     pub per_step: u64,
     pub sums: [u64; 60],
-    pub pension_count: usize,
-    pub pension: [u64; 120],
-    pub bond_count: usize,
-    pub bonds: [u64; 60],
+    pub pension: Flows<120>,
+    pub bonds: Flows<60>,
     pub amounts: Amounts,
     pub shocks: Shocks,
     pub people: People,
@@ -43,51 +43,23 @@ impl Case {
 
     // The last term that has a factor and a zero rate.
     pub const LAST_TERM: usize = 120;
+}
 
-    // The case with the default UFR and 0 in every other field.
-    pub fn default() -> Case
-        ensures { result ≡ defaultCase }
-    {
-        let amounts = Amounts {
-            mature: 0,
-            emerging: 0,
-            private: 0,
-            property: 0,
-            commodities: 0,
-            credit: 0,
-            cash: 0,
-            currency: 0,
-        };
-        let shocks = Shocks {
-            up_shift: 0,
-            down_shift: 0,
-            mature_fall: 0,
-            emerging_fall: 0,
-            private_fall: 0,
-            property_fall: 0,
-            currency_fall: 0,
-            commodities_fall: 0,
-            spread_rise: 0,
-            correlation: 0,
-            spread: 0,
-            duration: 0,
-        };
-        let people = People {
-            heads: 0,
-            pension_age: 0,
-            mean_age: 0,
-        };
+impl Default for Case {
+    ghost is_default = { λ c. c ≡ defaultCase };
+
+    // The case with the default UFR, no flows, and 0 in every other field. Not derived, since the default UFR is not 0.
+    #[tactic(auto, unfolding(crate::specs::Held::defaultCase))]
+    fn default() -> Case {
         Case {
             ufr: Case::DEFAULT_UFR,
             per_step: 0,
             sums: [0; 60],
-            pension_count: 0,
-            pension: [0; 120],
-            bond_count: 0,
-            bonds: [0; 60],
-            amounts,
-            shocks,
-            people,
+            pension: Flows::default(),
+            bonds: Flows::default(),
+            amounts: Amounts::default(),
+            shocks: Shocks::default(),
+            people: People::default(),
         }
     }
 }

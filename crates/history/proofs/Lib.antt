@@ -1,3 +1,3 @@
--- Raised: the sum of the months and its rounded mean as naturals. Answered: the answer of `ufr_of`, check by check.
-pub mod Raised
-pub mod Answered
+-- Read: a month that is read. Means: the months so far, and what a history gives.
+pub mod Read
+pub mod Means

@@ -10,25 +10,35 @@ ghost use Rattle.rollingmodel.specs.Rolling.{emptyWindow, addDay, dropDay, windo
 ghost use Rattle.method.specs.Window.{windowPoint};
 ghost use Rattle.method.specs.Listing.{listingAfter, listingLength};
 ghost use Rattle.savingmodel.specs.Saving.{given, saveAnswer, savedAfter};
-ghost use Rattle.flat.specs.Flat.{hostValuation, hostPoint, figuresFrom, valuationFrom, hostSaved, hostUfr};
+ghost use Rattle.flat.specs.Flat.{hostValuation, hostPoint, valuationFrom, hostSaved, hostUfr};
 ghost use Rattle.ratesplace.specs.Part.{hostPart};
+ghost use Rattle.refusal.specs.Numbered.{refused_by};
 
-use casefile::refusal_of;
 use engine::value;
-use flat::{
-    HostFigures, HostPoint, HostSaved, HostUfr, HostValuation, figures_from, flat_point,
-    flat_saved, flat_ufr, flat_valuation, valuation_from,
-};
+use flat::{HostPoint, HostSaved, HostUfr, HostValuation};
 use history::ufr_of;
 use listing::write_listing;
 use model::case::CaseFields;
+use model::figures::{Figures, Valuation};
 use months::value_with_months;
 use ratesplace::{HostPart, rates_place};
+use reader::file::refusal_of;
+use refusal::Refusal;
 use rolling::{add_day, drop_day, empty};
 use rollingmodel::{ChangedWindow, Day, RollingWindow};
 use rollingvalue::value_window;
+use saving::save;
 use window::window_point;
-use writer::save;
+
+// The number of a refusal, and 0 where there is none.
+fn number_of(answer: Result<(), Refusal>) -> u8
+    ensures { result ≡ refused_by answer }
+{
+    match answer {
+        Ok(()) => 0,
+        Err(refusal) => refusal.number(),
+    }
+}
 
 // Values a case file into two lent buffers, as `engine::value` does.
 #[unsafe(no_mangle)]
@@ -41,8 +51,7 @@ pub extern "C" fn ginghamowl_value(
     ensures factors { factors.new ≡ factorsAfter file.now factors.old rates.old }
     ensures rates { rates.new ≡ ratesAfter file.now factors.old rates.old }
 {
-    let valuation = value(file, factors, rates);
-    flat_valuation(valuation)
+    value(file, factors, rates).into()
 }
 
 // The number that a file is refused with; 0 where it is accepted. No buffers are lent, so never 13.
@@ -69,13 +78,11 @@ pub extern "C" fn ginghamowl_rates_part(file: &[u8]) -> HostPart
 pub extern "C" fn ginghamowl_window_point(
     point: u64,
     factors: &[u64],
-    figures: HostFigures,
+    figures: Figures,
 ) -> HostPoint
-    ensures { result ≡ hostPoint (windowPoint point factors.now (figuresFrom figures)) }
+    ensures { result ≡ hostPoint (windowPoint point factors.now figures) }
 {
-    let held = figures_from(figures);
-    let shown = window_point(point, factors, held);
-    flat_point(shown)
+    window_point(point, factors, figures).into()
 }
 
 // Writes the listing to the front of a lent buffer, and answers its length. A buffer that is too short
@@ -85,11 +92,10 @@ pub extern "C" fn ginghamowl_listing(valuation: HostValuation, out: &mut [u8]) -
     ensures value { result ≡ listingLength (valuationFrom valuation) (length out.old) }
     ensures text { out.new ≡ listingAfter (valuationFrom valuation) out.old }
 {
-    let v = valuation_from(valuation);
-    write_listing(v, out)
+    write_listing(Valuation::try_from(valuation), out)
 }
 
-// Saves a case, as `writer::save` does: writes its shortest file to the front of a lent buffer, and answers its length.
+// Saves a case, as `saving::save` does: writes its shortest file to the front of a lent buffer, and answers its length.
 #[unsafe(no_mangle)]
 pub extern "C" fn ginghamowl_save(
     fields: CaseFields,
@@ -102,8 +108,7 @@ pub extern "C" fn ginghamowl_save(
         (saveAnswer (given fields rates.now pension.now bonds.now) (length out.old)) }
     ensures buffer { out.new ≡ savedAfter (given fields rates.now pension.now bonds.now) out.old }
 {
-    let saved = save(fields, rates, pension, bonds, out);
-    flat_saved(saved)
+    save(&fields, rates, pension, bonds, out).into()
 }
 
 // An empty rolling window.
@@ -119,7 +124,9 @@ pub extern "C" fn ginghamowl_rolling_empty() -> RollingWindow
 pub extern "C" fn ginghamowl_rolling_add(window: RollingWindow, day: Day) -> ChangedWindow
     ensures { result ≡ addDay window day.rates }
 {
-    add_day(window, day)
+    let mut window = window;
+    let refusal = number_of(add_day(&mut window, &day));
+    ChangedWindow { refusal, window }
 }
 
 // The rolling window without its oldest day, as `rolling::drop_day` gives it.
@@ -127,7 +134,9 @@ pub extern "C" fn ginghamowl_rolling_add(window: RollingWindow, day: Day) -> Cha
 pub extern "C" fn ginghamowl_rolling_drop(window: RollingWindow) -> ChangedWindow
     ensures { result ≡ dropDay window }
 {
-    drop_day(window)
+    let mut window = window;
+    let refusal = number_of(drop_day(&mut window));
+    ChangedWindow { refusal, window }
 }
 
 // Values the days of a rolling window with the other fields of a case, as `rollingvalue::value_window` does.
@@ -149,8 +158,7 @@ pub extern "C" fn ginghamowl_rolling_value(
     ensures rates { rates.new ≡ windowRatesAfter window (given fields case_rates.now pension.now bonds.now)
         factors.old rates.old }
 {
-    let valuation = value_window(window, fields, case_rates, pension, bonds, factors, rates);
-    flat_valuation(valuation)
+    value_window(window, fields, case_rates, pension, bonds, factors, rates).into()
 }
 
 // The UFR that a history of months gives, as `history::ufr_of` finds it.
@@ -158,8 +166,7 @@ pub extern "C" fn ginghamowl_rolling_value(
 pub extern "C" fn ginghamowl_ufr_of(history: &[u8], start: u64) -> HostUfr
     ensures { result ≡ hostUfr (ufrAnswer history.now start) }
 {
-    let found = ufr_of(history, start);
-    flat_ufr(found)
+    ufr_of(history, start).into()
 }
 
 // Values a case file with the UFR that a history of months gives, as `months::value_with_months` does.
@@ -176,6 +183,5 @@ pub extern "C" fn ginghamowl_value_with_months(
     ensures factors { factors.new ≡ monthsFactorsAfter file.now history.now start factors.old rates.old }
     ensures rates { rates.new ≡ monthsRatesAfter file.now history.now start factors.old rates.old }
 {
-    let valuation = value_with_months(file, history, start, factors, rates);
-    flat_valuation(valuation)
+    value_with_months(file, history, start, factors, rates).into()
 }

@@ -1,4 +1,3 @@
 -- Laws that the proofs of the functions cite.
 pub mod Texts
-pub mod Copied
 pub mod Worked

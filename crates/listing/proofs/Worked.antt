@@ -1,12 +1,12 @@
 -- The listing that the paper prints of file C1, from its figures and its verdict, and one of a refusal. Assumes nothing.
 use mathlib.Core.Path.{◌≡◌, refl}
 use Prim.Native.Nat.{ℕ}
+use Rattle.std.specs.Prelude.{Ok, Err}
 use Rattle.model.specs.Numbers.{table}
 use Rattle.method.specs.Listing.{ascii, digits, decimal, word, line, listing}
-use Rattle.model.specs.declared.figures.Bracket.{Bracket}
+use Rattle.arith.specs.declared.bracket.Bracket.{Bracket}
 use Rattle.model.specs.declared.figures.Figures.{Figures}
 use Rattle.model.specs.declared.figures.Verdict.TheVariants.{VrijVermogen}
-use Rattle.model.specs.declared.figures.Valuation.TheVariants.{Refused, Valued}
 
 both : ℕ → Bracket
 both n = record { lower = n; upper = n }
@@ -27,11 +27,11 @@ figuresC1 = record {
 }
 
 pub listing-C1 :
-    listing (Valued figuresC1 VrijVermogen)
+    listing (Ok (record { figures = figuresC1; verdict = VrijVermogen }))
     ≡ ascii "L 100000000 100000000\nB 0 0\nA 110000000 110000000\nS1 0 0\nS2 0 0\nS3 0 0\nS4 0 0\nS5 0 0\nS6 10000000 10000000\nS 10000000 10000000\nV VRIJ VERMOGEN\n"
 unfolding both figuresC1 table ascii digits decimal word line listing
 listing-C1 = refl
 
-pub listing-13 : listing (Refused 13) ≡ ascii "R 13\n"
+pub listing-13 : listing (Err 13) ≡ ascii "R 13\n"
 unfolding table ascii digits decimal listing
 listing-13 = refl

@@ -1,66 +1,129 @@
-// The listing of a valuation, written into a lent buffer.
+// The listing of a valuation: its text, and the text in a lent buffer.
 #![tactic(auto)]
 
-ghost use Rattle.std.specs.Prelude.{◌≡◌, ◌+◌, ◌≤◌, length, take};
-ghost use Rattle.method.specs.Listing.{listing, listingAfter, listingLength};
-ghost use Rattle.output.specs.inner.Wrote.{Wrote};
-ghost use Rattle.listing.specs.inner.Judged.{judged};
+ghost use Rattle.std.specs.Prelude.{◌≡◌, ◌+◌, ◌≤◌, ◌++◌, All, length, take};
+ghost use Rattle.std.specs.List.{flat_map};
+ghost use Rattle.arrayvec.specs.ArrayVec.{array_vec_len};
+ghost use Rattle.method.specs.Listing.{decimal, word, listing, listingAfter, listingLength};
+ghost use Rattle.listing.specs.inner.Parts.{spaced, named, figureLines, judged};
 
-use lines::put_figures;
-use model::figures::{Figures, Valuation, Verdict};
-use output::{put, put_digits, put_word};
+use arrayvec::ArrayVec;
+use itoa::Buffer;
+use model::figures::{Bracket, Figures, Valuation, Verdict};
 
-// V and the verdict.
-fn put_verdict(buf: &mut [u8], at: usize, v: Verdict) -> usize
-    requires { at + 17 ≤ length buf.old }
-    ensures { Wrote buf.old at (judged v) 17 result buf.new }
+// No listing is longer.
+pub type Text = ArrayVec<u8, 512>;
+
+// Appends bytes.
+fn push(text: &mut Text, bytes: &[u8])
+    requires { array_vec_len text.old + length bytes.now ≤ 512 }
+    ensures items { text.new.items ≡ text.old.items ++ bytes.now }
+    ensures len { array_vec_len text.new ≡ array_vec_len text.old + length bytes.now }
 {
-    let at_word = put(buf, at, b"V ");
-    let at_end = put_word(buf, at_word, v);
-    put(buf, at_end, b"\n")
+    let _fits = text.try_extend_from_slice(bytes);
 }
 
-// All lines of a case that was valued.
-fn put_valued(buf: &mut [u8], f: Figures, v: Verdict) -> usize
-    requires { 512 ≤ length buf.old }
-    ensures { Wrote buf.old 0 (listing (Valuation.Valued f v)) 512 result buf.new }
+// A space and a number.
+fn push_number(text: &mut Text, n: u64)
+    requires { array_vec_len text.old + 21 ≤ 512 }
+    ensures items { text.new.items ≡ text.old.items ++ spaced n }
+    ensures len { array_vec_len text.new ≤ array_vec_len text.old + 21 }
 {
-    let at_verdict = put_figures(buf, 0, f);
-    put_verdict(buf, at_verdict, v)
+    push(text, b" ");
+    let mut buffer = Buffer::new();
+    push(text, buffer.format(n).as_bytes());
 }
 
-// R and the number of a refusal, the only line of a file that was refused.
-fn put_refused(buf: &mut [u8], refusal: u8) -> usize
-    requires { 512 ≤ length buf.old }
-    ensures { Wrote buf.old 0 (listing (Valuation.Refused refusal)) 512 result buf.new }
+// One line: name, lower, upper.
+#[tactic(auto, unfolding(crate::specs::inner::Parts::named, method::specs::Listing::ascii, model::specs::Numbers::table))]
+fn push_line(text: &mut Text, name: &[u8], b: Bracket)
+    requires { (length name.now ≤ 2) × (array_vec_len text.old + 45 ≤ 512) }
+    ensures items { text.new.items ≡ text.old.items ++ named name.now b }
+    ensures len { array_vec_len text.new ≤ array_vec_len text.old + 45 }
 {
-    let at_number = put(buf, 0, b"R ");
-    let at_end = put_digits(buf, at_number, 20, refusal as u64);
-    put(buf, at_end, b"\n")
+    push(text, name);
+    push_number(text, b.lower);
+    push_number(text, b.upper);
+    push(text, b"\n");
 }
 
-// The text of a valuation, from the front.
-fn put_valuation(buf: &mut [u8], v: Valuation) -> usize
-    requires { 512 ≤ length buf.old }
-    ensures { Wrote buf.old 0 (listing v) 512 result buf.new }
+// The figures under their names, in document 01's order.
+fn named_figures(f: Figures) -> [(&'static [u8], Bracket); 10]
+    ensures lines { flat_map (λ p. named p.0.now p.1) result ≡ figureLines f }
+    ensures short { All (λ p. length p.0.now ≤ 2) result }
 {
-    match v {
-        Valuation::Refused(refusal) => put_refused(buf, refusal),
-        Valuation::Valued(f, verdict) => put_valued(buf, f, verdict),
+    [
+        (b"L", f.l),
+        (b"B", f.b),
+        (b"A", f.a),
+        (b"S1", f.s1),
+        (b"S2", f.s2),
+        (b"S3", f.s3),
+        (b"S4", f.s4),
+        (b"S5", f.s5),
+        (b"S6", f.s6),
+        (b"S", f.s),
+    ]
+}
+
+// The lines of all ten figures.
+fn push_figures(text: &mut Text, f: Figures)
+    requires { array_vec_len text.old + 450 ≤ 512 }
+    ensures items { text.new.items ≡ text.old.items ++ figureLines f }
+    ensures len { array_vec_len text.new ≤ array_vec_len text.old + 450 }
+{
+    for (name, bracket) in named_figures(f) {
+        push_line(text, name, bracket);
     }
 }
 
-// Writes the listing of a valuation to the front of a buffer, and answers its length. It is first written into an array, so
-// that a buffer that is too short is left alone; then the answer is 0.
-pub fn write_listing(v: Valuation, out: &mut [u8]) -> usize
+// The word of a verdict.
+#[tactic(auto, unfolding(method::specs::Listing::word, method::specs::Listing::ascii, model::specs::Numbers::table))]
+fn word_of(v: Verdict) -> &'static [u8]
+    ensures word { result.now ≡ word v }
+    ensures short { length result.now ≤ 14 }
+{
+    match v {
+        Verdict::Dekkingstekort => b"DEKKINGSTEKORT",
+        Verdict::Reservetekort => b"RESERVETEKORT",
+        Verdict::VrijVermogen => b"VRIJ VERMOGEN",
+        Verdict::Onbeslist => b"ONBESLIST",
+    }
+}
+
+// The listing of a valuation, or of the number of a refusal.
+#[tactic(auto, unfolding(method::specs::Listing::listing, method::specs::Listing::ascii, model::specs::Numbers::table, crate::specs::inner::Parts::spaced, crate::specs::inner::Parts::figureLines))]
+pub fn text_of(v: Result<Valuation, u8>) -> Text
+    ensures { result.items ≡ listing v }
+{
+    let mut text = Text::new();
+    match v {
+        Ok(valued) => {
+            push_figures(&mut text, valued.figures);
+            push(&mut text, b"V ");
+            push(&mut text, word_of(valued.verdict));
+        }
+        Err(number) => {
+            push(&mut text, b"R");
+            push_number(&mut text, u64::from(number));
+        }
+    }
+    push(&mut text, b"\n");
+    text
+}
+
+/// Writes the listing of a valuation to the front of a buffer, and answers its length. A buffer that is too short is left alone; then
+/// the answer is 0, as C is told it. The error is the number of a refusal, also one that a host made up.
+pub fn write_listing(v: Result<Valuation, u8>, out: &mut [u8]) -> usize
     ensures count { result ≡ listingLength v (length out.old) }
     ensures text { out.new ≡ listingAfter v out.old }
     ensures part { (result ≤ length out.new) × (result ≡ length (take result out.new)) }
 {
-    let mut text = [0u8; 512];
-    let used = put_valuation(&mut text, v);
+    let text = text_of(v);
+    let used = text.len();
     if out.len() < used {
         return 0;
     }
-    put(out, 0, &text[..used])
+    out[..used].copy_from_slice(text.as_slice());
+    used
 }

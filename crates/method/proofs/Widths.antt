@@ -3,11 +3,11 @@
 -- Assumes nothing.
 use native.Mathlib.Omega.{arith}
 use lib.Dec.{lit≤}
+use Rattle.std.specs.Prelude.{ℕ, Result, Ok, Err}
 use Rattle.model.specs.Case.{FileCase}
 use Rattle.method.specs.Buffers.{answered}
 use Rattle.method.specs.Demand3.{WideAtMost, LWidthMost, BWidthMost, AWidthMost, SWidthMost}
 use Rattle.model.specs.declared.figures.Valuation.{Valuation}
-use Rattle.model.specs.declared.figures.Valuation.TheVariants.{Refused, Valued}
 use Rattle.method.proofs.Computing.{all}
 use Rattle.method.proofs.Pinned.{upCase, downCase}
 
@@ -16,13 +16,13 @@ width-border : WideAtMost 3 (record { lower = 5; upper = 8 }) × (WideAtMost 3 (
 width-border = (lit≤ tt, λ h. omega arith)
 
 -- L, B, A and S of an answer are as narrow as the demand says; a refusal has no figure
-abbrev pub Narrow : FileCase → Valuation → Type 0
-Narrow k (Refused number) = ⊥
-Narrow k (Valued figures verdict) =
-    WideAtMost (LWidthMost k) figures.l
-    × WideAtMost (BWidthMost k) figures.b
-    × WideAtMost (AWidthMost k) figures.a
-    × WideAtMost (SWidthMost k) figures.s
+abbrev pub Narrow : FileCase → Result Valuation ℕ → Type 0
+Narrow k (Err number) = ⊥
+Narrow k (Ok v) =
+    WideAtMost (LWidthMost k) v.figures.l
+    × WideAtMost (BWidthMost k) v.figures.b
+    × WideAtMost (AWidthMost k) v.figures.a
+    × WideAtMost (SWidthMost k) v.figures.s
 
 up-widths : Narrow upCase (answered 0 upCase)
 unfolding all

@@ -21,7 +21,7 @@ use Rattle.method.specs.Rounded as Rounded
 use Rattle.method.specs.Buffers.{valuationRefusal, valuationOf, factorsAfter, ratesAfter}
 use Rattle.method.specs.Window.{double, windowPoint}
 use Rattle.method.specs.Listing.{ascii, listing}
-use Rattle.model.specs.declared.figures.Bracket.{Bracket}
+use Rattle.arith.specs.declared.bracket.Bracket.{Bracket}
 use Rattle.model.specs.declared.figures.Figures.{Figures}
 use Rattle.model.specs.declared.figures.Verdict.TheVariants.{Reservetekort, VrijVermogen}
 use Rattle.model.specs.declared.window.Point.TheVariants.{Factor, Money, Blank}

@@ -1,15 +1,5 @@
--- A bracket by its two ends, and the two searches by which the ends of a zero rate's bracket are defined.
+-- The two searches by which the ends of a zero rate's bracket are defined.
 use Rattle.std.specs.Prelude.{ℕ, zero, suc, Bool, cond}
-use Rattle.arith.specs.Rounding.{End, low, high}
-use Rattle.model.specs.declared.figures.Bracket.{Bracket}
-
--- a bracket from its ends, and an end of a bracket
-abbrev pub bracket : (End → ℕ) → Bracket
-bracket figure = record { lower = figure low; upper = figure high }
-
-abbrev pub end_of : Bracket → End → ℕ
-end_of b low = b.lower
-end_of b high = b.upper
 
 -- the largest index below n that passes, and the smallest of the n indices from i on; `none` where none passes
 unfoldable pub largest : (ℕ → Bool) → ℕ → ℕ → ℕ

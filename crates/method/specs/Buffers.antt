@@ -1,5 +1,5 @@
 -- What a valuation answers, and what the lent buffers hold after it (document 01, 'Buffers, window, print' and the order of checks).
-use Rattle.std.specs.Prelude.{ℕ, zero, suc, ◌+◌, ◌*◌, ◌-◌, ◌&&◌, List, [], ◌∷◌, ◌++◌, leb, length, get_or, drop, ℤ, pos}
+use Rattle.std.specs.Prelude.{ℕ, zero, suc, ◌+◌, ◌*◌, ◌-◌, ◌&&◌, List, [], ◌∷◌, ◌++◌, leb, length, get_or, drop, ℤ, pos, Result, Ok, Err}
 use Rattle.arith.specs.Rounding.{End, low, high}
 use Rattle.model.specs.Constants.{lastTerm}
 use Rattle.model.specs.Case.{FileCase}
@@ -9,7 +9,6 @@ use Rattle.model.specs.Refusals.{first_of, checks}
 use Rattle.method.specs.Curve.{base, curve}
 use Rattle.method.specs.Rounded as Rounded
 use Rattle.model.specs.declared.figures.Valuation.{Valuation}
-use Rattle.model.specs.declared.figures.Valuation.TheVariants.{Refused, Valued}
 
 -- "13: the lent buffer for factors or for rates has fewer than 240 entries.": by the lengths of the two buffers
 abbrev pub buffersCheck : ℕ → ℕ → Check
@@ -56,14 +55,14 @@ ratesAfter file factors rates =
     written (valuationRefusal (length factors) (length rates) file) (rateEntries (case_of file)) rates
 
 -- "A refusal returns only its number"
-abbrev pub answered : ℕ → FileCase → Valuation
-answered zero k = Valued (Rounded.figures k) (Rounded.verdict k)
-answered (suc r) k = Refused (suc r)
+abbrev pub answered : ℕ → FileCase → Result Valuation ℕ
+answered zero k = Ok (record { figures = Rounded.figures k; verdict = Rounded.verdict k })
+answered (suc r) k = Err (suc r)
 
-unfoldable pub valuationOf : ℕ → ℕ → List ℕ → Valuation
+unfoldable pub valuationOf : ℕ → ℕ → List ℕ → Result Valuation ℕ
 valuationOf factors rates file = answered (valuationRefusal factors rates file) (case_of file)
 
 -- the number that document 01 gives an answer: that of a refusal, and 0 for a case that is valued
-abbrev pub refusalNumber : Valuation → ℕ
-refusalNumber (Refused r) = r
-refusalNumber (Valued figures verdict) = 0
+abbrev pub refusalNumber : Result Valuation ℕ → ℕ
+refusalNumber (Err r) = r
+refusalNumber (Ok v) = 0

@@ -9,9 +9,9 @@ use Rattle.model.specs.Case.{FileCase}
 use Rattle.model.specs.Limits.{Between}
 use Rattle.method.specs.Curve.{Move, base, curve, natural, P}
 use Rattle.method.specs.Exact as Exact
-use Rattle.method.specs.Brackets.{end_of}
+use Rattle.arith.specs.Brackets.{end_of}
 use Rattle.method.specs.Margins.{WL, WB, NearFirst, NearSecond, firstMargin, secondMargin}
-use Rattle.model.specs.declared.figures.Bracket.{Bracket}
+use Rattle.arith.specs.declared.bracket.Bracket.{Bracket}
 use Rattle.model.specs.declared.figures.Figures.{Figures}
 use Rattle.model.specs.declared.figures.Verdict.{Verdict}
 use Rattle.model.specs.declared.figures.Verdict.TheVariants.{Onbeslist}

@@ -1,13 +1,12 @@
 -- The listing, as bytes (document 01, 'Buffers, window, print').
-use Rattle.std.specs.Prelude.{ℕ, zero, suc, ◌+◌, ◌/◌, ◌%◌, cond, List, [], ◌∷◌, ◌++◌, leb, ltb, length, drop}
+use Rattle.std.specs.Prelude.{ℕ, zero, suc, ◌+◌, ◌/◌, ◌%◌, cond, List, [], ◌∷◌, ◌++◌, leb, ltb, length, drop, Result, Ok, Err}
 use Prim.Native.Char.{code}
 use Prim.Native.String.{String, len, char_at}
 use Rattle.model.specs.Numbers.{table}
-use Rattle.model.specs.declared.figures.Bracket.{Bracket}
+use Rattle.arith.specs.declared.bracket.Bracket.{Bracket}
 use Rattle.model.specs.declared.figures.Verdict.{Verdict}
 use Rattle.model.specs.declared.figures.Verdict.TheVariants.{Dekkingstekort, Reservetekort, VrijVermogen, Onbeslist}
 use Rattle.model.specs.declared.figures.Valuation.{Valuation}
-use Rattle.model.specs.declared.figures.Valuation.TheVariants.{Refused, Valued}
 
 -- the bytes of a text in ASCII
 unfoldable pub ascii : String → List ℕ
@@ -33,19 +32,20 @@ unfoldable pub line : String → Bracket → List ℕ
 line name b = ascii name ++ ascii " " ++ decimal b.lower ++ ascii " " ++ decimal b.upper ++ ascii "\n"
 
 -- "then V and the verdict"; "A refused file prints R and its number, one space between, as its only line."
-unfoldable pub listing : Valuation → List ℕ
-listing (Refused r) = ascii "R " ++ decimal r ++ ascii "\n"
-listing (Valued f v) =
+unfoldable pub listing : Result Valuation ℕ → List ℕ
+listing (Err r) = ascii "R " ++ decimal r ++ ascii "\n"
+listing (Ok v) =
+    let f = v.figures in
     line "L" f.l ++ line "B" f.b ++ line "A" f.a ++ line "S1" f.s1 ++ line "S2" f.s2 ++ line "S3" f.s3
     ++ line "S4" f.s4 ++ line "S5" f.s5 ++ line "S6" f.s6 ++ line "S" f.s
-    ++ ascii "V " ++ word v ++ ascii "\n"
+    ++ ascii "V " ++ word v.verdict ++ ascii "\n"
 
 -- a lent buffer after the listing was written into it: its later bytes keep their content, and one that is too short is left alone
-unfoldable pub listingAfter : Valuation → List ℕ → List ℕ
+unfoldable pub listingAfter : Result Valuation ℕ → List ℕ → List ℕ
 listingAfter v held =
     let text = listing v in
     cond (leb (length text) (length held)) (text ++ drop (length text) held) held
 
 -- how many bytes were written: 0 where the buffer is too short
-unfoldable pub listingLength : Valuation → ℕ → ℕ
+unfoldable pub listingLength : Result Valuation ℕ → ℕ → ℕ
 listingLength v room = let text = listing v in cond (leb (length text) room) (length text) 0

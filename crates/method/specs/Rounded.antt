@@ -5,7 +5,8 @@ use Rattle.arith.specs.Rounding.{End, low, high, other, divide}
 use Rattle.arith.specs.Root.{root}
 use Rattle.model.specs.Constants.{stepsPerOne, unit, lastUnweighedTerm, lastMarketTerm}
 use Rattle.model.specs.Case.{FileCase, allExceptCurrency, ageGap}
-use Rattle.method.specs.Brackets.{bracket, largest, smallest}
+use Rattle.arith.specs.Brackets.{bracket}
+use Rattle.method.specs.Brackets.{largest, smallest}
 use Rattle.method.specs.Curve.{Curve, Move, base, up, down, curve, P, weight}
 use Rattle.model.specs.declared.case.Amounts.{Amounts}
 use Rattle.model.specs.declared.case.Shocks.{Shocks}

@@ -2,7 +2,7 @@
 
 // Amounts in euros. Hosts hand in amounts, shocks and people as C lays structs out.
 #[repr(C)]
-#[derive(Clone, Copy)]
+#[derive(Clone, Copy, Default)]
 pub struct Amounts {
     pub mature: u64,
     pub emerging: u64,
@@ -17,7 +17,7 @@ pub struct Amounts {
 // Shifts and spread in rate steps, falls, spread rise and correlation in thousandths, the duration
 // in tenths of a year.
 #[repr(C)]
-#[derive(Clone, Copy)]
+#[derive(Clone, Copy, Default)]
 pub struct Shocks {
     pub up_shift: u64,
     pub down_shift: u64,
@@ -35,7 +35,7 @@ pub struct Shocks {
 
 // The head count, and the ages in months.
 #[repr(C)]
-#[derive(Clone, Copy)]
+#[derive(Clone, Copy, Default)]
 pub struct People {
     pub heads: u64,
     pub pension_age: u64,

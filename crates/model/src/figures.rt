@@ -1,13 +1,10 @@
-// What a valuation gives: brackets in cents, the verdict, or the number of a refusal.
+// What a valuation gives: brackets in cents, and the verdict. Hosts are given brackets and figures as C lays structs out.
 
-#[derive(Clone, Copy)]
-pub struct Bracket {
-    pub lower: u64,
-    pub upper: u64,
-}
+pub use arith::bracket::Bracket;
 
 // The ten money figures of document 01, by its names.
-#[derive(Clone, Copy)]
+#[repr(C)]
+#[derive(Clone, Copy, Default)]
 pub struct Figures {
     pub l: Bracket,
     pub b: Bracket,
@@ -21,16 +18,18 @@ pub struct Figures {
     pub s: Bracket,
 }
 
+// The numbers are those that a host is told.
 #[derive(Clone, Copy)]
 pub enum Verdict {
-    Dekkingstekort,
+    Dekkingstekort = 1,
     Reservetekort,
     VrijVermogen,
     Onbeslist,
 }
 
+// What a case that is not refused is worth.
 #[derive(Clone, Copy)]
-pub enum Valuation {
-    Refused(u8),
-    Valued(Figures, Verdict),
+pub struct Valuation {
+    pub figures: Figures,
+    pub verdict: Verdict,
 }

@@ -9,6 +9,7 @@ use borrow.Author.Tests.{le-leb, lt-leb}
 use lib.Dec.{leb, lit<}
 use lib.IntN.{ℤ}
 use lib.ListN.{length, drop}
+use Rattle.std.specs.Prelude.{Result, Ok, Err}
 use Rattle.method.specs.Buffers.{valuationRefusal}
 use Rattle.model.specs.Case.{FileCase, perStep, withUfr}
 use Rattle.method.specs.Curve.{base, curve, P}
@@ -19,16 +20,12 @@ use Rattle.monthsmodel.specs.Months.{ufrRefusal, ufrFound, foundOr, ufrAnswer, m
 use Rattle.model.specs.Refusals.{first_of, refusal}
 use Rattle.heldcase.specs.declared.Case.{Case}
 use Rattle.model.specs.declared.figures.Valuation.{Valuation}
-use Rattle.model.specs.declared.figures.Valuation.TheVariants.{Refused, Valued}
-use Rattle.monthsmodel.specs.declared.Ufr.{Ufr}
-use Rattle.monthsmodel.specs.declared.Ufr.TheVariants.{Found, Refused as RefusedHistory}
 use Rattle.theory.proofs.curve.Changed.{ufr-P}
 use Rattle.theory.proofs.general.Lists.{and-false, table_same}
 use Rattle.theory.proofs.months.Valued.{own_first, history-after, within-limits}
-use Rattle.casefile.specs.Answers.{reading_of}
-use Rattle.casefile.specs.declared.Answer.TheVariants.{Accepted, Refused as RefusedFile}
-use Rattle.casefile.specs.declared.Reading.{Reading}
-use Rattle.casefile.proofs.AcceptedReading.{accepted-reading, refused-number}
+use Rattle.refusal.specs.Numbered.{number_of}
+use Rattle.refusal.specs.declared.Refusal.{Refusal}
+use Rattle.reader.proofs.Steps.{some_number}
 use Rattle.working.specs.inner.Ranges.{CaseFits}
 use Rattle.working.specs.inner.Working.{factorsOn, ratesOn, moneyOf}
 use Rattle.working.proofs.HeldCase.{held_fits, held-valued}
@@ -44,15 +41,15 @@ changed-held ufr k =
 -- ---- what a history gives
 
 -- the number in either answer
-abbrev number_in : Ufr → ℕ
-number_in (Found ufr) = ufr
-number_in (RefusedHistory number) = number
+abbrev number_in : Result ℕ ℕ → ℕ
+number_in (Ok ufr) = ufr
+number_in (Err number) = number
 
-found_of : (r ufr n : ℕ) → foundOr r ufr ≡ Found n → (r ≡ 0) × (ufr ≡ n)
+found_of : (r ufr n : ℕ) → foundOr r ufr ≡ Ok n → (r ≡ 0) × (ufr ≡ n)
 found_of zero ufr n e = (refl, ap number_in e)
 found_of (suc r) ufr n e = let x : ◌≡◌ {A = ℕ} 0 1 = cc in let never : ⊥ = omega arith in absurd never
 
-refused-of : (r ufr n : ℕ) → foundOr r ufr ≡ RefusedHistory n → (r ≡ n) × (0 < n)
+refused-of : (r ufr n : ℕ) → foundOr r ufr ≡ Err n → (r ≡ n) × (0 < n)
 refused-of zero ufr n e = let x : ◌≡◌ {A = ℕ} 0 1 = cc in let never : ⊥ = omega arith in absurd never
 refused-of (suc r) ufr n e = let is = ap number_in e in (is, omega arith)
 
@@ -61,51 +58,51 @@ module _ (file history : List ℕ) (start : ℕ) (f₀ : List ℕ) (z₀ : List 
   number = monthsRefusal file history start (length f₀) (length z₀)
 
   -- the contract of `value_with_months`: the answer, and both buffers at the end
-  abbrev pub Meets : Valuation → List ℕ → List ℤ → Type 0
-  Meets v fs zs = record {
-    value : v ≡ monthsValuation file history start (length f₀) (length z₀);
+  abbrev pub Meets : Result Valuation ℕ → List ℕ → List ℤ → Type 0
+  Meets answer fs zs = record {
+    value : answer ≡ monthsValuation file history start (length f₀) (length z₀);
     factors : fs ≡ monthsFactorsAfter file history start f₀ z₀;
     rates : zs ≡ monthsRatesAfter file history start f₀ z₀;
   }
 
-  refused-with : (n : ℕ) → number ≡ n → 0 < n → Meets (Refused n) f₀ z₀
+  refused-with : (n : ℕ) → number ≡ n → 0 < n → Meets (Err n) f₀ z₀
   unfolding monthsValuation monthsFactorsAfter monthsRatesAfter
   refused-with zero e l = let never : ⊥ = omega arith in absurd never
   refused-with (suc n) e l = record { value = rw e; factors = rw e; rates = rw e }
 
-  short : (leb 240 (length f₀) && leb 240 (length z₀)) ≡ false → Meets (Refused 13) f₀ z₀
+  short : (leb 240 (length f₀) && leb 240 (length z₀)) ≡ false → Meets (Err 13) f₀ z₀
   unfolding monthsRefusal first_of
   short h = refused-with 13 (rw h) (lit< tt)
 
-  pub short-factors : length f₀ < 240 → Meets (Refused 13) f₀ z₀
+  pub short-factors : length f₀ < 240 → Meets (Err 13) f₀ z₀
   short-factors h = short (rw (lt-leb 240 (length f₀) h))
 
-  pub short-rates : length z₀ < 240 → Meets (Refused 13) f₀ z₀
+  pub short-rates : length z₀ < 240 → Meets (Err 13) f₀ z₀
   short-rates h = short (and-false (leb 240 (length f₀)) (leb 240 (length z₀)) (lt-leb 240 (length z₀) h))
 
-  module _ (hf : 240 ≤ length f₀) (hz : 240 ≤ length z₀) (r : Reading) (read : r ≡ reading_of file) where
+  module _ (hf : 240 ≤ length f₀) (hz : 240 ≤ length z₀) where
     own : valuationRefusal (length f₀) (length z₀) file ≡ refusal file
     unfolding valuationRefusal refusal first_of
     own = rw (le-leb 240 (length f₀) hf, le-leb 240 (length z₀) hz)
 
-    pub refused-file : (n : ℕ) → r.answer ≡ RefusedFile n → Meets (Refused n) f₀ z₀
-    refused-file n a = let (is, some) = refused-number file r read n a in go n is some
+    pub refused-file : (e : Refusal) → number_of e ≡ refusal file → Meets (Err (number_of e)) f₀ z₀
+    refused-file e k = go (number_of e) (sym k) (some_number e)
       where
-        go : (n : ℕ) → refusal file ≡ n → ((n ≡ 0) → ⊥) → Meets (Refused n) f₀ z₀
-        go zero is some = absurd (some refl)
+        go : (n : ℕ) → refusal file ≡ n → 0 < n → Meets (Err n) f₀ z₀
+        go zero is some = let never : ⊥ = omega arith in absurd never
         go (suc m) is some = refused-with (suc m) (own_first file history start (length f₀) (length z₀) m (own ∙ is)) (omega arith)
 
-    module _ (a : r.answer ≡ Accepted) {found : Ufr} (given : found ≡ ufrAnswer history start) where
+    module _ (accepted : 0 ≡ refusal file) {found : Result ℕ ℕ} (given : found ≡ ufrAnswer history start) where
       later : number ≡ ufrRefusal history start
-      later = history-after file history start (length f₀) (length z₀) (own ∙ (accepted-reading file r read a).noRefusal)
+      later = history-after file history start (length f₀) (length z₀) (own ∙ sym accepted)
 
-      pub refused-history : (n : ℕ) → found ≡ RefusedHistory n → Meets (Refused n) f₀ z₀
+      pub refused-history : (n : ℕ) → found ≡ Err n → Meets (Err n) f₀ z₀
       unfolding ufrAnswer
       refused-history n e =
           let (is, some) = refused-of (ufrRefusal history start) (ufrFound history) n (sym given ∙ e) in
           refused-with n (later ∙ is) some
 
-      module _ {ufr : ℕ} {case : Case} (e : found ≡ Found ufr) (made : case ≡ changed ufr r.«case») where
+      module _ {ufr : ℕ} {case : Case} (e : found ≡ Ok ufr) {k : Case} (holds : k ≡ held (case_of file)) (made : case ≡ changed ufr k) where
         none : (number ≡ 0) × (ufrFound history ≡ ufr)
         unfolding ufrAnswer
         none =
@@ -114,7 +111,7 @@ module _ (file history : List ℕ) (start : ℕ) (f₀ : List ℕ) (z₀ : List 
 
         case-holds : case ≡ held (monthsCase file history)
         case-holds =
-            made ∙ ap₂ changed (sym none.1) (accepted-reading file r read a).holds ∙ changed-held (ufrFound history) (case_of file)
+            made ∙ ap₂ changed (sym none.1) holds ∙ changed-held (ufrFound history) (case_of file)
 
         limits : WithinLimits (monthsCase file history)
         limits = within-limits file history start (length f₀) (length z₀) none.0
@@ -123,10 +120,10 @@ module _ (file history : List ℕ) (start : ℕ) (f₀ : List ℕ) (z₀ : List 
         case-fits = subst CaseFits (sym case-holds) (held_fits (monthsCase file history) limits)
 
         pub valued-months : {v : Valuation} {factors : List ℕ} {rates : List ℤ}
-            → v ≡ Valued (moneyOf case).figures (moneyOf case).verdict
+            → v ≡ moneyOf case
             → factors ≡ factorsOn case base ++ drop 240 f₀
             → rates ≡ ratesOn case ++ drop 240 z₀
-            → Meets v factors rates
+            → Meets (Ok v) factors rates
         unfolding monthsValuation monthsFactorsAfter monthsRatesAfter
         valued-months p q t =
             let (x, (y, z)) = held-valued (monthsCase file history) limits f₀ z₀ case-holds p q t in

@@ -9,12 +9,12 @@ use mathlib.Core.Path.{◌≡◌, refl}
 use mathlib.Core.List.{List, [], ◌∷◌, ◌++◌}
 use lib.ListN.{replicate, take, drop}
 use lib.IntN.{pos, neg_ℤ}
+use Rattle.std.specs.Prelude.{Ok, Err}
 use Rattle.arith.specs.Rounding.{low, high}
 use Rattle.method.specs.Buffers.{entry_of, rateEntryOf}
 use Rattle.monthsmodel.specs.Months.{monthsOf, oldestFirst, total, ufrRefusal, ufrAnswer}
 use Rattle.monthsmodel.specs.Months.{monthsRefusal, monthsValuation, monthsFactorsAfter, monthsRatesAfter}
 use Rattle.method.specs.Listing.{listing}
-use Rattle.monthsmodel.specs.declared.Ufr.TheVariants.{Found, Refused}
 use Rattle.model.proofs.Computing.{pairs}
 use Rattle.method.proofs.Computing.{text}
 use Rattle.monthsmodel.proofs.Computing.{all}
@@ -66,9 +66,9 @@ every-history-refusals : every-historyRefusals ≡ 17 ∷ 17 ∷ 17 ∷ 17 ∷ 1
 unfolding all
 every-history-refusals = refl
 
-ufr-answers : (ufrAnswer foundHistory 119 ≡ Found 3100)
-    × (ufrAnswer foundHistory 120 ≡ Refused 17)
-    × (ufrAnswer noUfrHistory 0 ≡ Refused 19)
+ufr-answers : (ufrAnswer foundHistory 119 ≡ Ok 3100)
+    × (ufrAnswer foundHistory 120 ≡ Err 17)
+    × (ufrAnswer noUfrHistory 0 ≡ Err 19)
 unfolding all
 ufr-answers = (refl, refl, refl)
 

@@ -1,6 +1,6 @@
 -- The UFR from ten years of months (document 02, request Five): the mean of 120 month-end forward rates, rounded to the nearest 100 steps;
 -- its checks; and a case file valued with that UFR, as if it stood in the file's UFR field.
-use Rattle.std.specs.Prelude.{ℕ, zero, suc, ◌+◌, ◌/◌, ◌≤◌, ◌≡◌, ◌&&◌, cond, List, [], ◌∷◌, ◌++◌, leb, eqb, length, get_or, drop, ℤ, pos, negsuc, nat_abs, ◌+ℤ◌, ◌-ℤ◌, ◌*ℤ◌, ◌≤ℤ◌}
+use Rattle.std.specs.Prelude.{ℕ, zero, suc, ◌+◌, ◌/◌, ◌≤◌, ◌≡◌, ◌&&◌, cond, List, [], ◌∷◌, ◌++◌, leb, eqb, length, get_or, drop, ℤ, pos, negsuc, nat_abs, ◌+ℤ◌, ◌-ℤ◌, ◌*ℤ◌, ◌≤ℤ◌, Result, Ok, Err}
 use Rattle.model.specs.Numbers.{bytes_of, table}
 use Rattle.model.specs.Case.{FileCase, withUfr}
 use Rattle.model.specs.Fields.{Check, Fixed, several, rightAll, withinZ}
@@ -11,8 +11,6 @@ use Rattle.method.specs.Buffers as Buffers
 use Rattle.method.specs.Buffers.{buffersCheck, factorEntries, rateEntries, written, answered, valuationOf}
 use Rattle.rollingmodel.specs.Rolling.{slot}
 use Rattle.model.specs.declared.figures.Valuation.{Valuation}
-use Rattle.monthsmodel.specs.declared.Ufr.{Ufr}
-use Rattle.monthsmodel.specs.declared.Ufr.TheVariants.{Found, Refused}
 
 -- ---- the history
 
@@ -79,11 +77,12 @@ ufrRefusal history start = first_of (historyChecks history start)
 abbrev pub ufrFound : List ℕ → ℕ
 ufrFound history = natural (roundedUfr history)
 
-abbrev pub foundOr : ℕ → ℕ → Ufr
-foundOr zero ufr = Found ufr
-foundOr (suc r) ufr = Refused (suc r)
+abbrev pub foundOr : ℕ → ℕ → Result ℕ ℕ
+foundOr zero ufr = Ok ufr
+foundOr (suc r) ufr = Err (suc r)
 
-unfoldable pub ufrAnswer : List ℕ → ℕ → Ufr
+-- the UFR in rate steps, or the number of a refusal
+unfoldable pub ufrAnswer : List ℕ → ℕ → Result ℕ ℕ
 ufrAnswer history start = foundOr (ufrRefusal history start) (ufrFound history)
 
 -- ---- a case file valued with the UFR found
@@ -96,7 +95,7 @@ monthsRefusal file history start factors rates = first_of (buffersCheck factors 
 abbrev pub monthsCase : List ℕ → List ℕ → FileCase
 monthsCase file history = withUfr (ufrFound history) (case_of file)
 
-unfoldable pub monthsValuation : List ℕ → List ℕ → ℕ → ℕ → ℕ → Valuation
+unfoldable pub monthsValuation : List ℕ → List ℕ → ℕ → ℕ → ℕ → Result Valuation ℕ
 monthsValuation file history start factors rates = answered (monthsRefusal file history start factors rates) (monthsCase file history)
 
 unfoldable pub monthsFactorsAfter : List ℕ → List ℕ → ℕ → List ℕ → List ℤ → List ℕ

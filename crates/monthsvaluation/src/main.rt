@@ -2,9 +2,17 @@
 // with it. Each of the first two stands behind its length in four bytes, and the start index has eight, the highest first.
 #![tactic(auto)]
 
-use model::figures::Valuation;
-use monthsmodel::Ufr;
-use output::{put, put_number};
+ghost use Rattle.std.specs.Prelude.{◌≡◌, ◌+◌, ◌++◌, ◌≤◌, IfErr, IfOk, OnOk, length};
+ghost use Rattle.std.specs.Io.KnownBytes.{Appends};
+ghost use Rattle.arrayvec.specs.ArrayVec.{array_vec_len};
+ghost use Rattle.monthsvaluation.specs.Answered.{PartGiven, Answered};
+ghost use Rattle.monthsvaluation.specs.Shown.{ufrLine, shown};
+ghost use Rattle.monthsvaluation.specs.Unread.{KeepsUnread};
+
+use arrayvec::ArrayVec;
+use batch::Cut;
+use itoa::Buffer;
+use refusal::Refusal;
 use std::io;
 use std::io::{Read, Write};
 
@@ -13,79 +21,93 @@ const MOST_FILE: usize = 17624;
 
 const MOST_HISTORY: usize = 241;
 
-// One line: UFR and its steps. A refused history has none.
-fn print_ufr<W: Write>(out: &mut W, history: &[u8], start: u64) -> io::Result<()> {
-    let found = history::ufr_of(history, start);
-    if let Ufr::Found(ufr) = found {
-        let mut text = [0u8; 25];
-        let at_number = put(&mut text, 0, b"UFR");
-        let at_end = put_number(&mut text, at_number, ufr);
-        let n = put(&mut text, at_end, b"\n");
-        out.write_all(&text[..n])?;
-    }
-    Ok(())
+// The word UFR, a space, at most 20 digits and the end of the line.
+type Line = ArrayVec<u8, 25>;
+
+// Why not all was printed.
+#[derive(Drop)]
+enum Stopped {
+    Read(Cut),
+    Write(io::Error),
 }
 
-fn print_valuation<W: Write>(
-    out: &mut W,
-    file: &[u8],
-    history: &[u8],
-    start: u64,
-) -> io::Result<()> {
+fn push(line: &mut Line, bytes: &[u8])
+    requires { array_vec_len line.old + length bytes.now ≤ 25 }
+    ensures { line.new.items ≡ line.old.items ++ bytes.now }
+{
+    let _fits = line.try_extend_from_slice(bytes);
+}
+
+// UFR and its steps.
+#[tactic(auto, unfolding(method::specs::Listing::ascii, model::specs::Numbers::table))]
+fn line_of(ufr: u64) -> Line
+    ensures { result.items ≡ ufrLine ufr }
+{
+    let mut digits = Buffer::new();
+    let mut line = Line::new();
+    push(&mut line, b"UFR ");
+    push(&mut line, digits.format(ufr).as_bytes());
+    push(&mut line, b"\n");
+    line
+}
+
+// A refused case or history has no line of the UFR.
+fn print_valuation<W: Write>(out: &mut W, file: &[u8], history: &[u8], start: u64) -> io::Result<()>
+    ensures { OnOk result (Appends (W.contents out.old) (W.contents out.new) (shown file.now history.now start)) }
+{
     let mut factors = [0u64; 240];
     let mut rates = [0i64; 240];
     let valuation = months::value_with_months(file, history, start, &mut factors, &mut rates);
-    if let Valuation::Valued(_, _) = valuation {
-        print_ufr(out, history, start)?;
+    let ufr = history::ufr_of(history, start);
+    if let (Ok(_), Ok(ufr)) = (valuation, ufr) {
+        out.write_all(line_of(ufr).as_slice())?;
     }
-    let mut text = [0u8; 512];
-    let n = listing::write_listing(valuation, &mut text);
-    out.write_all(&text[..n])
+    let text = listing::text_of(valuation.map_err(Refusal::number));
+    out.write_all(text.as_slice())
 }
 
-// The start index, behind the file and the history.
-fn print_with_start<R: Read, W: Write>(
-    input: &mut R,
-    out: &mut W,
-    file: &[u8],
-    history: &[u8],
-) -> io::Result<()> {
-    let mut place = [0u8; 8];
-    let (n, _) = batch::read_full(input, &mut place);
-    if n < 8 {
-        return Ok(());
+// The next part, to the front of buf, and its length; none where the input ends within it or it is longer than buf.
+fn read_part<R: Read>(input: &mut R, buf: &mut [u8]) -> Result<Option<usize>, Cut>
+    ensures { IfOk result (PartGiven (R.remaining input.old) (R.remaining input.new) buf.new) }
+{
+    let Some(wanted) = batch::next_length(input)? else {
+        return Ok(None);
+    };
+    let Some(count) = batch::read_file(input, wanted, buf)? else {
+        return Ok(None);
+    };
+    if count < wanted {
+        return Ok(None);
     }
-    let start = numbers::cursor::number_at(&place, 0, 8);
-    print_valuation(out, file, history, start)
-}
-
-// The history, behind the file.
-fn print_with_history<R: Read, W: Write>(
-    input: &mut R,
-    out: &mut W,
-    file: &[u8],
-) -> io::Result<()> {
-    let mut history = [0u8; MOST_HISTORY];
-    let length = batch::next_length(input);
-    let n = batch::read_file(input, length, &mut history);
-    if n < length {
-        return Ok(());
-    }
-    print_with_start(input, out, file, &history[..n])
+    Ok(Some(count))
 }
 
 // Where the input ends early, a read fails or a length is too large, nothing is printed.
-fn answer<R: Read, W: Write>(input: &mut R, out: &mut W) -> io::Result<()> {
+fn answer<R: Read, W: Write>(input: &mut R, out: &mut W) -> Result<(), Stopped>
+    ensures answered { OnOk result (Answered (R.remaining input.old) (W.contents out.old) (W.contents out.new)) }
+    ensures unread { IfErr result (KeepsUnread (W.contents out.old) (W.contents out.new)) }
+{
     let mut file = [0u8; MOST_FILE];
-    let length = batch::next_length(input);
-    let n = batch::read_file(input, length, &mut file);
-    if n < length {
+    let mut history = [0u8; MOST_HISTORY];
+    let mut start = [0u8; 8];
+    let Some(file_length) = read_part(input, &mut file).map_err(Stopped::Read)? else {
+        return Ok(());
+    };
+    let Some(history_length) = read_part(input, &mut history).map_err(Stopped::Read)? else {
+        return Ok(());
+    };
+    if batch::read_full(input, &mut start).map_err(Stopped::Read)? < 8 {
         return Ok(());
     }
-    print_with_history(input, out, &file[..n])
+    let file = &file[..file_length];
+    let history = &history[..history_length];
+    print_valuation(out, file, history, u64::from_be_bytes(start)).map_err(Stopped::Write)
 }
 
-// Ends with 1 where the answer cannot be written.
+// Ends with 1 where the answer cannot be written, and with 0 where the input cannot be read.
 fn main(rt: HostRuntime) -> io::Result<()> {
-    answer(&mut rt.stdin(), &mut rt.stdout())
+    match answer(&mut rt.stdin(), &mut rt.stdout()) {
+        Ok(()) | Err(Stopped::Read(_)) => Ok(()),
+        Err(Stopped::Write(error)) => Err(error),
+    }
 }

@@ -1,7 +1,7 @@
 -- The part of a file that holds the rates, as a struct that C knows. Assumes nothing.
 use Rattle.std.specs.Prelude.{ℕ, List, length}
 use Rattle.model.specs.Refusals.{refusal, ratesPart}
-use Rattle.casefile.specs.Answers.{ratesFrom}
+use Rattle.reader.specs.Answers.{ratesFrom}
 use Rattle.ratesplace.specs.declared.HostPart.{HostPart}
 
 -- where the part of the file stands that holds the rates, and how many bytes it has

@@ -6,8 +6,7 @@ ghost use Rattle.std.specs.Prelude.{◌≡◌, take, drop};
 ghost use Rattle.model.specs.Refusals.{ratesPart};
 ghost use Rattle.ratesplace.specs.Part.{hostPart};
 
-use casefile::rates_part;
-use places::find;
+use reader::file::read;
 
 // `length` bytes of the file, from `offset` on.
 #[repr(C)]
@@ -23,18 +22,14 @@ pub fn rates_place(file: &[u8]) -> HostPart
     ensures value { result ≡ hostPart file.now }
     ensures part { take result.length (drop result.offset file.now) ≡ ratesPart file.now }
 {
-    let part = rates_part(file);
-    let length = part.len();
-    let is_empty = length == 0;
-    if is_empty {
-        return HostPart {
+    match read(file) {
+        Ok(reading) => HostPart {
+            offset: reading.rates_at,
+            length: reading.rates.len(),
+        },
+        Err(_) => HostPart {
             offset: 0,
             length: 0,
-        };
-    }
-    let p = find(file);
-    HostPart {
-        offset: p.days_at + 1,
-        length,
+        },
     }
 }

@@ -1,3 +1,5 @@
--- Windows: the window with a day more, and without its oldest. Answered: what a change of a window answers, refusal by refusal.
+-- Rates: rates that are right, and are copied. Sums: the sums per term, with a day more and with a day less. Windows: what a change of a
+-- window answers.
+pub mod Rates
+pub mod Sums
 pub mod Windows
-pub mod Answered

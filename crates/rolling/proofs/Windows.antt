@@ -1,113 +1,168 @@
--- A right window with a day more behind the newest, and one without its oldest day: what the code builds is what the definitions say.
--- Assumes nothing.
-use Prim.Native.Nat.{ℕ, ◌+◌, ◌*◌, ◌-◌, ◌<◌}
-use mathlib.Core.Path.{◌≡◌, ap, ap₂, sym, ◌∙◌}
-use mathlib.Core.Bool.{true, ◌&&◌}
+-- Which windows are right, by the days from the oldest on; and what a change of a window answers, where each of its checks holds or fails.
+use Prim.Native.Nat.{ℕ, zero, suc, ◌+◌, ◌*◌, ◌-◌, ◌≤◌, ◌<◌}
+use mathlib.Core.Path.{◌≡◌, refl, ap, ap₂, sym, ◌∙◌}
+use mathlib.Core.Bool.{Bool, true, false, ◌&&◌}
 use mathlib.Core.List.{List, [], ◌∷◌, ◌++◌}
+use native.Mathlib.Nat.{mod-eq_of_lt}
+use native.Mathlib.Numerals.{add-one}
 use native.Mathlib.Omega.{arith}
+use borrow.Author.Tests.{lt-ltb, le-ltb, eq-eqb}
 use lib.Dec.{eqb}
-use lib.ListN.{length, get_or, drop, length-append, length-drop}
+use lib.ListN.{length, get_or, drop}
 use lib.IntN.{ℤ, pos}
+use Rattle.std.proofs.Common.{Option, Result, Some, None, Ok, Err}
+use Rattle.std.specs.Option.{IsSome, ok_or}
+use Rattle.model.specs.Case.{s}
 use Rattle.model.specs.Fields.{rightAll}
 use Rattle.model.specs.Layout.{dailyRate, day}
 use Rattle.model.specs.Numbers.{table}
-use Rattle.rollingmodel.specs.Rolling.{slot, dayIn, daysHeld, sumsOf, windowRight, withDayIn, added, dropped}
+use Rattle.model.specs.Refusals.{first_of}
+use Rattle.rollingmodel.specs.Rolling.{slot, dayIn, daysHeld, sumsOf, windowRight, withDayIn, addRefusal, dropRefusal, added, dropped, addDay, dropDay}
 use Rattle.rollingmodel.specs.declared.RollingWindow.{RollingWindow}
-use Rattle.theory.proofs.acceptance.Runs.{right-more}
-use Rattle.theory.proofs.general.Lists.{and_second}
-use Rattle.theory.proofs.rolling.Held.{held-count}
-use Rattle.theory.proofs.rolling.Right.{right-facts}
-use Rattle.scan.specs.inner.Sums.{EachAtMost}
-use Rattle.scan.specs.declared.rates.Sums.{Sums}
-use Rattle.givenrates.specs.inner.Raised.{raisedOr, summed, withDay}
-use Rattle.givenrates.proofs.Days.{summed-more, summed-most}
-use Rattle.ring.specs.inner.Ring.{storedSum, EachAtLeast}
-use Rattle.ring.proofs.Stored.{oldest-first, first-within, without-first, stored-are}
+use Rattle.theory.proofs.acceptance.Runs.{right-more, right-at}
+use Rattle.theory.proofs.general.Lists.{and_first, and_second, and_both, length-table, table-first, table_same, table_of}
+use Rattle.theory.proofs.rolling.Held.{held-count, held-day}
+use Rattle.theory.proofs.rolling.Right.{Right, right-facts, facts-right}
+use Rattle.rolling.specs.inner.Sums.{EachWithin, plus, minus, firstDays}
+use Rattle.rolling.proofs.Sums.{sums-at, sums-small, plus-is, minus-is}
 
--- ---- a day more
+-- what a refusal in place of nothing says
+pub none-told : {A E : Type 0} (o : Option A) (e r : E) → ok_or o e ≡ Err r → (r ≡ e) × (IsSome o → ⊥)
+none-told None e r h = (cc, λ k. cc)
+none-told (Some x) e r h = cc
 
--- whether the day can be added is told by the sums with it
-pub with-new : (w : RollingWindow) (new : List ℤ) {held all : Sums} → length new ≡ 60 → held ≡ summed 2 (daysHeld w) → all ≡ withDay 2 held new
-    → all ≡ summed 2 (daysHeld w ++ (new ∷ []))
-with-new w new whole e f = f ∙ ap (λ (r : Sums). withDay 2 r new) e ∙ summed-more 2 (daysHeld w) new whole
+-- ---- a window that is right, or not
 
-pub new_told : (w : RollingWindow) (new : List ℤ) {all : Sums} → windowRight w ≡ true → all ≡ summed 2 (daysHeld w ++ (new ∷ []))
-    → all.within ≡ (day 2).right new
-unfolding summed
-new_told w new right is =
-    ap (λ (r : Sums). r.within) is ∙ right-more (day 2) (daysHeld w) new ∙ ap (λ b. b && (day 2).right new) (right-facts w right).days
+module _ (w : RollingWindow) where
+  pub not-right : (Right w → ⊥) → windowRight w ≡ false
+  not-right h = go (windowRight w) refl
+    where
+      go : (b : Bool) → windowRight w ≡ b → windowRight w ≡ false
+      go true e = absurd (h (right-facts w e))
+      go false e = e
 
-module _ (w : RollingWindow) (new : List ℤ) {all : Sums} (room : w.count < 70) (within : all.within ≡ true)
-    (is : all ≡ summed 2 (daysHeld w ++ (new ∷ []))) where
-  abbrev more : List (List ℤ)
-  more = daysHeld w ++ (new ∷ [])
+  -- a day that is held has a rate that is not right
+  pub wrong-day : (i : ℕ) {held : List ℤ} → i < w.count → held ≡ dayIn w.rates (slot 70 w.start i) → rightAll (dailyRate 2) held ≡ false → windowRight w ≡ false
+  wrong-day i {held} l e h = not-right (λ r. contrary r)
+    where
+      contrary : Right w → ⊥
+      contrary r =
+          let whole = right-at (day 2) (daysHeld w) i [] (omega (arith, held-count w)) r.days in
+          let own = rw (held-day w i l ∙ sym e) at whole in
+          let right = and_second (eqb (length held) 60) (rightAll (dailyRate 2) held) own in
+          cc
 
-  more-count : length more ≡ w.count + 1
-  more-count = length-append (daysHeld w) (new ∷ []) ∙ omega (arith, held-count w)
+  pub next-day : (i : ℕ) {held sums after : List ℤ} → held ≡ dayIn w.rates (slot 70 w.start i) → length held ≡ 60 → rightAll (dailyRate 2) held ≡ true
+      → rightAll (day 2) (firstDays w i) ≡ true → sums ≡ sumsOf (firstDays w i) → after ≡ plus sums held
+      → (rightAll (day 2) (firstDays w (i + 1)) ≡ true) × (after ≡ sumsOf (firstDays w (i + 1)))
+  unfolding table
+  next-day i {held} {sums} {after} e long right all are more =
+      let days = firstDays w i in
+      let own : (day 2).right held ≡ true = and_both (eqb (length held) 60) (rightAll (dailyRate 2) held) (eq-eqb (length held) 60 long) right in
+      let next : firstDays w (i + 1) ≡ days ++ (held ∷ []) =
+      ap (table (λ j. dayIn w.rates (slot 70 w.start j))) (add-one i) ∙ ap (λ (d : List ℤ). days ++ (d ∷ [])) (sym e) in (
+        ap (rightAll (day 2)) next ∙ right-more (day 2) days held ∙ and_both (rightAll (day 2) days) ((day 2).right held) all own,
+        more ∙ ap (λ (l : List ℤ). plus l held) are ∙ plus-is (sumsOf days) days (sums-at days) held ∙ ap sumsOf (sym next),
+      )
 
-  more-right : rightAll (day 2) more ≡ true
-  unfolding summed
-  more-right = ap (λ (r : Sums). r.within) (sym is) ∙ within
+  pub first-small : (i : ℕ) {sums : List ℤ} → i ≤ 70 → rightAll (day 2) (firstDays w i) ≡ true → sums ≡ sumsOf (firstDays w i) → EachWithin 1000000 sums
+  first-small i few all are =
+      let days = firstDays w i in
+      let count = length-table (λ j. dayIn w.rates (slot 70 w.start j)) i in
+      rw are (sums-small (sumsOf days) days (sums-at days) 1000000 (omega arith) all)
 
-  pub new-right : rightAll (dailyRate 2) new ≡ true
-  new-right =
-      let last = and_second (rightAll (day 2) (daysHeld w)) ((day 2).right new) (sym (right-more (day 2) (daysHeld w) new) ∙ more-right) in
-      and_second (eqb (length new) 60) (rightAll (dailyRate 2) new) last
+  -- all days are right and summed: the window is right exactly where these are the sums that it stores
+  module _ {n : ℕ} (few : w.count ≤ 70) (place : w.start < 70) (is : n ≡ w.count) {sums : List ℤ} (all : rightAll (day 2) (firstDays w n) ≡ true)
+      (are : sums ≡ sumsOf (firstDays w n)) where
+    whole : firstDays w n ≡ daysHeld w
+    unfolding daysHeld
+    whole = ap (firstDays w) is
 
-  pub all_most : EachAtMost 7700000 all.sums
-  all_most = rw is (summed-most 2 more 7700000 (omega (arith, more-count)))
+    pub sums-right : sums ≡ w.sums → windowRight w ≡ true
+    sums-right same =
+        facts-right w record {
+          count = few;
+          start = place;
+          days = rw whole at all;
+          sums = λ t l. ap (λ (z : List ℤ). get_or z t (pos 0)) (sym same ∙ are ∙ ap sumsOf whole) ∙ sums-at (daysHeld w) t l;
+        }
 
-  pub window-added : {at : ℕ} {rates stored : List ℤ} → at ≡ slot 70 w.start w.count → rates ≡ withDayIn w.rates at new
-      → stored ≡ table (λ t. storedSum (get_or all.sums t 0) (100000 * (w.count + 1))) 60
-      → record { count = w.count + 1; start = w.start; rates = rates; sums = stored } ≡ added w new
-  unfolding added
-  window-added {at} {rates} {stored} e f g =
-      let sums : stored ≡ sumsOf more =
-      g
-      ∙ ap (λ (r : Sums). table (λ t. storedSum (get_or r.sums t 0) (100000 * (w.count + 1))) 60) is
-      ∙ stored-are more (w.count + 1) more-count more-right in
-      ap₂ (λ (r s : List ℤ). record { count = w.count + 1; start = w.start; rates = r; sums = s })
-      (f ∙ ap (λ (j : ℕ). withDayIn w.rates j new) e) sums
+    pub sums-wrong : length w.sums ≡ 60 → (sums ≡ w.sums → ⊥) → windowRight w ≡ false
+    unfolding sumsOf
+    sums-wrong long other = not-right (λ r. other (are ∙ ap sumsOf whole ∙ stored r))
+      where
+        stored : Right w → sumsOf (daysHeld w) ≡ w.sums
+        stored r =
+            table_same (λ t. s (daysHeld w) (suc t)) (λ t. get_or w.sums t (pos 0)) 60 (λ t l. sym (r.sums t l))
+            ∙ table_of w.sums 60 (pos 0) long
 
--- ---- the oldest less
+-- ---- a day added
 
-module _ (w : RollingWindow) {held : Sums} {oldest : List ℤ} (right : windowRight w ≡ true) (some : 0 < w.count)
-    (is : held ≡ summed 2 (daysHeld w)) (out : oldest ≡ dayIn w.rates w.start) where
-  abbrev rest : List (List ℤ)
-  rest = drop 1 (daysHeld w)
+module _ (w : RollingWindow) (new : List ℤ) where
+  pub add-27 : windowRight w ≡ false → record { refusal = 27; window = w } ≡ addDay w new
+  unfolding addDay addRefusal first_of
+  add-27 h = rw h
 
-  parted : daysHeld w ≡ oldest ∷ rest
-  parted = oldest-first w some (right-facts w right).start ∙ ap (λ (d : List ℤ). d ∷ rest) (sym out)
+  pub add-15 : windowRight w ≡ true → 70 ≤ w.count → record { refusal = 15; window = w } ≡ addDay w new
+  unfolding addDay addRefusal first_of
+  add-15 h l = rw (h, le-ltb w.count 70 l)
 
-  held-parted : held ≡ summed 2 (oldest ∷ rest)
-  held-parted = is ∙ ap (summed 2) parted
+  module _ (right : windowRight w ≡ true) (room : w.count < 70) where
+    pub add-5 : (day 2).right new ≡ false → record { refusal = 5; window = w } ≡ addDay w new
+    unfolding addDay addRefusal first_of
+    add-5 wrong = rw (right, lt-ltb w.count 70 room, wrong)
 
-  rest-count : length rest ≡ w.count - 1
-  rest-count = length-drop 1 (daysHeld w) ∙ omega (arith, held-count w)
+    pub add-0 : {rates sums : List ℤ} → (day 2).right new ≡ true → rates ≡ withDayIn w.rates (slot 70 w.start w.count) new → sums ≡ plus w.sums new
+        → record { refusal = 0; window = record { count = w.count + 1; start = w.start; rates = rates; sums = sums } } ≡ addDay w new
+    unfolding addDay addRefusal first_of added
+    add-0 {rates} {sums} own e f =
+        let are : sums ≡ sumsOf (daysHeld w ++ (new ∷ [])) = f ∙ plus-is w.sums (daysHeld w) (right-facts w right).sums new in
+        rw (right, lt-ltb w.count 70 room, own, e, are)
 
-  rest-right : rightAll (day 2) rest ≡ true
-  rest-right = and_second ((day 2).right oldest) (rightAll (day 2) rest) (ap (rightAll (day 2)) (sym parted) ∙ (right-facts w right).days)
+pub window-small : (w : RollingWindow) → windowRight w ≡ true → EachWithin 1000000 w.sums
+window-small w right =
+    let r = right-facts w right in
+    sums-small w.sums (daysHeld w) r.sums 1000000 (omega (arith, held-count w, r.count)) r.days
 
-  pub oldest-within : EachAtLeast oldest held.sums
-  oldest-within = rw held-parted (first-within oldest rest)
+-- ---- the oldest dropped
 
-  module _ {less : List ℕ} (taken : less ≡ table (λ t. get_or held.sums t 0 - raisedOr 1 (get_or oldest t (pos 0))) 60) where
-    less-is : less ≡ (summed 2 rest).sums
-    less-is =
-        taken
-        ∙ ap (λ (r : Sums). table (λ t. get_or r.sums t 0 - raisedOr 1 (get_or oldest t (pos 0))) 60) held-parted
-        ∙ without-first oldest rest
+pub oldest-first : (w : RollingWindow) → 0 < w.count → w.start < 70 → daysHeld w ≡ dayIn w.rates w.start ∷ drop 1 (daysHeld w)
+unfolding daysHeld
+oldest-first w some place = go w.count some
+  where
+    f : ℕ → List ℤ
+    f i = dayIn w.rates (slot 70 w.start i)
 
-    pub less-most : EachAtMost 7700000 less
-    less-most = rw less-is (summed-most 2 rest 7700000 (omega (arith, rest-count, (right-facts w right).count)))
+    own : f 0 ≡ dayIn w.rates w.start
+    own =
+        let e : w.start + 0 ≡ w.start = omega arith in
+        let same : slot 70 w.start 0 ≡ w.start = rw e (mod-eq_of_lt place) in
+        ap (dayIn w.rates) same
 
-    pub window-dropped : {next : ℕ} {stored : List ℤ} → next ≡ slot 70 w.start 1
-        → stored ≡ table (λ t. storedSum (get_or less t 0) (100000 * (w.count - 1))) 60
-        → record { count = w.count - 1; start = next; rates = w.rates; sums = stored } ≡ dropped w
-    unfolding dropped
-    window-dropped {next} {stored} e g =
-        let sums : stored ≡ sumsOf rest =
-        g
-        ∙ ap (λ (l : List ℕ). table (λ t. storedSum (get_or l t 0) (100000 * (w.count - 1))) 60) less-is
-        ∙ stored-are rest (w.count - 1) rest-count rest-right in
-        ap₂ (λ (n : ℕ) (s : List ℤ). record { count = w.count - 1; start = n; rates = w.rates; sums = s }) e sums
+    go : (n : ℕ) → 0 < n → table f n ≡ dayIn w.rates w.start ∷ drop 1 (table f n)
+    go zero l = let never : ⊥ = omega arith in absurd never
+    go (suc n) l =
+        table-first f n
+        ∙ ap (λ (d : List ℤ). d ∷ table (λ i. f (suc i)) n) own
+        ∙ ap (λ (days : List (List ℤ)). dayIn w.rates w.start ∷ drop 1 days) (sym (table-first f n))
+
+module _ (w : RollingWindow) where
+  pub drop-27 : windowRight w ≡ false → record { refusal = 27; window = w } ≡ dropDay w
+  unfolding dropDay dropRefusal first_of
+  drop-27 h = rw h
+
+  pub drop-16 : windowRight w ≡ true → w.count ≤ 0 → record { refusal = 16; window = w } ≡ dropDay w
+  unfolding dropDay dropRefusal first_of
+  drop-16 h l = rw (h, le-ltb 0 w.count l)
+
+  pub drop-0 : {start : ℕ} {oldest sums : List ℤ} → windowRight w ≡ true → 0 < w.count → oldest ≡ dayIn w.rates w.start → sums ≡ minus w.sums oldest
+      → start ≡ slot 70 w.start 1
+      → record { refusal = 0; window = record { count = w.count - 1; start = start; rates = w.rates; sums = sums } } ≡ dropDay w
+  unfolding dropDay dropRefusal first_of dropped
+  drop-0 {start} {oldest} {sums} right some e f g =
+      let r = right-facts w right in
+      let parted : daysHeld w ≡ oldest ∷ drop 1 (daysHeld w) =
+      oldest-first w some r.start ∙ ap (λ (d : List ℤ). d ∷ drop 1 (daysHeld w)) (sym e) in
+      let are : sums ≡ sumsOf (drop 1 (daysHeld w)) =
+      f ∙ minus-is w.sums oldest (drop 1 (daysHeld w)) (λ t l. r.sums t l ∙ ap (λ (days : List (List ℤ)). s days (suc t)) parted) in
+      rw (right, lt-ltb 0 w.count some, g, are)

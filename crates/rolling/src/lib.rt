@@ -1,15 +1,19 @@
-// A rolling window of up to 70 trading days: the state goes in and comes out by value, and nothing is asked of it.
+// A rolling window of up to 70 trading days.
 #![tactic(auto)]
 
-ghost use Rattle.std.specs.Prelude.{◌≡◌, true, [], ◌∷◌, ◌++◌, ◌<◌};
-ghost use Rattle.rollingmodel.specs.Rolling.{daysHeld, windowRight, emptyWindow, added, dropped, addDay, dropDay};
-ghost use Rattle.givenrates.specs.inner.Raised.{summed};
+ghost use Rattle.std.specs.Prelude.{◌≡◌, true, false, ◌<◌, ◌≤◌, length, IfOk, IfErr};
+ghost use Rattle.model.specs.Fields.{rightAll};
+ghost use Rattle.model.specs.Layout.{dailyRate, day};
+ghost use Rattle.rollingmodel.specs.Rolling.{dayIn, withDayIn, windowRight, addDay, dropDay, emptyWindow};
+ghost use Rattle.refusal.specs.declared.Refusal.TheVariants.{Damaged, Rate};
+ghost use Rattle.refusal.specs.Numbered.{refused_by};
+ghost use Rattle.rolling.specs.inner.Sums.{EachWithin, plus, minus};
 
-use givenrates::add_day as add_rates;
-use ring::slots::{day_in, put_day, slot_of};
-use ring::sums::{same_sums, stored_sums, sum_held, sums_without};
-use rollingmodel::{ChangedWindow, Day, RollingWindow};
-use scan::rates::Sums;
+use refusal::Refusal;
+use rings::Place;
+use rollingmodel::{Day, RollingWindow};
+
+const TERMS: usize = 60;
 
 pub fn empty() -> RollingWindow
     ensures { result ≡ emptyWindow }
@@ -17,121 +21,129 @@ pub fn empty() -> RollingWindow
     RollingWindow {
         count: 0,
         start: 0,
-        rates: [0i16; 4200],
-        sums: [0i64; 60],
+        rates: [0; 4200],
+        sums: [0; 60],
     }
 }
 
-// Whether the window is right, else 27; and if it is, the sums of the days held.
-pub fn check(w: RollingWindow) -> Sums
-    ensures right { result.within ≡ windowRight w }
-    ensures sums { result.within ≡ true → result ≡ summed 2 (daysHeld w) }
+// The rates in a slot.
+fn day_in(rates: &[i16; 4200], slot: usize) -> &[i16]
+    requires { slot < 70 }
+    ensures day { result.now ≡ dayIn rates.now slot }
+    ensures terms { length result.now ≡ 60 }
 {
-    let none = Sums {
-        within: false,
-        sums: [0u64; 60],
-    };
-    if 70 < w.count || 70 <= w.start {
-        return none;
+    &rates[TERMS * slot..TERMS * slot + TERMS]
+}
+
+// Writes a day into a slot.
+fn put_day(rates: &mut [i16; 4200], slot: usize, new: &[i16; 60])
+    requires { slot < 70 }
+    ensures { rates.new ≡ withDayIn rates.old slot new.now }
+{
+    rates[TERMS * slot..TERMS * slot + TERMS].copy_from_slice(new);
+}
+
+/// Whether a rate of two bytes is within its limits: those of refusal 5, and of 18, since a month has the form of a rate.
+pub fn is_rate(rate: i32) -> bool
+    ensures { result ≡ (dailyRate 2).right rate }
+{
+    (-1_000..=10_000).contains(&rate)
+}
+
+// Whether each rate of a day that is held is within the limits.
+fn is_right(held: &[i16]) -> bool
+    ensures { result ≡ rightAll (dailyRate 2) held.now }
+{
+    for rate in held {
+        if !is_rate(i32::from(*rate)) {
+            return false;
+        }
     }
-    let count = w.count as usize;
-    let held = sum_held(&w.rates, w.start as usize, count);
-    let sums = held.sums;
-    let told = w.sums;
-    let same = same_sums(told, stored_sums(sums, count));
-    Sums {
-        within: held.within & same,
-        sums,
+    true
+}
+
+// The rates of a day that a host hands in, if each is within the limits. By an index, as `add`.
+fn checked(new: &Day) -> Result<[i16; 60], Refusal>
+    ensures ok { IfOk result (λ r. (r ≡ new.now.rates) × ((day 2).right r ≡ true)) }
+    ensures err { IfErr result (λ e. (e ≡ Rate) × ((day 2).right new.now.rates ≡ false)) }
+{
+    let mut rates = [0; 60];
+    for (t, rate) in new.rates.iter().enumerate() {
+        if !is_rate(*rate) {
+            return Err(Refusal::Rate);
+        }
+        rates[t] = *rate as i16;
+    }
+    Ok(rates)
+}
+
+// Adds a day to the sums per term. By an index, since a loop over `iter_mut().zip(..)` has no name for what it has written so far, of which
+// its invariant has to speak.
+fn add(sums: &mut [i64; 60], new: &[i16])
+    requires terms { length new.now ≡ 60 }
+    requires small { EachWithin 1000000 sums.old }
+    ensures { sums.new ≡ plus sums.old new.now }
+{
+    for (t, sum) in sums.iter_mut().enumerate() {
+        *sum += i64::from(new[t]);
     }
 }
 
-// The window with the day behind the newest; `all` are the sums of all its days then.
-fn with_day(w: RollingWindow, day: Day, all: Sums) -> RollingWindow
-    requires { (windowRight w ≡ true) × (w.count < 70) × (all.within ≡ true) × (all ≡ summed 2 (daysHeld w ++ (day.rates ∷ []))) }
-    ensures { result ≡ added w day.rates }
+// Takes a day from the sums per term, as `add` adds it. A sign as a parameter of `add` would hide which way it goes.
+fn subtract(sums: &mut [i64; 60], oldest: &[i16])
+    requires terms { length oldest.now ≡ 60 }
+    requires small { EachWithin 1000000 sums.old }
+    ensures { sums.new ≡ minus sums.old oldest.now }
 {
-    let count = w.count as usize;
-    let newest = slot_of(w.start as usize, count);
-    let mut rates = w.rates;
-    let new = day.rates;
-    put_day(&mut rates, newest, new);
-    let summed = all.sums;
-    let sums = stored_sums(summed, count + 1);
-    RollingWindow {
-        count: w.count + 1,
-        start: w.start,
-        rates,
-        sums,
+    for (t, sum) in sums.iter_mut().enumerate() {
+        *sum -= i64::from(oldest[t]);
     }
 }
 
-// The window without its oldest day; `held` are the sums of all its days.
-fn without_day(w: RollingWindow, held: Sums) -> RollingWindow
-    requires { (windowRight w ≡ true) × (0 < w.count) × (held ≡ summed 2 (daysHeld w)) }
-    ensures { result ≡ dropped w }
+// Where the days of a window stand. Refusal 27 for one with a count or place out of range, a held rate out of limits or a wrong sum.
+pub fn place_of(w: &RollingWindow) -> Result<Place<70>, Refusal>
+    ensures ok { IfOk result (λ p. (windowRight w.now ≡ true) × (p.count ≡ w.now.count) × (p.start ≡ w.now.start)) }
+    ensures err { IfErr result (λ e. (e ≡ Damaged) × (windowRight w.now ≡ false)) }
 {
-    let start = w.start as usize;
-    let oldest = day_in(&w.rates, start);
-    let all = held.sums;
-    let rest = sums_without(all, oldest);
-    let count = w.count - 1;
-    let sums = stored_sums(rest, count as usize);
-    let next = slot_of(start, 1);
-    let rates = w.rates;
-    RollingWindow {
-        count,
-        start: next as u64,
-        rates,
-        sums,
+    let place = Place::<70>::new(w.count, w.start).ok_or(Refusal::Damaged)?;
+    let mut sums = [0i64; 60];
+    // i counts the days from the oldest, whose slots go round the ring.
+    for i in 0..place.count {
+        let held = day_in(&w.rates, place.slot(i));
+        if !is_right(held) {
+            return Err(Refusal::Damaged);
+        }
+        add(&mut sums, held);
     }
+    if sums != w.sums {
+        return Err(Refusal::Damaged);
+    }
+    Ok(place)
 }
 
-// Adds a trading day behind the newest: 27 for a window that is not right, 15 for one of 70 days, 5 for a rate out of limits.
-pub fn add_day(w: RollingWindow, day: Day) -> ChangedWindow
-    ensures { result ≡ addDay w day.rates }
+// Adds a trading day behind the newest: 27 for a window that is not right, 15 for one of 70 days, 5 for a rate out of limits. A refused
+// day changes nothing.
+pub fn add_day(w: &mut RollingWindow, new: &Day) -> Result<(), Refusal>
+    ensures { record { refusal = refused_by result; window = w.new } ≡ addDay w.old new.now.rates }
 {
-    let held = check(w);
-    if !held.within {
-        return ChangedWindow {
-            refusal: 27,
-            window: w,
-        };
-    }
-    if 70 <= w.count {
-        return ChangedWindow {
-            refusal: 15,
-            window: w,
-        };
-    }
-    let rates = day.rates;
-    let all = add_rates(held, rates, 2);
-    if !all.within {
-        return ChangedWindow {
-            refusal: 5,
-            window: w,
-        };
-    }
-    let window = with_day(w, day, all);
-    ChangedWindow { refusal: 0, window }
+    let place = place_of(w)?;
+    let slot = place.free().ok_or(Refusal::WindowFull)?;
+    let rates = checked(new)?;
+    put_day(&mut w.rates, slot, &rates);
+    add(&mut w.sums, &rates);
+    w.count += 1;
+    Ok(())
 }
 
-// Drops the oldest day: 27 for a window that is not right, 16 for an empty one.
-pub fn drop_day(w: RollingWindow) -> ChangedWindow
-    ensures { result ≡ dropDay w }
+// Drops the oldest day: 27 for a window that is not right, 16 for an empty one. A refused drop changes nothing.
+pub fn drop_day(w: &mut RollingWindow) -> Result<(), Refusal>
+    ensures { record { refusal = refused_by result; window = w.new } ≡ dropDay w.old }
 {
-    let held = check(w);
-    if !held.within {
-        return ChangedWindow {
-            refusal: 27,
-            window: w,
-        };
-    }
-    if w.count == 0 {
-        return ChangedWindow {
-            refusal: 16,
-            window: w,
-        };
-    }
-    let window = without_day(w, held);
-    ChangedWindow { refusal: 0, window }
+    let place = place_of(w)?;
+    let slot = place.oldest().ok_or(Refusal::WindowEmpty)?;
+    let oldest = day_in(&w.rates, slot);
+    subtract(&mut w.sums, oldest);
+    w.start = place.slot(1) as u64;
+    w.count -= 1;
+    Ok(())
 }

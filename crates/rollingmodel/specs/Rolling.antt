@@ -1,6 +1,6 @@
 -- A rolling window of days (document 02, request Two): the days held in a ring of slots and beside them the sum per term, the changes of a
 -- window, and its valuation with a case's other fields.
-use Rattle.std.specs.Prelude.{ℕ, zero, suc, ◌+◌, ◌*◌, ◌-◌, ◌%◌, ◌<◌, ◌≡◌, Bool, true, ◌&&◌, cond, List, [], ◌∷◌, ◌++◌, leb, ltb, length, get_or, take, drop, replicate, ℤ, pos}
+use Rattle.std.specs.Prelude.{ℕ, zero, suc, ◌+◌, ◌*◌, ◌-◌, ◌%◌, ◌<◌, ◌≡◌, Bool, true, ◌&&◌, cond, List, [], ◌∷◌, ◌++◌, leb, ltb, length, get_or, take, drop, replicate, ℤ, pos, Result}
 use Rattle.std.specs.Int.Signed.{le_z}
 use Rattle.model.specs.Constants.{lastMarketTerm}
 use Rattle.model.specs.Numbers.{every, table}
@@ -145,7 +145,7 @@ windowRefusal w k factors rates =
     ∷ (caseChecks k ++ ((ltb 0 w.count, 4) ∷ (forwardsRight w.count (daysHeld w), 6) ∷ [])))
 
 -- "valued with an accepted case's other fields", whichever days field that case has
-unfoldable pub windowValuation : RollingWindow → FileCase → ℕ → ℕ → Valuation
+unfoldable pub windowValuation : RollingWindow → FileCase → ℕ → ℕ → Result Valuation ℕ
 windowValuation w k factors rates = answered (windowRefusal w k factors rates) (withDays 2 (daysHeld w) k)
 
 unfoldable pub windowFactorsAfter : RollingWindow → FileCase → List ℕ → List ℤ → List ℕ

@@ -5,8 +5,8 @@ use mathlib.Core.Path.{◌≡◌, refl}
 use mathlib.Core.List.{List, [], ◌∷◌, ◌++◌, map}
 use lib.ListN.{replicate}
 use lib.IntN.{pos, neg_ℤ}
+use Rattle.std.specs.Prelude.{Ok, Err}
 use Rattle.model.specs.Case.{FileCase}
-use Rattle.savingmodel.specs.declared.Saved.TheVariants.{Written, Refused}
 use Rattle.model.proofs.Computing.{pairs}
 use Rattle.model.proofs.FourByteCases.{quads, finerFile, finerCase, oldCase, newCase, oldFile, newFile}
 use Rattle.savingmodel.specs.Saving.{given, caseRefusal, shortest, saveRefusal, saveAnswer, savedAfter}
@@ -97,9 +97,9 @@ four-rooms : (saveRefusal smallFour 279 ≡ 14)
 unfolding all
 four-rooms = (refl, refl, refl, refl)
 
-four-answers : (saveAnswer smallFour 279 ≡ Refused 14)
-    × (saveAnswer smallFour 280 ≡ Written 280)
-    × (saveAnswer threeBytes 280 ≡ Refused 3)
+four-answers : (saveAnswer smallFour 279 ≡ Err 14)
+    × (saveAnswer smallFour 280 ≡ Ok 280)
+    × (saveAnswer threeBytes 280 ≡ Err 3)
 unfolding all
 four-answers = (refl, refl, refl)
 

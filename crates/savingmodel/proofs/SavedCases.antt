@@ -7,12 +7,12 @@ use mathlib.Core.Path.{◌≡◌, refl}
 use mathlib.Core.List.{List, [], ◌∷◌, ◌++◌, map}
 use lib.ListN.{replicate}
 use lib.IntN.{pos, neg_ℤ}
+use Rattle.std.specs.Prelude.{Ok, Err}
 use Rattle.model.specs.Case.{FileCase}
 use Rattle.savingmodel.specs.Saving.{given, caseRefusal, shortest, saveRefusal, saveAnswer, savedAfter}
 use Rattle.model.specs.declared.case.Amounts.{Amounts}
 use Rattle.model.specs.declared.case.Shocks.{Shocks}
 use Rattle.model.specs.declared.case.CaseFields.{CaseFields}
-use Rattle.savingmodel.specs.declared.Saved.TheVariants.{Written, Refused}
 use Rattle.model.proofs.Computing.{pairs}
 use Rattle.savingmodel.proofs.Computing.{all}
 
@@ -214,10 +214,10 @@ room-refusals : (map (saveRefusal small) (159 ∷ 160 ∷ 161 ∷ []) ≡ 14 ∷
 unfolding all
 room-refusals = (refl, refl)
 
-save-answers : (saveAnswer small 159 ≡ Refused 14)
-    × (saveAnswer small 160 ≡ Written 160)
-    × (saveAnswer small 161 ≡ Written 160)
-    × (saveAnswer steep 160 ≡ Refused 6)
+save-answers : (saveAnswer small 159 ≡ Err 14)
+    × (saveAnswer small 160 ≡ Ok 160)
+    × (saveAnswer small 161 ≡ Ok 160)
+    × (saveAnswer steep 160 ≡ Err 6)
 unfolding all
 save-answers = (refl, refl, refl, refl)
 

@@ -1,13 +1,11 @@
 -- A case written back in its shortest form (document 02, request One). Its checks and its bytes are those of the layout of document 01.
-use Rattle.std.specs.Prelude.{ℕ, zero, suc, ◌/◌, ◌%◌, Bool, true, ◌&&◌, not, cond, List, [], ◌∷◌, ◌++◌, leb, ltb, eqb, length, take, drop, ℤ}
+use Rattle.std.specs.Prelude.{ℕ, zero, suc, ◌/◌, ◌%◌, Bool, true, ◌&&◌, not, cond, List, [], ◌∷◌, ◌++◌, leb, ltb, eqb, length, take, drop, ℤ, Result, Ok, Err}
 use Rattle.model.specs.Constants.{defaultUfr, lastMarketTerm}
 use Rattle.model.specs.Case.{FileCase, knownForm, perStep}
 use Rattle.model.specs.Fields.{Check}
 use Rattle.model.specs.Layout.{amountsInOrder, Present, layout, parts_of, fileOf}
 use Rattle.model.specs.Refusals.{first_of, forwardsRight}
 use Rattle.model.specs.declared.case.CaseFields.{CaseFields}
-use Rattle.savingmodel.specs.declared.Saved.{Saved}
-use Rattle.savingmodel.specs.declared.Saved.TheVariants.{Written, Refused}
 
 -- ---- a case as a host hands it in: the fields that are no lists, and the rates, the pension flows and the bond flows as lists. It says how
 -- many bytes a rate has, 2 or 4, and the rates are in the units of that days field.
@@ -71,11 +69,12 @@ saveRefusal k room = first_of (caseChecks k ++ ((leb (length (shortest k)) room,
 -- ---- what is answered, and what the lent buffer holds afterwards
 
 -- "The writer returns the count of bytes written."
-abbrev pub savedOf : ℕ → ℕ → Saved
-savedOf zero count = Written count
-savedOf (suc r) count = Refused (suc r)
+abbrev pub savedOf : ℕ → ℕ → Result ℕ ℕ
+savedOf zero count = Ok count
+savedOf (suc r) count = Err (suc r)
 
-unfoldable pub saveAnswer : FileCase → ℕ → Saved
+-- the count of bytes written, or the number of a refusal
+unfoldable pub saveAnswer : FileCase → ℕ → Result ℕ ℕ
 saveAnswer k room = savedOf (saveRefusal k room) (length (shortest k))
 
 -- "The buffer's bytes past the written ones keep their content."; "a refusal writes no byte"

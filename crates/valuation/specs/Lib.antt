@@ -1,3 +1,3 @@
--- Both have to be believed. Input: what can be said of reading. Printed: what the program prints.
-pub mod Input
+-- Both have to be believed. Printed: what the program prints. Unread: what an input that cannot be read leaves.
 pub mod Printed
+pub mod Unread

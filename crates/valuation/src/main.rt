@@ -1,77 +1,48 @@
 // Reads a case file from standard input and prints its listing.
 #![tactic(auto)]
 
-ghost use Rattle.std.specs.Prelude.{OnOk, length};
+ghost use Rattle.std.specs.Prelude.{IfErr, OnOk};
 ghost use Rattle.std.specs.Io.KnownBytes.{Appends};
-ghost use Rattle.valuation.specs.Input.{AtMost, OnceRead, InputRead};
 ghost use Rattle.valuation.specs.Printed.{listingOf, Printed};
+ghost use Rattle.valuation.specs.Unread.{KeepsUnread};
 
+use batch::Cut;
+use refusal::Refusal;
 use std::io;
 use std::io::{Read, Write};
 
 // The longest acceptable file has 17,623 bytes. So the first 17,624 decide, also what comes before refusal 2.
 const MOST_BYTES: usize = 17624;
 
-// What reading the input gave: how many bytes it has, up to MOST_BYTES, or that a read failed.
-#[derive(Clone, Copy)]
-enum Input {
-    Bytes(usize),
-    Failed,
-}
-
-// Reads once, to the front of part.
-fn read_once<R: Read>(input: &mut R, part: &mut [u8]) -> Input
-    ensures most { AtMost result (length part.old) }
-    ensures bytes { OnceRead (R.remaining input.old) (R.remaining input.new) result part.new }
-{
-    match input.read(part) {
-        Ok(n) => Input::Bytes(n),
-        Err(_) => Input::Failed,
-    }
-}
-
-// Reads the input to the front of file until it is full or the input ends. A read that fails, or that a signal
-// interrupts, ends it with no answer: the bytes before it need not be the whole file.
-fn read_input<R: Read>(input: &mut R, file: &mut [u8]) -> Input
-    ensures most { AtMost result (length file.old) }
-    ensures bytes { InputRead (R.remaining input.old) (R.remaining input.new) result file.new }
-{
-    let mut end = 0;
-    while end < file.len() {
-        let read = read_once(input, &mut file[end..]);
-        let Input::Bytes(n) = read else {
-            return Input::Failed;
-        };
-        if n == 0 {
-            return Input::Bytes(end);
-        }
-        end += n;
-    }
-    Input::Bytes(end)
+// Why no whole listing was printed.
+#[derive(Drop)]
+enum Stopped {
+    Read(Cut),
+    Write(io::Error),
 }
 
 fn print_listing<W: Write>(out: &mut W, file: &[u8]) -> io::Result<()>
     ensures { OnOk result (Appends (W.contents out.old) (W.contents out.new) (listingOf file.now)) }
 {
-    let valuation = engine::figures_of(file);
-    let mut text = [0u8; 512];
-    let n = listing::write_listing(valuation, &mut text);
-    out.write_all(&text[..n])
+    let valuation = engine::figures_of(file).map_err(Refusal::number);
+    let text = listing::text_of(valuation);
+    out.write_all(text.as_slice())
 }
 
-// Where a read fails nothing is printed.
-fn answer<R: Read, W: Write>(input: &mut R, out: &mut W) -> io::Result<()>
-    ensures { OnOk result (Printed (R.remaining input.old) (W.contents out.old) (W.contents out.new)) }
+// Where a read fails nothing is printed: the bytes before it need not be the whole file.
+fn answer<R: Read, W: Write>(input: &mut R, out: &mut W) -> Result<(), Stopped>
+    ensures printed { OnOk result (Printed (R.remaining input.old) (W.contents out.old) (W.contents out.new)) }
+    ensures unread { IfErr result (KeepsUnread (W.contents out.old) (W.contents out.new)) }
 {
     let mut file = [0u8; MOST_BYTES];
-    let read = read_input(input, &mut file);
-    let Input::Bytes(n) = read else {
-        return Ok(());
-    };
-    print_listing(out, &file[..n])
+    let n = batch::read_full(input, &mut file).map_err(Stopped::Read)?;
+    print_listing(out, &file[..n]).map_err(Stopped::Write)
 }
 
-// Ends with 1 where the listing cannot be written.
+// Ends with 1 where the listing cannot be written, and with 0 where the input cannot be read.
 fn main(rt: HostRuntime) -> io::Result<()> {
-    answer(&mut rt.stdin(), &mut rt.stdout())
+    match answer(&mut rt.stdin(), &mut rt.stdout()) {
+        Ok(()) | Err(Stopped::Read(_)) => Ok(()),
+        Err(Stopped::Write(error)) => Err(error),
+    }
 }

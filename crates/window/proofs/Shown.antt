@@ -14,12 +14,12 @@ use Rattle.model.specs.Case.{FileCase}
 use Rattle.model.specs.Limits.{WithinLimits}
 use Rattle.method.specs.Curve.{base, curve}
 use Rattle.method.specs.Rounded as Rounded
-use Rattle.method.specs.Brackets.{bracket}
+use Rattle.arith.specs.Brackets.{bracket}
 use Rattle.model.specs.Layout.{case_of}
 use Rattle.model.specs.Refusals.{first_of, refusal}
 use Rattle.method.specs.Buffers.{byTerm, factorEntries, factorsAfter, valuationRefusal}
 use Rattle.method.specs.Window.{double, figuresInOrder, factorPoint, factorBracket}
-use Rattle.model.specs.declared.figures.Bracket.{Bracket}
+use Rattle.arith.specs.declared.bracket.Bracket.{Bracket}
 use Rattle.model.specs.declared.figures.Figures.{Figures}
 use Rattle.model.specs.declared.window.Point.TheVariants.{Factor, Money}
 use Rattle.theory.proofs.acceptance.Acceptance.{within-limits}

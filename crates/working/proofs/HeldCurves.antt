@@ -14,8 +14,8 @@ use Rattle.method.specs.Rounded as Rounded
 use Rattle.theory.proofs.general.Lists.{getD-table}
 use Rattle.method.specs.inner.CurveWithin.{CurveWithin, BaseWithin}
 use Rattle.theory.proofs.curve.CaseCurves.{N-is, ufr-is, P-zero, P-shifted, per-step-most, curve-within, base-within}
-use Rattle.growths.specs.inner.Shifted.{shiftedSum, shiftedSums, movedSums, curveHeld}
-use Rattle.growths.proofs.Curves.{N-of, ufr-of, P-of}
+use Rattle.curves.specs.inner.Shifted.{shiftedSum, shiftedSums, movedSums, curveHeld}
+use Rattle.curves.proofs.Curves.{N-of, ufr-of, P-of}
 use Rattle.theory.proofs.curve.Agree.{Agree, same-factors, same-within, same_base}
 
 -- ---- the curves of a case

@@ -1,40 +1,46 @@
--- What the code asks of a case that fits, and its figures by entries of factors. Assumes nothing.
+-- What the code asks of a case that fits, and its figures by the factors of its curves. Assumes nothing.
 use Prim.Native.Nat.{ℕ, suc, ◌*◌, ◌≤◌, ◌<◌}
-use mathlib.Core.Path.{◌≡◌, refl, ap, sym, ◌∙◌, subst, fun_ext}
+use mathlib.Core.Path.{◌≡◌, refl, ap, sym, ◌∙◌, fun_ext}
 use mathlib.Core.List.{List, ◌++◌}
 use native.Mathlib.Omega.{arith}
 use native.Mathlib.Nat.{le_trans}
 use lib.Dec.{lit≤}
 use lib.IntN.{ℤ}
-use lib.ListN.{length, take, get_or, drop, length-append}
-use lib.Seq.{length-take-le}
-use Rattle.arith.specs.Rounding.{End, low, high}
-use Rattle.method.specs.Curve.{Move, base, up, down, P}
+use lib.ListN.{length, get_or, drop, length-append}
+use Rattle.arith.specs.Rounding.{End}
+use Rattle.arith.specs.Brackets.{bracket}
+use Rattle.arith.specs.declared.bracket.Bracket.{Bracket}
+use Rattle.method.specs.Curve.{Curve, Move, base, up, down, P}
 use Rattle.method.specs.inner.Shifts.{added, taken}
-use Rattle.method.specs.Buffers.{byTerm, entry_of}
 use Rattle.method.specs.Rounded as Rounded
 use Rattle.method.specs.Rounded.{worth, rateOf}
 use Rattle.heldcase.specs.declared.Case.{Case}
-use Rattle.model.specs.declared.figures.Valuation.TheVariants.{Valued}
-use Rattle.theory.proofs.general.Lists.{getD-table}
-use Rattle.theory.proofs.general.Entries.{length-byTerm, entry-is, entry_in}
+use Rattle.theory.proofs.general.Lists.{length-table, getD-table}
+use Rattle.theory.proofs.general.ByEnds.{by-ends, end_is}
 use Rattle.theory.proofs.curve.Unadjusted.{unadjusted-most}
 use Rattle.theory.proofs.money.MoneySizes.{factor-most}
 use Rattle.theory.proofs.money.Worth.{same-worth}
-use Rattle.growths.specs.inner.Shifted.{shiftedSum, shiftedSums, movedSums, curveHeld}
-use Rattle.growths.specs.inner.Ranges.{ShiftWithin, FactorsWithin}
-use Rattle.growths.proofs.Curves.{N-of, P-of}
-use Rattle.search.specs.inner.Ranges.{RatesWithin}
+use Rattle.curves.specs.inner.Shifted.{shiftedSum, shiftedSums, curveOf, movedSums, curveHeld}
+use Rattle.curves.specs.inner.ByTerm.{brackets, factorAt}
+use Rattle.curves.specs.inner.Ranges.{ShiftWithin, FactorsWithin}
+use Rattle.curves.specs.declared.sums.CurveSums.{CurveSums}
+use Rattle.curves.proofs.Curves.{N-of, P-of}
+use Rattle.curves.proofs.ByTerm.{factor-at, factor-in}
 use Rattle.zerorates.proofs.RateEntries.{rates-of-entries, entries-within}
-use Rattle.worth.specs.inner.OnCurves.{on, worths, entriesOn, factorsIn}
-use Rattle.solvency.specs.inner.ByWorths.{moneyBy}
-use Rattle.worth.specs.inner.Ranges.{FlowsFit, FactorsFit, CurvesFit}
-use Rattle.solvency.specs.declared.figures.Money.{Money}
-use Rattle.worth.specs.declared.Worths.{Worths}
-use Rattle.worth.specs.declared.Curves.{Curves}
-use Rattle.working.specs.inner.Ranges.{CaseFits, SumsFit}
-use Rattle.working.specs.declared.Sums.{Sums}
-use Rattle.working.specs.inner.Working.{sumsOn, factorsOn, curvesBy, lastUnadjusted, bondFactorsBy, bondCurvesBy, ratesOn, owed, bonds, moneyOn, moneyOf}
+use Rattle.curves.specs.declared.three.Three.{Three}
+use Rattle.curves.specs.inner.Three.{on}
+use Rattle.money.specs.inner.OnCurves.{ends}
+use Rattle.money.specs.inner.ByWorths.{moneyBy}
+use Rattle.money.specs.inner.Ranges.{FlowsFit, FactorsFit}
+use Rattle.model.specs.declared.figures.Valuation.{Valuation}
+use Rattle.working.specs.inner.Working.{sumsOn, adjustedBy, factorsOn, ratesOn, owed, bonds, moneyOf}
+use Rattle.method.specs.inner.CurveWithin.{CurveWithin}
+use Rattle.zerorates.specs.inner.Ranges.{RatesWithin}
+use Rattle.zerorates.specs.inner.ByTerm.{rateBracket, rateBrackets}
+use Rattle.working.specs.inner.Entries.{entries}
+use Rattle.working.proofs.Entries.{entries-by}
+use Rattle.zerorates.specs.declared.rates.RateBracket.{RateBracket}
+use Rattle.working.specs.inner.Ranges.{CaseFits}
 
 -- ---- the curves
 -- the base curve's sums are the case's own
@@ -61,122 +67,122 @@ module _ {c : Case} (h : CaseFits c) where
     lessMost = (shift-most m).1;
   }
 
-sums-within : {c : Case} (m : Move) → CaseFits c → FactorsWithin (movedSums m c)
-sums-within {c} m h = record { within = h.curves m; most = omega (arith, N-of (movedSums m c), N-held c m, h.perStep) }
+  pub sums-within : (m : Move) → FactorsWithin (movedSums m c)
+  sums-within m = record { within = h.curves m; most = omega (arith, N-of (movedSums m c), N-held c m, h.perStep) }
 
--- ---- the entries of three curves: those of f, at the terms to `last`
-abbrev EntriesOf : (Move → End → ℕ → ℕ) → ℕ → Curves → Type 0
-EntriesOf f last s = (m : Move) (e : End) (t : ℕ) → 1 ≤ t → t ≤ last → entry_of (entriesOn s m) e t ≡ f m e t
+  pub rates-within : (factors : List Bracket) → factors ≡ brackets (Rounded.factor (curveHeld c base)) 120 → RatesWithin factors
+  rates-within factors e = rw e (entries-within (curveHeld c base) h.base)
 
-abbrev adjusted : Case → Move → End → ℕ → ℕ
-adjusted c m = Rounded.factor (curveHeld c m)
+-- ---- what flows are worth, by the factors of a curve
+pub adjusted-fit : (c : Curve) → CurveWithin c → (factors : List Bracket) (count : ℕ) → count ≤ 120 → factors ≡ brackets (Rounded.factor c) 120 → FactorsFit factors count
+adjusted-fit c w factors count l e = rw e (record {
+  terms = rw (length-table (λ i. bracket (λ e. Rounded.factor c e (suc i))) 120) l;
+  factor = λ e t i k. rw (factor-at (Rounded.factor c) 120 e t i (le_trans k l)) (le_trans (factor-most c w e t) (lit≤ tt));
+})
 
-abbrev unadjusted : Case → Move → End → ℕ → ℕ
-unadjusted c m = Rounded.unadjusted (curveHeld c m)
+pub adjusted-worth : (c : Curve) (factors : List Bracket) (flows : List ℕ) → length flows ≤ 120 → factors ≡ brackets (Rounded.factor c) 120 → (r : Bracket)
+    → r ≡ bracket (λ e. worth e (factorAt factors e) 1 flows) → r ≡ bracket (λ e. worth e (Rounded.factor c e) 1 flows)
+adjusted-worth c factors flows l e r p =
+    p ∙ by-ends (λ e. worth e (factorAt factors e) 1 flows) (λ e. worth e (Rounded.factor c e) 1 flows)
+    (λ end. same-worth 120 end (factorAt factors end) (Rounded.factor c end) (λ t i k. rw e (factor-at (Rounded.factor c) 120 end t i k)) 1 flows (omega arith) (omega arith))
 
-own-entries : (c : Case) → EntriesOf (adjusted c) 120 (curvesBy (sumsOn c))
-own-entries c base = entry-is (adjusted c base) 120
-own-entries c up = entry-is (adjusted c up) 120
-own-entries c down = entry-is (adjusted c down) 120
+-- the unadjusted factors of the terms to n, and others behind them
+abbrev Behind : Curve → ℕ → List Bracket → List Bracket → Type 0
+Behind c n later factors = factors ≡ brackets (Rounded.unadjusted c) n ++ later
 
-bond-entries : (c : Case) → EntriesOf (unadjusted c) (lastUnadjusted c.bond_count) (bondCurvesBy (sumsOn c) c.bond_count)
-bond-entries c base = entry_in (unadjusted c base) (lastUnadjusted c.bond_count) (drop (2 * lastUnadjusted c.bond_count) (factorsOn c base))
-bond-entries c up = entry_in (unadjusted c up) (lastUnadjusted c.bond_count) (drop (2 * lastUnadjusted c.bond_count) (factorsOn c up))
-bond-entries c down = entry_in (unadjusted c down) (lastUnadjusted c.bond_count) (drop (2 * lastUnadjusted c.bond_count) (factorsOn c down))
+pub unadjusted-fit : (c : Curve) → CurveWithin c → (factors later : List Bracket) (n count : ℕ) → count ≤ n → count ≤ 60 → Behind c n later factors → FactorsFit factors count
+unadjusted-fit c w factors later n count l m e = rw e (record {
+  terms = omega (arith, length-append (brackets (Rounded.unadjusted c) n) later, length-table (λ i. bracket (λ e. Rounded.unadjusted c e (suc i))) n);
+  factor = λ e t i k. rw (factor-in (Rounded.unadjusted c) n later e t i (le_trans k l)) (unadjusted-most c w e t (le_trans k m));
+})
 
--- they fit, where none is above 3.4
-module _ {c : Case} (h : CaseFits c) where
-  own-fit : (count : ℕ) → count ≤ 120 → (m : Move) → FactorsFit (factorsOn c m) count
-  own-fit count l m = record {
-    terms = rw (length-byTerm (adjusted c m) 120) (omega arith);
-    factor = λ e t i k. rw (entry-is (adjusted c m) 120 e t i (le_trans k l)) (le_trans (factor-most (curveHeld c m) (h.curves m) e t) (lit≤ tt));
-  }
+pub unadjusted-worth : (c : Curve) (factors later : List Bracket) (n : ℕ) (flows : List ℕ) → length flows ≤ n → Behind c n later factors → (r : Bracket)
+    → r ≡ bracket (λ e. worth e (factorAt factors e) 1 flows) → r ≡ bracket (λ e. worth e (Rounded.unadjusted c e) 1 flows)
+unadjusted-worth c factors later n flows l e r p =
+    p ∙ by-ends (λ e. worth e (factorAt factors e) 1 flows) (λ e. worth e (Rounded.unadjusted c e) 1 flows)
+    (λ end. same-worth n end (factorAt factors end) (Rounded.unadjusted c end) (λ t i k. rw e (factor-in (Rounded.unadjusted c) n later end t i k)) 1 flows (omega arith) (omega arith))
 
-  bond-fit : (m : Move) → FactorsFit (bondFactorsBy c.bond_count (movedSums m c)) c.bond_count
-  bond-fit m =
-      let n : ℕ = lastUnadjusted c.bond_count in
-      let later : List ℕ = drop (2 * n) (factorsOn c m) in record {
-        terms = omega (arith, length-append (byTerm (unadjusted c m) n) later, length-byTerm (unadjusted c m) n);
-        factor = λ e t i k.
-            rw (entry_in (unadjusted c m) n later e t i (omega arith)) (unadjusted-most (curveHeld c m) (h.curves m) e t (le_trans k h.bondTerms));
-      }
-
-  -- the factors that the code works out, by the case's own sums
-  module _ (s : Sums) (e : s ≡ sumsOn c) where
-    pub sums-fit : SumsFit s
-    sums-fit = subst SumsFit (sym e) (record { base = sums-within base h; up = sums-within up h; down = sums-within down h })
-
-    module _ (r : Curves) (f : r ≡ curvesBy s) where
-      curves-are : r ≡ curvesBy (sumsOn c)
-      curves-are = f ∙ ap curvesBy e
-
-      pub curves-fit : CurvesFit r c.pension_count
-      curves-fit =
-          let fit = own-fit c.pension_count h.pension.few in
-          subst (λ (x : Curves). CurvesFit x c.pension_count) (sym curves-are) (record { base = fit base; up = fit up; down = fit down })
-
-      pub rates-within : RatesWithin r.base
-      rates-within = subst (λ (x : Curves). RatesWithin x.base) (sym curves-are) (entries-within (curveHeld c base) h.base)
-
-    module _ (b : Curves) (g : b ≡ bondCurvesBy s c.bond_count) where
-      bond-curves-are : b ≡ bondCurvesBy (sumsOn c) c.bond_count
-      bond-curves-are = g ∙ ap (λ (x : Sums). bondCurvesBy x c.bond_count) e
-
-      pub bond-curves-fit : CurvesFit b c.bond_count
-      bond-curves-fit =
-          subst (λ (x : Curves). CurvesFit x c.bond_count) (sym bond-curves-are) (record { base = bond-fit base; up = bond-fit up; down = bond-fit down })
-
--- ---- the figures: by entries, or by the factors themselves
-flows-by : (f : Move → End → ℕ → ℕ) (last : ℕ) (s : Curves) → EntriesOf f last s → (flows : List ℕ) → length flows ≤ last
-    → ◌≡◌ {A = Move → End → ℕ} (λ m e. worth e (factorsIn s m e) 1 flows) (λ m e. worth e (f m e) 1 flows)
-flows-by f last s k flows l =
-    fun_ext (λ m. fun_ext (λ e. same-worth last e (factorsIn s m e) (f m e) (k m e) 1 flows (omega arith) (omega arith)))
-
-module _ {c : Case} (h : CaseFits c) where
-  counted : (flows : List ℕ) (count : ℕ) → FlowsFit flows count → length (take count flows) ≡ count
-  counted flows count f = length-take-le count flows f.there
-
-  own-money : moneyOn (factorsIn (curvesBy (sumsOn c))) (factorsIn (bondCurvesBy (sumsOn c) c.bond_count)) c ≡ moneyOf c
-  own-money =
-      let pension : List ℕ = take c.pension_count c.pension in
-      let bond : List ℕ = take c.bond_count c.bonds in
-      let some : length pension ≤ 120 = omega (arith, counted c.pension c.pension_count h.pension, h.pension.few) in
-      let few : length bond ≤ lastUnadjusted c.bond_count = omega (arith, counted c.bonds c.bond_count h.bonds) in
-      ap (λ (l : Move → End → ℕ). moneyBy l (bonds (factorsIn (bondCurvesBy (sumsOn c) c.bond_count)) c) c.amounts c.shocks c.people)
-      (flows-by (adjusted c) 120 (curvesBy (sumsOn c)) (own-entries c) pension some)
-      ∙ ap (λ (b : Move → End → ℕ). moneyBy (owed (adjusted c) c) b c.amounts c.shocks c.people)
-      (flows-by (unadjusted c) (lastUnadjusted c.bond_count) (bondCurvesBy (sumsOn c) c.bond_count) (bond-entries c) bond few)
-
-  module _ (s : Sums) (e : s ≡ sumsOn c) (r : Curves) (f : r ≡ curvesBy s) (b : Curves) (g : b ≡ bondCurvesBy s c.bond_count)
-      (money : Money) (i : money ≡ moneyOn (factorsIn r) (factorsIn b) c) where
-    pub money-is : money ≡ moneyOf c
-    money-is =
-        i ∙ ap (λ (x : Curves). moneyOn (factorsIn x) (factorsIn b) c) (curves-are h s e r f)
-        ∙ ap (λ (x : Curves). moneyOn (factorsIn (curvesBy (sumsOn c))) (factorsIn x) c) (bond-curves-are h s e b g)
-        ∙ own-money
-
-    -- `value_case`: the answer, and both buffers at the end
-    pub valued : (a k k₀ : List ℕ) (z y y₀ : List ℤ) → a ≡ r.base → z ≡ byTerm (rateOf (entry_of a)) 120 → k ≡ a ++ drop 240 k₀ → y ≡ z ++ drop 240 y₀
-        → (Valued money.figures money.verdict ≡ Valued (moneyOf c).figures (moneyOf c).verdict) × ((k ≡ factorsOn c base ++ drop 240 k₀) × (y ≡ ratesOn c ++ drop 240 y₀))
-    valued a k k₀ z y y₀ j l m n =
-        let x : a ≡ factorsOn c base = j ∙ ap (λ (w : Curves). w.base) (curves-are h s e r f) in
-        let q : z ≡ ratesOn c = l ∙ ap (λ (w : List ℕ). byTerm (rateOf (entry_of w)) 120) x ∙ rates-of-entries (Rounded.factor (curveHeld c base)) in
-        (ap (λ (w : Money). Valued w.figures w.verdict) money-is, (m ∙ ap (λ (w : List ℕ). w ++ drop 240 k₀) x, n ∙ ap (λ (w : List ℤ). w ++ drop 240 y₀) q))
-
--- ---- at any factors
-on-worths : (f : Move → End → ℕ) → on (worths f) ≡ f
-on-worths f = fun_ext (λ m. fun_ext (λ e. at m e))
+-- ---- the factors and the worths on the three curves
+ends-are : (w : Three Bracket) (f : Move → End → ℕ) → ((m : Move) → on w m ≡ bracket (f m)) → ends w ≡ f
+ends-are w f h = fun_ext (λ m. fun_ext (λ e. at m e))
   where
-    at : (m : Move) (e : End) → on (worths f) m e ≡ f m e
-    at base low = refl
-    at base high = refl
-    at up low = refl
-    at up high = refl
-    at down low = refl
-    at down high = refl
+    at : (m : Move) (e : End) → ends w m e ≡ f m e
+    at base e = end_is w.base (f base) (h base) e
+    at up e = end_is w.up (f up) (h up) e
+    at down e = end_is w.down (f down) (h down) e
 
-pub money-at : (c : Case) (s t : Curves) (l b : Worths) (r : Money) → l ≡ worths (owed (factorsIn s) c) → b ≡ worths (bonds (factorsIn t) c)
-    → r ≡ moneyBy (on l) (on b) c.amounts c.shocks c.people → r ≡ moneyOn (factorsIn s) (factorsIn t) c
-money-at c s t l b r i j e =
-    e ∙ ap (λ (y : Move → End → ℕ). moneyBy y (on b) c.amounts c.shocks c.people) (ap on i ∙ on-worths (owed (factorsIn s) c))
-    ∙ ap (λ (y : Move → End → ℕ). moneyBy (owed (factorsIn s) c) y c.amounts c.shocks c.people) (ap on j ∙ on-worths (bonds (factorsIn t) c))
+module _ {c : Case} (h : CaseFits c) (s : Three CurveSums) (e : s ≡ sumsOn c) where
+  sums-on : (m : Move) → on s m ≡ movedSums m c
+  sums-on base = ap (λ (x : Three CurveSums). x.base) e
+  sums-on up = ap (λ (x : Three CurveSums). x.up) e
+  sums-on down = ap (λ (x : Three CurveSums). x.down) e
+
+  -- the factors of a curve
+  pub sums-fit : (m : Move) (x : CurveSums) → x ≡ on s m → FactorsWithin x
+  sums-fit m x p = rw (p, sums-on m) (sums-within h m)
+
+  pub adjusted-is : (a : Three (List Bracket)) → ((m : Move) → on a m ≡ brackets (Rounded.factor (curveOf (on s m))) 120) → a ≡ adjustedBy s
+  adjusted-is a k = rw (k base, k up, k down)
+
+  module _ (a : Three (List Bracket)) (k : a ≡ adjustedBy s) where
+    by-sums : (m : Move) → on a m ≡ brackets (Rounded.factor (curveOf (on s m))) 120
+    by-sums base = ap (λ (x : Three (List Bracket)). x.base) k
+    by-sums up = ap (λ (x : Three (List Bracket)). x.up) k
+    by-sums down = ap (λ (x : Three (List Bracket)). x.down) k
+
+    pub adjusted-on : (m : Move) → on a m ≡ brackets (Rounded.factor (curveHeld c m)) 120
+    adjusted-on m = by-sums m ∙ ap (λ (x : CurveSums). brackets (Rounded.factor (curveOf x)) 120) (sums-on m)
+
+    pub owed-fit : (m : Move) (factors : List Bracket) → factors ≡ on a m → (flows : List ℕ) → flows ≡ c.pension
+        → FlowsFit flows × FactorsFit factors (length flows)
+    owed-fit m factors p flows f = rw f (h.pension, adjusted-fit (curveHeld c m) (h.curves m) factors _ h.pension.few (p ∙ adjusted-on m))
+
+    pub owed-is : (m : Move) (factors : List Bracket) → factors ≡ on a m → (flows : List ℕ) → flows ≡ c.pension → (r : Bracket)
+        → r ≡ bracket (λ e. worth e (factorAt factors e) 1 flows) → r ≡ bracket (owed (λ m. Rounded.factor (curveHeld c m)) c m)
+    owed-is m factors p flows f r q = adjusted-worth (curveHeld c m) factors c.pension h.pension.few (p ∙ adjusted-on m) r (rw f at q)
+
+    pub bonds-fit : (m : Move) (x : CurveSums) (factors : List Bracket) → x ≡ on s m → factors ≡ on a m → (flows : List ℕ) → flows ≡ c.bonds
+        → FlowsFit flows × FactorsWithin x × (length flows ≤ 60) × (factors ≡ brackets (Rounded.factor (curveOf x)) 120)
+    bonds-fit m x factors p q flows f = rw f (
+      h.bonds,
+      sums-fit m x p,
+      h.bondTerms,
+      q ∙ by-sums m ∙ ap (λ (y : CurveSums). brackets (Rounded.factor (curveOf y)) 120) (sym p),
+    )
+
+  pub bonds-are : (m : Move) (x : CurveSums) → x ≡ on s m → (flows : List ℕ) → flows ≡ c.bonds → (r : Bracket)
+      → r ≡ bracket (λ e. worth e (Rounded.unadjusted (curveOf x) e) 1 flows) → r ≡ bracket (bonds (λ m. Rounded.unadjusted (curveHeld c m)) c m)
+  bonds-are m x p flows f r q = rw (p, sums-on m, f) at q
+
+pub money-is : (c : Case) (l b : Three Bracket) → ((m : Move) → on l m ≡ bracket (owed (λ m. Rounded.factor (curveHeld c m)) c m))
+    → ((m : Move) → on b m ≡ bracket (bonds (λ m. Rounded.unadjusted (curveHeld c m)) c m))
+    → (r : Valuation) → r ≡ moneyBy (ends l) (ends b) c.amounts c.shocks c.people → r ≡ moneyOf c
+money-is c l b p q r k =
+    k ∙ ap (λ (f : Move → End → ℕ). moneyBy f (ends b) c.amounts c.shocks c.people) (ends-are l (owed (λ m. Rounded.factor (curveHeld c m)) c) p)
+    ∙ ap (λ (f : Move → End → ℕ). moneyBy (owed (λ m. Rounded.factor (curveHeld c m)) c) f c.amounts c.shocks c.people) (ends-are b (bonds (λ m. Rounded.unadjusted (curveHeld c m)) c) q)
+
+-- the factors of sums that are those of a curve
+pub adjusted-by : (x y : CurveSums) → x ≡ y → (factors : List Bracket) → factors ≡ brackets (Rounded.factor (curveOf x)) 120 → factors ≡ brackets (Rounded.factor (curveOf y)) 120
+adjusted-by x y p factors k = rw p at k
+
+-- ---- both buffers at the end
+module _ (c : Case) (h : CaseFits c) (factors : List Bracket) (is : factors ≡ brackets (Rounded.factor (curveHeld c base)) 120) where
+  pub base-within : RatesWithin factors
+  base-within = rates-within h factors is
+
+  pub factors-lent : (held out : List ℕ) → out ≡ entries (λ (b : Bracket). b.lower) (λ (b : Bracket). b.upper) factors ++ drop (2 * length factors) held
+      → out ≡ factorsOn c base ++ drop 240 held
+  factors-lent held out e =
+      let n = length-table (λ i. bracket (λ e. Rounded.factor (curveHeld c base) e (suc i))) 120 in
+      let by = entries-by (λ (b : Bracket). b.lower) (λ (b : Bracket). b.upper) (Rounded.factor (curveHeld c base)) (λ i. bracket (λ e. Rounded.factor (curveHeld c base) e (suc i)))
+      (λ i. refl) (λ i. refl) 120 in
+      rw (is, by, n) at e
+
+  pub rates-lent : (rates : List RateBracket) → rates ≡ rateBrackets (rateOf (factorAt factors)) 120 → (held out : List ℤ)
+      → out ≡ entries (λ (b : RateBracket). b.lower) (λ (b : RateBracket). b.upper) rates ++ drop (2 * length rates) held → out ≡ ratesOn c ++ drop 240 held
+  rates-lent rates k held out e =
+      let own : rates ≡ rateBrackets (Rounded.zeroRate (curveHeld c base)) 120 = rw is at k ∙ rates-of-entries (Rounded.factor (curveHeld c base)) in
+      let n = length-table (λ i. rateBracket (λ e. Rounded.zeroRate (curveHeld c base) e (suc i))) 120 in
+      let by = entries-by (λ (b : RateBracket). b.lower) (λ (b : RateBracket). b.upper) (Rounded.zeroRate (curveHeld c base)) (λ i. rateBracket (λ e. Rounded.zeroRate (curveHeld c base) e (suc i)))
+      (λ i. refl) (λ i. refl) 120 in
+      rw (own, by, n) at e

@@ -2,100 +2,95 @@
 // its bonds, its zero rates, its figures and its verdict.
 #![tactic(auto)]
 
-ghost use Rattle.std.specs.Prelude.{◌≡◌, ◌≤◌, ◌++◌, length, drop};
-ghost use Rattle.method.specs.Curve.{base};
-ghost use Rattle.model.specs.declared.figures.Valuation.TheVariants.{Valued};
-ghost use Rattle.worth.specs.inner.OnCurves.{factorsIn};
-ghost use Rattle.worth.specs.inner.Ranges.{CurvesFit};
-ghost use Rattle.working.specs.inner.Working.{sumsOn, factorsOn, curvesBy, bondCurvesBy, ratesOn, moneyOn, moneyOf};
-ghost use Rattle.working.specs.inner.Ranges.{CaseFits, SumsFit};
+mod lend;
 
-use bondcurve::unadjusted_factors;
-use curve::factors;
-use growths::shift::{CurveSums, shifted_curve};
+ghost use Rattle.std.specs.Prelude.{◌≡◌, ◌≤◌, ◌++◌, length, drop};
+ghost use Rattle.arith.specs.Brackets.{bracket};
+ghost use Rattle.method.specs.Curve.{base, Move};
+ghost use Rattle.method.specs.Rounded as Rounded;
+ghost use Rattle.method.specs.Rounded.{worth};
+ghost use Rattle.curves.specs.inner.Shifted.{curveOf};
+ghost use Rattle.curves.specs.inner.ByTerm.{brackets, factorAt};
+ghost use Rattle.curves.specs.inner.Ranges.{FactorsWithin};
+ghost use Rattle.money.specs.inner.Ranges.{FlowsFit, FactorsFit, WorthFits};
+ghost use Rattle.working.specs.inner.Working.{sumsOn, adjustedBy, factorsOn, ratesOn, moneyOf};
+ghost use Rattle.working.specs.inner.Ranges.{CaseFits};
+
+use arith::bracket::Bracket;
+use curves::sums::{CurveSums, shifted};
+use curves::three::Three;
 use heldcase::Case;
-use lent::fill;
+use lend::lend;
 use model::figures::Valuation;
-use solvency::figures::{Money, money_by};
-use worth::{Curves, worths_of};
+use money::figures::money_by;
+use money::worth::worth_of;
 use zerorates::rates::zero_rates;
 
-// N and the sums P(t) of the base, the up and the down curve.
-#[derive(Clone, Copy)]
-pub struct Sums {
-    pub base: CurveSums,
-    pub up: CurveSums,
-    pub down: CurveSums,
-}
-
-pub fn sums_of(case: Case) -> Sums
-    requires { CaseFits case }
-    ensures { result ≡ sumsOn case }
+// N and the sums P(t) of the three curves. `CaseFits` stands in clauses and is no invariant of `Case`: the default case has no head, and
+// is out of these ranges.
+fn sums_of(case: &Case) -> Three<CurveSums>
+    requires { CaseFits case.now }
+    ensures { result ≡ sumsOn case.now }
 {
-    let base = shifted_curve(case, 0, 0);
-    let up = shifted_curve(case, case.shocks.up_shift, 0);
-    let down = shifted_curve(case, 0, case.shocks.down_shift);
-    Sums { base, up, down }
+    Three {
+        base: shifted(case, 0, 0),
+        up: shifted(case, case.shocks.up_shift, 0),
+        down: shifted(case, 0, case.shocks.down_shift),
+    }
 }
 
-// The adjusted factors of the three curves.
-pub fn curves_of(s: Sums) -> Curves
-    requires { SumsFit s }
-    ensures { result ≡ curvesBy s }
+// What bond flows are worth on a curve, by its sums and its adjusted factors.
+fn bonds_worth(bonds: &[u64], sums: &CurveSums, adjusted: &[Bracket; 120]) -> Bracket
+    requires { FlowsFit bonds.now × FactorsWithin sums.now × (length bonds.now ≤ 60) × (adjusted.now ≡ brackets (Rounded.factor (curveOf sums.now)) 120) }
+    ensures value { result ≡ bracket (λ e. worth e (Rounded.unadjusted (curveOf sums.now) e) 1 bonds.now) }
+    ensures bound { WorthFits result }
 {
-    let base = factors(s.base);
-    let up = factors(s.up);
-    let down = factors(s.down);
-    Curves { base, up, down }
+    worth_of(bonds, &sums.unadjusted_factors(adjusted, bonds.len()))
 }
 
-// The unadjusted factors of the three curves at the terms of `count` bond flows, from the adjusted ones.
-pub fn bond_curves_of(s: Sums, c: Curves, count: usize) -> Curves
-    requires { SumsFit s × (c ≡ curvesBy s) × (count ≤ 60) }
-    ensures { result ≡ bondCurvesBy s count }
+// The figures and the verdict of a case, by its sums and its adjusted factors.
+fn money_at(case: &Case, sums: &Three<CurveSums>, adjusted: &Three<[Bracket; 120]>) -> Valuation
+    requires { CaseFits case.now × (sums.now ≡ sumsOn case.now) × (adjusted.now ≡ adjustedBy sums.now) }
+    ensures { result ≡ moneyOf case.now }
 {
-    let base = unadjusted_factors(s.base, c.base, count);
-    let up = unadjusted_factors(s.up, c.up, count);
-    let down = unadjusted_factors(s.down, c.down, count);
-    Curves { base, up, down }
+    let pension = case.pension.as_slice();
+    let bonds = case.bonds.as_slice();
+    let owed = adjusted.map(
+        |factors: &[Bracket; 120]| -> Bracket
+            requires { FlowsFit pension.now × FactorsFit factors.now (length pension.now) }
+            ensures { (result ≡ bracket (λ e. worth e (factorAt factors.now e) 1 pension.entry.now)) × WorthFits result }
+        { worth_of(pension, factors) },
+    );
+    let invested = sums.map_with(
+        adjusted,
+        |sums: &CurveSums, factors: &[Bracket; 120]| -> Bracket
+            requires { FlowsFit bonds.now × FactorsWithin sums.now × (length bonds.now ≤ 60) × (factors.now ≡ brackets (Rounded.factor (curveOf sums.now)) 120) }
+            ensures { (result ≡ bracket (λ e. worth e (Rounded.unadjusted (curveOf sums.now) e) 1 bonds.entry.now)) × WorthFits result }
+        { bonds_worth(bonds, sums, factors) },
+    );
+    money_by(owed, invested, &case.amounts, &case.shocks, &case.people)
 }
 
-// The figures and the verdict of a case at given factors of the three curves, its own or others: `c` for its pension flows, `b` for its
-// bonds.
-pub fn money_on(case: Case, c: Curves, b: Curves) -> Money
-    requires { CaseFits case × CurvesFit c case.pension_count × CurvesFit b case.bond_count }
-    ensures { result ≡ moneyOn (factorsIn c) (factorsIn b) case }
-{
-    let owed = worths_of(&case.pension, case.pension_count, c);
-    let bonds = worths_of(&case.bonds, case.bond_count, b);
-    money_by(owed, bonds, case.amounts, case.shocks, case.people)
-}
-
-// The figures and the verdict of a case. No zero rate is worked out.
-pub fn money_of(case: Case) -> Money
-    requires { CaseFits case }
-    ensures { result ≡ moneyOf case }
+/// The figures and the verdict of a case. No zero rate is worked out.
+pub fn money_of(case: &Case) -> Valuation
+    requires { CaseFits case.now }
+    ensures { result ≡ moneyOf case.now }
 {
     let sums = sums_of(case);
-    let curves = curves_of(sums);
-    let bond_curves = bond_curves_of(sums, curves, case.bond_count);
-    money_on(case, curves, bond_curves)
+    let adjusted = sums.map(CurveSums::factors);
+    money_at(case, &sums, &adjusted)
 }
 
-// Values a case: writes the entries 0 to 239 of both lent buffers, and answers the figures and the verdict.
-pub fn value_case(case: Case, factors: &mut [u64], rates: &mut [i64]) -> Valuation
-    requires { CaseFits case × (240 ≤ length factors.old) × (240 ≤ length rates.old) }
-    ensures value { result ≡ Valued (moneyOf case).figures (moneyOf case).verdict }
-    ensures factors { factors.new ≡ factorsOn case base ++ drop 240 factors.old }
-    ensures rates { rates.new ≡ ratesOn case ++ drop 240 rates.old }
+/// Values a case: writes the entries 0 to 239 of both lent buffers, and answers the figures and the verdict.
+pub fn value_case(case: &Case, factors: &mut [u64], rates: &mut [i64]) -> Valuation
+    requires { CaseFits case.now × (240 ≤ length factors.old) × (240 ≤ length rates.old) }
+    ensures value { result ≡ moneyOf case.now }
+    ensures factors { factors.new ≡ factorsOn case.now base ++ drop 240 factors.old }
+    ensures rates { rates.new ≡ ratesOn case.now ++ drop 240 rates.old }
 {
     let sums = sums_of(case);
-    let curves = curves_of(sums);
-    let base = curves.base;
-    let steps = zero_rates(base);
-    fill(base, factors);
-    fill(steps, rates);
-    let bond_curves = bond_curves_of(sums, curves, case.bond_count);
-    let money = money_on(case, curves, bond_curves);
-    Valuation::Valued(money.figures, money.verdict)
+    let adjusted = sums.map(CurveSums::factors);
+    lend(&adjusted.base, factors);
+    lend(&zero_rates(&adjusted.base), rates);
+    money_at(case, &sums, &adjusted)
 }

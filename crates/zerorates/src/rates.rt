@@ -1,16 +1,26 @@
 // The zero rates of the terms, from the factors.
 ghost use Rattle.std.specs.Prelude.{◌≡◌, ◌≤◌};
 ghost use Rattle.method.specs.Rounded.{stepAt, rateOf};
-ghost use Rattle.method.specs.Buffers.{byTerm, entry_of};
-ghost use Rattle.search.specs.inner.Ranges.{RatesWithin};
+ghost use Rattle.curves.specs.inner.ByTerm.{factorAt};
+ghost use Rattle.zerorates.specs.inner.ByTerm.{rateBrackets};
+ghost use Rattle.zerorates.specs.inner.Ranges.{RatesWithin};
 
+use super::known::{guess_rate, known_near};
+use super::search::Search;
+use arith::bracket::Bracket;
+use arith::end::{High, Low};
 use heldcase::Case;
-use model::figures::Bracket;
-use search::known::{guess_rate, known_near};
-use search::search::steps_left;
 
-// So many tests leave one step of all: each halves what is left, and 2^15 is above 22,001.
+/// So many tests leave one step of all: each halves what is left, and 2^15 is above 22,001.
 pub const TESTS: usize = 15;
+
+/// The zero rate of a term, in steps of 0.00001. Both ends are included.
+// A type of its own, for rates go below 0: with a parameter, every clause that says `Bracket` would have to say of what.
+#[derive(Clone, Copy)]
+pub struct RateBracket {
+    pub lower: i64,
+    pub upper: i64,
+}
 
 // The rate of a step.
 fn rate_at(step: u64) -> i64
@@ -20,28 +30,37 @@ fn rate_at(step: u64) -> i64
     step as i64 - 2_000
 }
 
-// The zero rates of the terms 1 to 120: lower, upper, term by term. The lower rate goes by the upper factor, and the upper rate by the
-// lower.
-pub fn zero_rates(factors: [u64; 240]) -> [i64; 240]
-    requires { RatesWithin factors }
-    ensures { result ≡ byTerm (rateOf (entry_of factors)) 120 }
+/// The zero rates of the terms 1 to 120. The lower rate goes by the upper factor, and the upper rate by the lower.
+pub fn zero_rates(factors: &[Bracket; 120]) -> [RateBracket; 120]
+    requires { RatesWithin factors.now }
+    ensures { result ≡ rateBrackets (rateOf (factorAt factors.now)) 120 }
 {
-    let mut out = [0i64; 240];
+    let mut out = [RateBracket { lower: 0, upper: 0 }; 120];
     // The upper factor and the step of the lower rate of the term before, by which the rate is guessed.
     let mut before = Case::UNIT;
     let mut step: u64 = 0;
+    // t is not only an index: the working asks for the term.
     for t in 0..Case::LAST_TERM {
-        let factor = Bracket {
-            lower: factors[2 * t],
-            upper: factors[2 * t + 1],
-        };
+        let factor = factors[t];
         let guess = guess_rate(t, step, before, factor.lower);
         let known = known_near(t + 1, guess, factor);
-        let lower = steps_left(false, t + 1, factor.upper, TESTS, known);
-        let upper = steps_left(true, t + 1, factor.lower, TESTS, known);
+        let by_upper = Search {
+            term: t + 1,
+            factor: factor.upper,
+            known,
+        };
+        let by_lower = Search {
+            term: t + 1,
+            factor: factor.lower,
+            known,
+        };
+        let lower = by_upper.steps_left::<Low>(TESTS);
+        let upper = by_lower.steps_left::<High>(TESTS);
         step = lower.first;
-        out[2 * t] = rate_at(lower.first);
-        out[2 * t + 1] = rate_at(upper.first);
+        out[t] = RateBracket {
+            lower: rate_at(lower.first),
+            upper: rate_at(upper.first),
+        };
         before = factor.upper;
     }
     out

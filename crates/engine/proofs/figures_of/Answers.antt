@@ -2,13 +2,13 @@
 use Rattle.engine.proofs.Valued.{reading-fits, figures-refused, figures-accepted}
 use Rattle.engine.proofs.figures_of.Goals as goal
 
-pub money_of-money-requires : goal.money_of-money-requires
-money_of-money-requires c = reading-fits c.args.file.now c.read-reading.result c.read-reading.ensures.value c.in-Accepted.is
+pub money_of-requires : goal.money_of-requires
+money_of-requires c = let read = c.in-Ok.ensures.value in reading-fits c.args.file.now read.number _ read.given.0
 
-pub returns-in-Refused : goal.returns-in-Refused
-returns-in-Refused c =
-    figures-refused c.args.file.now c.read-reading.result c.read-reading.ensures.value c.in-Refused.n c.in-Refused.is
+pub returns-in-Err : goal.returns-in-Err
+returns-in-Err c = figures-refused c.args.file.now _ c.in-Err.ensures.value.number
 
-pub returns-in-Accepted : goal.returns-in-Accepted
-returns-in-Accepted c =
-    figures-accepted c.args.file.now c.read-reading.result c.read-reading.ensures.value c.in-Accepted.is c.money_of-money.result c.money_of-money.ensures
+pub returns-in-Ok : goal.returns-in-Ok
+returns-in-Ok c =
+    let read = c.in-Ok.ensures.value in
+    figures-accepted c.args.file.now read.number _ read.given.0 _ c.money_of.ensures

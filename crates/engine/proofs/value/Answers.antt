@@ -10,17 +10,19 @@ returns-then-factors-lt240 c =
     too-short c.args.file.now c.args.factors.now c.args.rates.now call c.then-factors-lt240.either
 
 pub value_case-requires : goal.value_case-requires
-value_case-requires c = (reading-fits c.args.file.now c.read-reading.result c.read-reading.ensures.value c.in-Accepted.is, omega arith, omega arith)
+value_case-requires c =
+    let read = c.in-Ok.ensures.value in
+    (reading-fits c.args.file.now read.number _ read.given.0, omega arith, omega arith)
 
-pub returns-in-Refused : goal.returns-in-Refused
-returns-in-Refused c =
+pub returns-in-Err : goal.returns-in-Err
+returns-in-Err c =
     let call = call-of-slice c.args.file.now c.args.factors.now c.args.rates.now c.type_inv.file in
-    refused-file c.args.file.now c.args.factors.now c.args.rates.now call (omega arith) (omega arith)
-    c.read-reading.result c.read-reading.ensures.value c.in-Refused.number c.in-Refused.is
+    refused-file c.args.file.now c.args.factors.now c.args.rates.now call (omega arith) (omega arith) _ c.in-Err.ensures.value.number
 
-pub returns-in-Accepted : goal.returns-in-Accepted
-returns-in-Accepted c =
+pub returns-in-Ok : goal.returns-in-Ok
+returns-in-Ok c =
     let call = call-of-slice c.args.file.now c.args.factors.now c.args.rates.now c.type_inv.file in
+    let read = c.in-Ok.ensures.value in
     let valued = c.value_case.ensures in
     accepted-file c.args.file.now c.args.factors.now c.args.rates.now call (omega arith) (omega arith)
-    c.read-reading.result c.read-reading.ensures.value c.in-Accepted.is _ _ _ valued.value valued.factors valued.rates
+    read.number _ read.given.0 _ _ _ valued.value valued.factors valued.rates

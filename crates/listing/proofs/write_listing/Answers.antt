@@ -1,17 +1,20 @@
--- `write_listing`: the text stands in front of an array of 512 bytes, and from there goes to the front of the lent buffer, if it fits.
-use Rattle.std.proofs.Common.{arith}
-use Rattle.std.proofs.Math.Nat.{le_refl}
-use Rattle.output.proofs.Stores.{as-text}
-use Rattle.listing.proofs.Copied.{front, part, too_short, copied}
+-- `write_listing`: the text goes to the front of the lent buffer, if it fits.
+use Rattle.listing.proofs.Texts.{short_length, short_kept, whole_length, whole_text}
 use Rattle.listing.proofs.write_listing.Goals as goal
 
-pub returns-then-out-used : goal.returns-then-out-used
-returns-then-out-used c =
-    let p = c.put_valuation-used.ensures in
-    too_short c.args.v c.args.out.now p c.if-out-used.true
+pub returns-then-out-used-clause-count : goal.returns-then-out-used-clause-count
+returns-then-out-used-clause-count c =
+    short_length c.args.v c.text_of-text.result.items c.args.out.now c.len-used.result c.text_of-text.ensures c.len-used.ensures.value c.if-out-used.true
 
-pub returns : goal.returns
-returns c =
-    let p = c.put_valuation-used.ensures in
-    let e = part p (omega arith) in
-    copied c.args.v c.args.out.now (as-text (front p (omega arith)) (le_refl _) c.put.ensures) (omega (arith, c.put.ensures.within, e))
+pub returns-then-out-used-clause-text : goal.returns-then-out-used-clause-text
+returns-then-out-used-clause-text c =
+    short_kept c.args.v c.text_of-text.result.items c.args.out.now c.len-used.result c.text_of-text.ensures c.len-used.ensures.value c.if-out-used.true
+
+pub returns-clause-count : goal.returns-clause-count
+returns-clause-count c =
+    whole_length c.args.v c.text_of-text.result.items c.args.out.now c.len-used.result c.text_of-text.ensures c.len-used.ensures.value c.if-out-used.false
+
+pub returns-clause-text : goal.returns-clause-text
+returns-clause-text c =
+    rw (c.copy_from_slice.ensures.after, c.as_slice.ensures.value)
+    (whole_text c.args.v c.text_of-text.result.items c.args.out.now c.len-used.result c.text_of-text.ensures c.len-used.ensures.value c.if-out-used.false)

@@ -1,50 +1,43 @@
--- `rolling::add_day` meets its contract: the sums with the new day tell whether it is within its limits. Assumes nothing.
-use Rattle.std.proofs.Common.{◌∙◌, ap, arith, sym}
-use borrow.Author.Tests.{not-true, not-false}
-use Rattle.rollingmodel.specs.Rolling.{daysHeld}
-use Rattle.theory.proofs.rolling.Held.{held-count}
-use Rattle.givenrates.proofs.Days.{summed-most}
-use Rattle.rolling.proofs.Windows.{with-new, new_told}
-use Rattle.rolling.proofs.Answered.{add-27, add-15, add-5, add-0}
+-- `add_day`: each refusal, and the window with the day behind the newest.
+use Rattle.std.proofs.Common.{◌≡◌, ◌∙◌, ◌<◌, ap, ap₂, arith, refl, sym}
+use Rattle.std.proofs.lemmas.Result.{err_from_is_err_and}
+use Rattle.rollingmodel.specs.Rolling.{slot, withDayIn}
+use Rattle.rolling.specs.inner.Sums.{plus}
+use Rattle.rolling.proofs.Windows.{none-told, add-27, add-15, add-5, add-0, window-small}
 use Rattle.rolling.proofs.add_day.Goals as goal
 
-pub returns-then-not-held : goal.returns-then-not-held
-returns-then-not-held c =
-    add-27 c.args.w c.args.day.rates (sym c.check-held.ensures.right ∙ not-true _ c.if-not-held.true)
+pub returns-in_err-place : goal.returns-in_err-place
+returns-in_err-place c =
+    let p = err_from_is_err_and c.from_residual.result c.from_residual.ensures.1 in
+    let told = c.in_err-place.ensures.err in
+    rw (p.1, p.2, told.0) (add-27 c.args.w.now c.args.new.now.rates told.1)
 
-pub returns-then-w-ge70 : goal.returns-then-w-ge70
-returns-then-w-ge70 c =
-    add-15 c.args.w c.args.day.rates (sym c.check-held.ensures.right ∙ not-false _ c.if-not-held.false) (omega arith)
+pub returns-in_err-slot : goal.returns-in_err-slot
+returns-in_err-slot c =
+    let p = err_from_is_err_and c.from_residual-in_err-slot.result c.from_residual-in_err-slot.ensures.1 in
+    let told = none-told c.free.result _ _ (sym c.in_err-slot.ensures.value) in
+    let place = c.in_ok-place.ensures.ok in
+    let never : c.in_ok-place.place.count < 70 → ⊥ = λ l. told.1 (c.free.ensures.some.1 l) in
+    rw (p.1, p.2, told.0) (add-15 c.args.w.now c.args.new.now.rates place.0 (omega (arith, never, place.1)))
 
-pub add_day-all-requires : goal.add_day-all-requires
-add_day-all-requires c =
-    let w = c.args.w in
-    rw (c.check-held.ensures.sums (not-false _ c.if-not-held.false)) (summed-most 2 (daysHeld w) 759000000 (omega (arith, held-count w)))
+pub returns-in_err-rates : goal.returns-in_err-rates
+returns-in_err-rates c =
+    let p = err_from_is_err_and c.from_residual-in_err-rates.result c.from_residual-in_err-rates.ensures.1 in
+    let told = c.in_err-rates.ensures.err in
+    let place = c.in_ok-place.ensures.ok in
+    let room = (rw c.in_ok-slot.ensures.ok_part at c.free.ensures.some).0 refl in
+    rw (p.1, p.2, told.0) (add-5 c.args.w.now c.args.new.now.rates place.0 (omega (arith, room, place.1)) told.1)
 
-pub returns-then-not-all : goal.returns-then-not-all
-returns-then-not-all c =
-    let w = c.args.w in
-    let new = c.args.day.rates in
-    let within = not-false _ c.if-not-held.false in
-    let right = sym c.check-held.ensures.right ∙ within in
-    let all = with-new w new (omega arith) (c.check-held.ensures.sums within) c.add_day-all.ensures in
-    add-5 w new right (omega arith) (sym (new_told w new right all) ∙ not-true _ c.if-not-all.true)
-
-pub with_day-window-requires : goal.with_day-window-requires
-with_day-window-requires c =
-    let within = not-false _ c.if-not-held.false in (
-      sym c.check-held.ensures.right ∙ within,
-      omega arith,
-      not-false _ c.if-not-all.false,
-      with-new c.args.w c.args.day.rates (omega arith) (c.check-held.ensures.sums within) c.add_day-all.ensures,
-    )
+pub add-requires-clause-small : goal.add-requires-clause-small
+add-requires-clause-small c = window-small c.args.w.now c.in_ok-place.ensures.ok.0
 
 pub returns : goal.returns
 returns c =
-    let w = c.args.w in
-    let new = c.args.day.rates in
-    let within = not-false _ c.if-not-held.false in
-    let right = sym c.check-held.ensures.right ∙ within in
-    let all = with-new w new (omega arith) (c.check-held.ensures.sums within) c.add_day-all.ensures in
-    ap (λ v. record { refusal = 0; window = v }) c.with_day-window.ensures
-    ∙ add-0 w new right (omega arith) (sym (new_told w new right all) ∙ not-false _ c.if-not-all.false)
+    let w = c.args.w.now in
+    let new = c.args.new.now.rates in
+    let (right, count, start) = c.in_ok-place.ensures.ok in
+    let (same, each) = c.in_ok-rates.ensures.ok in
+    let room = (rw c.in_ok-slot.ensures.ok_part at c.free.ensures.some).0 refl in
+    let free = (rw c.in_ok-slot.ensures.ok_part at c.free.ensures.slot).0 ∙ ap₂ (slot 70) start count in
+    add-0 w new right (omega (arith, room, count)) (rw same at each)
+    (c.put_day.ensures ∙ ap₂ (withDayIn w.rates) free same) (c.add.ensures ∙ ap (plus w.sums) same)

@@ -1,16 +1,32 @@
--- `rolling::drop_day` meets its contract, check by check. Assumes nothing.
-use Rattle.std.proofs.Common.{◌∙◌, ap, arith, sym}
-use borrow.Author.Tests.{not-true, not-false}
-use Rattle.rolling.proofs.Answered.{drop-27, drop-16, drop-0}
+-- `drop_day`: each refusal, and the window without its oldest day.
+use Rattle.std.proofs.Common.{◌≡◌, ◌∙◌, ◌<◌, ap, ap₂, arith, refl, sym}
+use Rattle.std.proofs.lemmas.Result.{err_from_is_err_and}
+use Rattle.rollingmodel.specs.Rolling.{slot, dayIn}
+use Rattle.rolling.proofs.Windows.{none-told, drop-27, drop-16, drop-0, window-small}
 use Rattle.rolling.proofs.drop_day.Goals as goal
 
-pub returns-then-not-held : goal.returns-then-not-held
-returns-then-not-held c = drop-27 c.args.w (sym c.check-held.ensures.right ∙ not-true _ c.if-not-held.true)
+pub returns-in_err-place : goal.returns-in_err-place
+returns-in_err-place c =
+    let p = err_from_is_err_and c.from_residual.result c.from_residual.ensures.1 in
+    let told = c.in_err-place.ensures.err in
+    rw (p.1, p.2, told.0) (drop-27 c.args.w.now told.1)
 
-pub returns-then-w-eq0 : goal.returns-then-w-eq0
-returns-then-w-eq0 c = drop-16 c.args.w (sym c.check-held.ensures.right ∙ not-false _ c.if-not-held.false) (omega arith)
+pub returns-in_err-slot : goal.returns-in_err-slot
+returns-in_err-slot c =
+    let p = err_from_is_err_and c.from_residual-in_err-slot.result c.from_residual-in_err-slot.ensures.1 in
+    let told = none-told c.oldest.result _ _ (sym c.in_err-slot.ensures.value) in
+    let place = c.in_ok-place.ensures.ok in
+    let never : 0 < c.in_ok-place.place.count → ⊥ = λ l. told.1 (c.oldest.ensures.some.1 l) in
+    rw (p.1, p.2, told.0) (drop-16 c.args.w.now place.0 (omega (arith, never, place.1)))
+
+pub subtract-requires-clause-small : goal.subtract-requires-clause-small
+subtract-requires-clause-small c = window-small c.args.w.now c.in_ok-place.ensures.ok.0
 
 pub returns : goal.returns
 returns c =
-    ap (λ w. record { refusal = 0; window = w }) c.without_day-window.ensures
-    ∙ drop-0 c.args.w (sym c.check-held.ensures.right ∙ not-false _ c.if-not-held.false) (omega arith)
+    let w = c.args.w.now in
+    let (right, count, start) = c.in_ok-place.ensures.ok in
+    let some = (rw c.in_ok-slot.ensures.ok_part at c.oldest.ensures.some).0 refl in
+    let first = rw c.in_ok-slot.ensures.ok_part at c.oldest.ensures.slot in
+    let next = c.slot.ensures.slot ∙ ap (λ k. slot 70 k 1) start in
+    drop-0 w right (omega (arith, some, count)) (c.day_in-oldest.ensures.day ∙ ap (dayIn w.rates) (first ∙ start)) c.subtract.ensures next

@@ -1,6 +1,5 @@
 -- The case as the engine holds it, of the fields that a host hands in, the sums of some days and the flows.
-use Rattle.std.specs.Prelude.{ℕ, List, length}
-use Rattle.heldcase.specs.Held.{padded}
+use Rattle.std.specs.Prelude.{ℕ, List}
 use Rattle.heldcase.specs.declared.Case.{Case}
 use Rattle.model.specs.declared.case.CaseFields.{CaseFields}
 
@@ -9,10 +8,8 @@ joined f days sums pension bonds = record {
   ufr = f.ufr;
   per_step = days;
   sums = sums;
-  pension_count = length pension;
-  pension = padded 120 pension;
-  bond_count = length bonds;
-  bonds = padded 60 bonds;
+  pension = pension;
+  bonds = bonds;
   amounts = f.amounts;
   shocks = f.shocks;
   people = f.people;

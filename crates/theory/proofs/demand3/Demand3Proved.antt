@@ -15,7 +15,7 @@ use Rattle.model.specs.Limits.{WithinLimits}
 use Rattle.method.specs.Curve.{Curve, base, curve, P}
 use Rattle.method.specs.Exact as Exact
 use Rattle.method.specs.Rounded as Rounded
-use Rattle.method.specs.Brackets.{bracket, end_of}
+use Rattle.arith.specs.Brackets.{bracket, end_of}
 use Rattle.method.specs.Demand3.{Bounds, In, SquareIn, Given, Demand3}
 use Rattle.method.specs.inner.CurveWithin.{CurveWithin}
 use Rattle.theory.proofs.curve.Bracket.{Bounded}

@@ -13,7 +13,7 @@ use Rattle.method.specs.Fraction.{Fraction}
 use Rattle.model.specs.Case.{FileCase}
 use Rattle.method.specs.Curve.{Move, base, curve, natural, P}
 use Rattle.method.specs.Exact as Exact
-use Rattle.method.specs.Brackets.{end_of}
+use Rattle.arith.specs.Brackets.{end_of}
 use Rattle.method.specs.Margins.{WL, WB, NearFirst, NearSecond}
 use Rattle.method.specs.Demand3.{In, Given, Demand3}
 use Rattle.model.specs.declared.figures.Verdict.TheVariants.{Onbeslist}

@@ -5,6 +5,7 @@ use mathlib.Core.List.{List, ◌++◌}
 use Prim.Native.Nat.{ℕ, zero, suc}
 use native.Mathlib.Omega.{arith}
 use lib.IntN.{ℤ, pos}
+use Rattle.std.specs.Prelude.{Result, Ok, Err}
 use Rattle.method.specs.Buffers.{answered, factorEntries, rateEntries, entry_of, rateEntryOf}
 use Rattle.model.specs.Case.{FileCase}
 use Rattle.method.specs.Curve.{base, curve}
@@ -12,36 +13,35 @@ use Rattle.method.specs.Rounded as Rounded
 use Rattle.model.specs.declared.figures.Figures.{Figures}
 use Rattle.model.specs.declared.figures.Verdict.{Verdict}
 use Rattle.model.specs.declared.figures.Valuation.{Valuation}
-use Rattle.model.specs.declared.figures.Valuation.TheVariants.{Refused, Valued}
 use Rattle.theory.proofs.demand3.Demand3Proved.{IsRounded}
 use Rattle.theory.proofs.general.Entries.{lower_in, upper_in, by-term}
 
 -- an answer with figures is of no refusal
-pub no-refusal : (r : ℕ) (k : FileCase) (figures : Figures) (verdict : Verdict) → answered r k ≡ Valued figures verdict → r ≡ 0
-no-refusal zero k figures verdict e = refl
-no-refusal (suc r) k figures verdict e = let x : ◌≡◌ {A = ℕ} 0 1 = cc in let never : ⊥ = omega arith in absurd never
+pub no-refusal : (r : ℕ) (k : FileCase) (v : Valuation) → answered r k ≡ Ok v → r ≡ 0
+no-refusal zero k v e = refl
+no-refusal (suc r) k v e = let x : ◌≡◌ {A = ℕ} 0 1 = cc in let never : ⊥ = omega arith in absurd never
 
 -- the figures and the verdict of an answer that has them
-abbrev figuresOr : Figures → Valuation → Figures
-figuresOr none (Refused r) = none
-figuresOr none (Valued figures verdict) = figures
+abbrev figuresOr : Figures → Result Valuation ℕ → Figures
+figuresOr none (Err r) = none
+figuresOr none (Ok v) = v.figures
 
-abbrev verdictOr : Verdict → Valuation → Verdict
-verdictOr none (Refused r) = none
-verdictOr none (Valued figures verdict) = verdict
+abbrev verdictOr : Verdict → Result Valuation ℕ → Verdict
+verdictOr none (Err r) = none
+verdictOr none (Ok v) = v.verdict
 
-pub written-rounded : (k : FileCase) (figures : Figures) (verdict : Verdict) (factors later : List ℕ) (rates laterRates : List ℤ)
-    → Valued figures verdict ≡ Valued (Rounded.figures k) (Rounded.verdict k)
+pub written-rounded : (k : FileCase) (v : Valuation) (factors later : List ℕ) (rates laterRates : List ℤ)
+    → Ok v ≡ answered 0 k
     → factors ≡ factorEntries k ++ later
     → rates ≡ rateEntries k ++ laterRates
-    → IsRounded k (record { figures = figures; verdict = verdict; factor = entry_of factors; rate = rateEntryOf rates })
+    → IsRounded k (record { figures = v.figures; verdict = v.verdict; factor = entry_of factors; rate = rateEntryOf rates })
 unfolding factorEntries rateEntries
-written-rounded k figures verdict factors later rates laterRates e f z =
+written-rounded k v factors later rates laterRates e f z =
     let factor = Rounded.factor (curve k base) in
     let rate = Rounded.zeroRate (curve k base) in
     record {
-      figures = ap (figuresOr figures) e;
-      verdict = ap (verdictOr verdict) e;
+      figures = ap (figuresOr v.figures) e;
+      verdict = ap (verdictOr v.verdict) e;
       factor = by-term 0 factors factor 120 (λ t l. rw f (lower_in factor 120 later 0 t l)) (λ t l. rw f (upper_in factor 120 later 0 t l));
       rate = by-term (pos 0) rates rate 120 (λ t l. rw z (lower_in rate 120 laterRates (pos 0) t l)) (λ t l. rw z (upper_in rate 120 laterRates (pos 0) t l));
     }

@@ -7,6 +7,7 @@ use mathlib.Core.List.{List}
 use lib.Dec.{leb}
 use lib.ListN.{length}
 use lib.IntN.{ℤ}
+use Rattle.std.specs.Prelude.{Result, Ok}
 use Rattle.arith.specs.Rounding.{End}
 use Rattle.model.specs.Case.{FileCase}
 use Rattle.model.specs.Limits.{WithinLimits}
@@ -19,7 +20,9 @@ use Rattle.method.specs.Buffers as Buffers
 use Rattle.method.specs.Buffers.{valuationRefusal, byTerm, factorEntries, rateEntries, written, answered, valuationOf}
 use Rattle.method.specs.Listing.{listing}
 use Rattle.method.specs.FourBytes.{rewritten, rewrittenFile, SameAsBefore}
-use Rattle.model.specs.declared.figures.Valuation.TheVariants.{Valued}
+use Rattle.model.specs.declared.figures.Valuation.{Valuation}
+use Rattle.model.specs.declared.figures.Figures.{Figures}
+use Rattle.model.specs.declared.figures.Verdict.{Verdict}
 use Rattle.theory.proofs.acceptance.Acceptance.{within-limits, agrees-shown, two_bytes, keeps-accepted}
 use Rattle.theory.proofs.fourbytes.Rewritten.{within-rewritten, factors-same, figures-same, verdict-same}
 
@@ -64,8 +67,11 @@ module _ (file : List ℕ) (none : refusal file ≡ 0) (one : stands 1 (fileMap 
   unfolding valuationRefusal first_of refusal
   same-refusal factors rates = ap (λ (r : ℕ). cond (leb 240 factors && leb 240 rates) r 13) (accepted ∙ sym none)
 
+  abbrev valued : Figures → Verdict → Result Valuation ℕ
+  valued figures verdict = Ok (record { figures = figures; verdict = verdict })
+
   answer-same : (r : ℕ) → answered r (rewritten old) ≡ answered r old
-  answer-same zero = ap₂ Valued (figures-same old two within) (verdict-same old two within)
+  answer-same zero = ap₂ valued (figures-same old two within) (verdict-same old two within)
   answer-same (suc r) = refl
 
   factors-are : factorEntries (rewritten old) ≡ factorEntries old

@@ -2,8 +2,8 @@
 use Prim.Native.Nat.{ℕ}
 use mathlib.Core.Path.{◌≡◌, ap}
 use Rattle.arith.specs.Rounding.{End, low, high}
-use Rattle.method.specs.Brackets.{bracket, end_of}
-use Rattle.model.specs.declared.figures.Bracket.{Bracket}
+use Rattle.arith.specs.Brackets.{bracket, end_of}
+use Rattle.arith.specs.declared.bracket.Bracket.{Bracket}
 
 -- brackets with the same ends
 pub by-ends : (f g : End → ℕ) → ((e : End) → f e ≡ g e) → bracket f ≡ bracket g

@@ -5,30 +5,29 @@ use mathlib.Core.List.{List}
 use Prim.Native.Nat.{ℕ}
 use lib.ListN.{length, drop}
 use lib.IntN.{ℤ}
+use Rattle.std.specs.Prelude.{Ok}
 use Rattle.method.specs.Buffers.{entry_of, rateEntryOf}
 use Rattle.method.specs.Demand3.{Demand3}
 use Rattle.monthsmodel.specs.Months.{monthsRefusal, monthsCase, monthsValuation, monthsFactorsAfter, monthsRatesAfter}
-use Rattle.model.specs.declared.figures.Figures.{Figures}
-use Rattle.model.specs.declared.figures.Verdict.{Verdict}
-use Rattle.model.specs.declared.figures.Valuation.TheVariants.{Valued}
+use Rattle.model.specs.declared.figures.Valuation.{Valuation}
 use Rattle.theory.proofs.demand3.Demand3Proved.{demand3}
 use Rattle.theory.proofs.demand3.Written.{no-refusal, written-rounded}
 use Rattle.theory.proofs.months.Valued.{within-limits}
 
-module _ (file history : List ℕ) (start : ℕ) (factors : List ℕ) (rates : List ℤ) (figures : Figures) (verdict : Verdict)
-    (e : monthsValuation file history start (length factors) (length rates) ≡ Valued figures verdict) where
+module _ (file history : List ℕ) (start : ℕ) (factors : List ℕ) (rates : List ℤ) (v : Valuation)
+    (e : monthsValuation file history start (length factors) (length rates) ≡ Ok v) where
   none : monthsRefusal file history start (length factors) (length rates) ≡ 0
   unfolding monthsValuation
-  none = no-refusal (monthsRefusal file history start (length factors) (length rates)) (monthsCase file history) figures verdict e
+  none = no-refusal (monthsRefusal file history start (length factors) (length rates)) (monthsCase file history) v e
 
   pub months-demand3 : Demand3 (monthsCase file history) (record {
-    figures = figures;
-    verdict = verdict;
+    figures = v.figures;
+    verdict = v.verdict;
     factor = entry_of (monthsFactorsAfter file history start factors rates);
     rate = rateEntryOf (monthsRatesAfter file history start factors rates);
   })
   unfolding monthsValuation monthsFactorsAfter monthsRatesAfter
   months-demand3 =
       demand3 (monthsCase file history) (within-limits file history start (length factors) (length rates) none) _
-      (written-rounded (monthsCase file history) figures verdict (monthsFactorsAfter file history start factors rates) (drop 240 factors)
+      (written-rounded (monthsCase file history) v (monthsFactorsAfter file history start factors rates) (drop 240 factors)
       (monthsRatesAfter file history start factors rates) (drop 240 rates) (rw none at (sym e)) (rw none) (rw none))

@@ -1,6 +1,12 @@
 -- `doubles`: an end up to 2^53 becomes its double.
+use Rattle.std.proofs.Common.{◌≡◌, ◌^◌, ◌≤◌, arith}
+use borrow.Author.Tests.{le-leb}
 use Rattle.window.proofs.Whole.{holds}
 use Rattle.window.proofs.doubles.Goals as goal
 
 pub returns : goal.returns
-returns c = (holds _ c.requires.0, holds _ c.requires.1)
+returns c =
+    let b = c.args.b in
+    let low : b.lower ≤ 2 ^ 53 = omega arith in
+    let high : b.upper ≤ 2 ^ 53 = omega arith in
+    (simp (le-leb b.lower (2 ^ 53) low, le-leb b.upper (2 ^ 53) high), holds b.lower low, holds b.upper high)

@@ -1,29 +1,33 @@
 -- `working::value_case` meets its contract. Assumes nothing.
-use Rattle.std.proofs.Common.{refl}
-use Rattle.working.proofs.Working.{sums-fit, curves-fit, bond-curves-fit, rates-within, valued}
+use Rattle.method.specs.Curve.{base}
+use Rattle.working.proofs.Working.{sums-fit, adjusted-is, adjusted-by, adjusted-on, base-within, factors-lent, rates-lent}
 use Rattle.working.proofs.value_case.Goals as goal
 
-pub curves_of-curves-requires : goal.curves_of-curves-requires
-curves_of-curves-requires c = sums-fit c.requires.0 _ c.sums_of-sums.ensures
+pub map-adjusted-requires : goal.map-adjusted-requires
+map-adjusted-requires c m p is = sums-fit c.requires.0 _ c.sums_of-sums.ensures m p.now is
 
-pub zero_rates-steps-requires : goal.zero_rates-steps-requires
-zero_rates-steps-requires c = rates-within c.requires.0 _ c.sums_of-sums.ensures _ c.curves_of-curves.ensures
+pub zero_rates-requires : goal.zero_rates-requires
+zero_rates-requires c =
+    let adjusted = adjusted-is c.requires.0 _ c.sums_of-sums.ensures c.map-adjusted.result
+    (λ m. let r = c.map-adjusted.ensures m in adjusted-by _ _ r.shows _ r.says.met) in
+    base-within c.args.case.now c.requires.0 _ (adjusted-on c.requires.0 _ c.sums_of-sums.ensures _ adjusted base)
 
-pub bond_curves_of-bond_curves-requires : goal.bond_curves_of-bond_curves-requires
-bond_curves_of-bond_curves-requires c =
-    let fits = c.requires.0 in
-    (sums-fit fits _ c.sums_of-sums.ensures, c.curves_of-curves.ensures, fits.bondTerms)
+pub money_at-requires : goal.money_at-requires
+money_at-requires c = (
+  c.requires.0,
+  c.sums_of-sums.ensures,
+  adjusted-is c.requires.0 _ c.sums_of-sums.ensures _
+      (λ m. let r = c.map-adjusted.ensures m in adjusted-by _ _ r.shows _ r.says.met),
+)
 
-pub money_on-money-requires : goal.money_on-money-requires
-money_on-money-requires c =
-    let fits = c.requires.0 in
-    let sums = c.sums_of-sums.ensures in
-    (fits, curves-fit fits _ sums _ c.curves_of-curves.ensures, bond-curves-fit fits _ sums _ c.bond_curves_of-bond_curves.ensures)
+pub returns-clause-factors : goal.returns-clause-factors
+returns-clause-factors c =
+    let adjusted = adjusted-is c.requires.0 _ c.sums_of-sums.ensures c.map-adjusted.result
+    (λ m. let r = c.map-adjusted.ensures m in adjusted-by _ _ r.shows _ r.says.met) in
+    factors-lent c.args.case.now c.requires.0 _ (adjusted-on c.requires.0 _ c.sums_of-sums.ensures _ adjusted base) _ _ c.lend.ensures
 
-pub returns : goal.returns
-returns c =
-    let all =
-    valued c.requires.0 _ c.sums_of-sums.ensures _ c.curves_of-curves.ensures _ c.bond_curves_of-bond_curves.ensures _
-    c.money_on-money.ensures _ _ c.args.factors.now _ _ c.args.rates.now refl c.zero_rates-steps.ensures
-    c.fill.ensures c.fill-2.ensures in
-    record { value = all.0; factors = all.1.0; rates = all.1.1 }
+pub returns-clause-rates : goal.returns-clause-rates
+returns-clause-rates c =
+    let adjusted = adjusted-is c.requires.0 _ c.sums_of-sums.ensures c.map-adjusted.result
+    (λ m. let r = c.map-adjusted.ensures m in adjusted-by _ _ r.shows _ r.says.met) in
+    rates-lent c.args.case.now c.requires.0 _ (adjusted-on c.requires.0 _ c.sums_of-sums.ensures _ adjusted base) _ c.zero_rates.ensures _ _ c.lend-2.ensures

@@ -1,14 +1,14 @@
 -- `zerorates::rates::zero_rates` meets its contract. Assumes nothing.
-use Rattle.std.proofs.Common.{refl, arith}
+use Rattle.std.proofs.Common.{◌≡◌, refl, ap, ◌∙◌, arith}
 use Rattle.std.proofs.Math.ListN.{length-set}
-use Rattle.method.specs.Buffers.{byTerm}
-use Rattle.theory.proofs.general.Entries.{term-filled}
-use Rattle.zerorates.proofs.rates.Rated.{guess-within, factor-most, lower-rate, upper-rate}
-use Rattle.search.proofs.Left.{first-most}
+use Rattle.model.specs.Numbers.{table}
+use Rattle.theory.proofs.general.Lists.{table_filled, all-filled}
+use Rattle.zerorates.proofs.rates.Rated.{guess-within, factor-most, lower-rate, upper-rate, rates-are}
+use Rattle.zerorates.proofs.Left.{first-most}
 use Rattle.zerorates.proofs.rates.zero_rates.Goals as goal
 
 pub loop-t-init : goal.loop-t-init
-unfolding byTerm
+unfolding table
 loop-t-init c = record { long = refl; filled = refl; step_most = omega arith; before_most = omega arith }
 
 pub guess_rate-guess-requires : goal.guess_rate-guess-requires
@@ -27,10 +27,16 @@ loop-t-preserved c =
     let upper = c.steps_left-upper.ensures in
     record {
       long = simp length-set c.loop-t.invariant.long;
-      filled = term-filled _ _ _ _ _ _ (omega arith)
+      filled = table_filled _ _ _ _ _ (omega arith)
+          (rates-are _ _ _ _
           (lower-rate _ _ c.requires (omega arith) _ _ c.rate_at.ensures lower)
-          (upper-rate _ _ c.requires (omega arith) _ _ c.rate_at-in-loop-t.ensures upper)
+          (upper-rate _ _ c.requires (omega arith) _ _ c.rate_at-in-loop-t.ensures upper))
           c.loop-t.invariant.filled;
       step_most = first-most _ _ _ lower;
       before_most = factor-most _ _ c.requires (omega arith);
     }
+
+pub returns : goal.returns
+returns c =
+    let n : c.loop-t.t ≡ 120 = omega arith in
+    all-filled _ _ _ _ n c.loop-t.invariant.filled ∙ ap (table _) n

@@ -1,0 +1,71 @@
+// The two ends of a bracket, as types: what is rounded is written once, over either.
+ghost use Rattle.std.specs.Prelude.{◌≡◌, ◌+◌, ◌*◌, ◌^◌, ◌≤◌, ◌<◌};
+ghost use Rattle.arith.specs.Rounding as Rounding;
+ghost use Rattle.arith.specs.Rounding.{low, high, divide};
+ghost use Rattle.arith.specs.Root.{root};
+ghost use Rattle.arith.specs.Brackets.{end_of};
+
+use super::bracket::Bracket;
+
+/// An end of a bracket. A lower number rounds down at every step, an upper one up.
+pub trait End {
+    ghost end: { Rounding.End };
+
+    /// The number of a bracket at this end.
+    fn of(bracket: Bracket) -> u64
+        ensures { result ≡ end_of bracket end };
+
+    /// a ÷ b.
+    fn divide(a: u64, b: u64) -> u64
+        requires { (0 < b) × (a + b ≤ 2 ^ 64) }
+        ensures { result ≡ divide end a b };
+
+    /// The root of n ÷ d.
+    fn root(n: u128, d: u64) -> u64
+        requires { n < 2 ^ 112 * d }
+        ensures value { result ≡ root end n d }
+        ensures bound { result ≤ 2 ^ 56 };
+}
+
+/// The lower end.
+pub struct Low;
+
+/// The upper end.
+pub struct High;
+
+impl End for Low {
+    ghost end = { low };
+
+    fn of(bracket: Bracket) -> u64 {
+        bracket.lower
+    }
+
+    #[tactic(auto, unfolding(crate::specs::Rounding::divide))]
+    fn divide(a: u64, b: u64) -> u64 {
+        a / b
+    }
+
+    fn root(n: u128, d: u64) -> u64 {
+        (n / d as u128).isqrt() as u64
+    }
+}
+
+impl End for High {
+    ghost end = { high };
+
+    fn of(bracket: Bracket) -> u64 {
+        bracket.upper
+    }
+
+    #[tactic(auto, unfolding(crate::specs::Rounding::divide))]
+    fn divide(a: u64, b: u64) -> u64 {
+        (a + (b - 1)) / b
+    }
+
+    // One more than rounded down, where that is not exact.
+    fn root(n: u128, d: u64) -> u64 {
+        let r = Low::root(n, d);
+        let square = r as u128 * r as u128;
+        if square * d as u128 == n { r } else { r + 1 }
+    }
+}

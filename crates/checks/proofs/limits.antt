@@ -1,2 +1,0 @@
--- Laws of the map's bits.
-pub mod Bits

@@ -1,2 +1,0 @@
--- Laws of the case that a file holds.
-pub mod Holds

@@ -1,0 +1,6 @@
+-- `curves::factors::growth` meets its contract. Assumes nothing.
+use Rattle.curves.proofs.YearLaws.{last-year-within}
+use Rattle.curves.proofs.factors.growth.Goals as goal
+
+pub scaled_either_way-requires : goal.scaled_either_way-requires
+scaled_either_way-requires c = last-year-within _ _ _ _ _ c.requires c.over_years.ensures

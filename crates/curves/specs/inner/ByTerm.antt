@@ -1,0 +1,14 @@
+-- Factors as the code holds them, a bracket for each term.
+use Rattle.std.specs.Prelude.{ℕ, suc, ◌-◌, List, get_or}
+use Rattle.arith.specs.Rounding.{End}
+use Rattle.arith.specs.Brackets.{bracket, end_of}
+use Rattle.arith.specs.declared.bracket.Bracket.{Bracket}
+use Rattle.model.specs.Numbers.{table}
+
+-- the brackets of a figure at the terms 1 to n
+abbrev pub brackets : (End → ℕ → ℕ) → ℕ → List Bracket
+brackets figure n = table (λ i. bracket (λ e. figure e (suc i))) n
+
+-- an end of the figure of a term, from 1
+abbrev pub factorAt : List Bracket → End → ℕ → ℕ
+factorAt factors e t = end_of (get_or factors (t - 1) (record { lower = 0; upper = 0 })) e

@@ -1,2 +1,0 @@
--- Runs: a run of numbers as bytes.
-pub mod Runs

@@ -1,2 +1,0 @@
--- Options: a field that is there, or not.
-pub mod Options

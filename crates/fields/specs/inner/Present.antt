@@ -1,6 +1,0 @@
--- The optional fields that are written, as the layout has them.
-use Rattle.model.specs.Layout.{Present}
-use Rattle.fields.specs.declared.Included.{Included}
-
-abbrev pub presentOf : Included → Present
-presentOf p = record { ufr = p.ufr; bonds = p.bonds; amounts = p.amounts }

@@ -1,2 +1,0 @@
--- Form: parts of a saved case, and how long they are.
-pub mod Form

@@ -1,0 +1,2 @@
+-- How the type of flows holds a list.
+pub mod Room

@@ -1,2 +1,0 @@
--- Named: a line by the bytes of its name, and the parts joined.
-pub mod Named

@@ -1,2 +1,0 @@
--- Laws of S2 to S5.
-pub mod Products

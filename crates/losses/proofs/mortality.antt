@@ -1,2 +1,0 @@
--- Laws of S6.
-pub mod Margin

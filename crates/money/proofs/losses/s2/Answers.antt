@@ -1,0 +1,8 @@
+-- `money::losses::s2` meets its contract. Assumes nothing.
+use Rattle.std.proofs.Common.{arith}
+use Rattle.money.proofs.Products.{thousandths-most}
+use Rattle.money.proofs.losses.s2.Goals as goal
+
+pub returns-clause-bound : goal.returns-clause-bound
+returns-clause-bound c =
+    thousandths-most _ _ (omega (arith, c.loss.ensures.1, c.loss-2.ensures.1, c.loss-3.ensures.1, c.loss-4.ensures.1)) c.quotient.ensures

@@ -1,0 +1,14 @@
+-- `money::losses::s5` meets its contract: a quotient by 10^7 is the loss of document 01, which divides 100 times as much by 10^9.
+use Rattle.method.specs.Rounded.{creditLoss}
+use Rattle.money.proofs.Products.{credit-both, credit-of, credit-most, up_to}
+use Rattle.money.proofs.losses.s5.Goals as goal
+
+pub scaled-requires : goal.scaled-requires
+scaled-requires c = rw c.exactly.ensures (credit-both c.requires)
+
+pub returns-clause-value : goal.returns-clause-value
+returns-clause-value c = credit-of c.args.a.now c.args.x.now _ _ c.exactly.ensures c.scaled.ensures
+
+pub returns-clause-bound : goal.returns-clause-bound
+returns-clause-bound c =
+    up_to _ (creditLoss c.args.a.now c.args.x.now) (credit-of c.args.a.now c.args.x.now _ _ c.exactly.ensures c.scaled.ensures) (credit-most c.requires)

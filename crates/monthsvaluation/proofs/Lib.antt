@@ -1,0 +1,2 @@
+-- Answering: what is answered of the parts that were read.
+mod Answering

@@ -1,2 +1,0 @@
--- Laws of the number that a cursor reads.
-pub mod Digits

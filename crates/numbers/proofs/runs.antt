@@ -1,2 +1,0 @@
--- Laws of runs of numbers.
-pub mod Loops

@@ -1,2 +1,0 @@
--- Laws of writing into a buffer.
-pub mod Stores

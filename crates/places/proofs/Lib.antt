@@ -1,3 +1,0 @@
--- Laws of the places.
-pub mod Bounds
-pub mod EitherPlace

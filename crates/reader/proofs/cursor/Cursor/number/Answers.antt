@@ -1,0 +1,12 @@
+-- `Cursor::number` meets its contract: the part that is taken is the number.
+use Rattle.std.proofs.Common.{◌∙◌, ◌<◌, ◌^◌}
+use mathlib.Core.Path.{ap₂}
+use Rattle.model.specs.Numbers.{number}
+use Rattle.reader.proofs.Digits.{number-whole}
+use Rattle.reader.proofs.cursor.Cursor.number.Goals as goal
+
+pub returns : goal.returns
+returns g c =
+    let (none, (part, moved)) = c.in_ok-take.ensures in
+    let v = c.big_endian.ensures in
+    (none, (v.0 ∙ ap₂ (λ bytes w. number bytes 0 w) part.bytes part.whole ∙ number-whole _ _ _, rw part.whole at v.1, moved))

@@ -1,0 +1,6 @@
+-- `file::read` meets its contract: the bytes of a lent slice fit 8 bits, and so what is read tells all of `ReadExactly`.
+use Rattle.reader.proofs.Exactly.{slice-bytes, read-exactly}
+use Rattle.reader.proofs.file.read.Goals as goal
+
+pub returns-clause-exactly : goal.returns-clause-exactly
+returns-clause-exactly c = read-exactly c.args.file _ c.of.ensures (slice-bytes c.args.file.now c.type_inv.file)

@@ -1,0 +1,6 @@
+-- What only contracts of inner functions cite.
+pub mod Checks
+pub mod Reading
+pub mod Sums
+pub mod IsDays
+pub mod Map

@@ -1,0 +1,2 @@
+-- Seen: an answer that is seen by the number of its refusal is seen whole.
+pub mod Seen

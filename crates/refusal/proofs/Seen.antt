@@ -1,0 +1,65 @@
+-- Each number is that of one refusal, so two answers that are the same by the numbers of their refusals are the same. Assumes nothing.
+use Rattle.std.proofs.Common.{ℕ, cond, eqb, Result, Ok, Err, ◌≡◌, ◌∙◌, refl, sym, ap}
+use Rattle.refusal.specs.Numbered.{number_of, answer_of}
+use Rattle.refusal.specs.declared.Refusal.{Refusal}
+use Rattle.refusal.specs.declared.Refusal.TheVariants.{EndsEarly, BytesFollow, WrongFields, DayCount, Rate, Forward, FlowCount, Flow, Ufr, Amount, Shock, People, Buffers, Room, WindowFull, WindowEmpty, History, Month, MonthsUfr, Damaged}
+
+abbrev refusal_from : ℕ → Refusal
+refusal_from n =
+    cond (eqb n 1) EndsEarly
+    (cond (eqb n 2) BytesFollow
+    (cond (eqb n 3) WrongFields
+    (cond (eqb n 4) DayCount
+    (cond (eqb n 5) Rate
+    (cond (eqb n 6) Forward
+    (cond (eqb n 7) FlowCount
+    (cond (eqb n 8) Flow
+    (cond (eqb n 9) Ufr
+    (cond (eqb n 10) Amount
+    (cond (eqb n 11) Shock
+    (cond (eqb n 12) People
+    (cond (eqb n 13) Buffers
+    (cond (eqb n 14) Room
+    (cond (eqb n 15) WindowFull
+    (cond (eqb n 16) WindowEmpty
+    (cond (eqb n 17) History
+    (cond (eqb n 18) Month
+    (cond (eqb n 19) MonthsUfr
+    Damaged))))))))))))))))))
+
+same : (r : Refusal) → refusal_from (number_of r) ≡ r
+same EndsEarly = refl
+same BytesFollow = refl
+same WrongFields = refl
+same DayCount = refl
+same Rate = refl
+same Forward = refl
+same FlowCount = refl
+same Flow = refl
+same Ufr = refl
+same Amount = refl
+same Shock = refl
+same People = refl
+same Buffers = refl
+same Room = refl
+same WindowFull = refl
+same WindowEmpty = refl
+same History = refl
+same Month = refl
+same MonthsUfr = refl
+same Damaged = refl
+
+pub number_of-injective : (r s : Refusal) → number_of r ≡ number_of s → r ≡ s
+number_of-injective r s e = sym (same r) ∙ ap refusal_from e ∙ same s
+
+module _ {T : Type 0} where
+  abbrev answer_from : Result T ℕ → Result T Refusal
+  answer_from (Ok x) = Ok x
+  answer_from (Err n) = Err (refusal_from n)
+
+  same-answer : (a : Result T Refusal) → answer_from (answer_of a) ≡ a
+  same-answer (Ok x) = refl
+  same-answer (Err r) = ap (λ (s : Refusal). Err s) (same r)
+
+  pub answer_of-injective : (a b : Result T Refusal) → answer_of a ≡ answer_of b → a ≡ b
+  answer_of-injective a b e = sym (same-answer a) ∙ ap answer_from e ∙ same-answer b

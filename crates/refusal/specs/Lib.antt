@@ -1,0 +1,2 @@
+-- The number that the papers give each refusal. It has to be believed.
+pub mod Numbered

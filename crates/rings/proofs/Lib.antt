@@ -1,0 +1,2 @@
+-- Held: the entries of a ring, whatever an entry is.
+pub mod Held

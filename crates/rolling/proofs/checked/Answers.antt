@@ -1,0 +1,43 @@
+-- `checked`: a rate that is not right, and a right rate more, which fits into 16 bits.
+use Rattle.std.proofs.Common.{FitsSigned, false, of_z, to_z, true, ◌≡◌, ◌∙◌, ap, arith, get_or, pos, refl, rules, sym, take, w16, w32}
+use Rattle.std.proofs.Math.ListN.{length-set}
+use Rattle.std.proofs.lemmas.Int.{ints, to_z-of_z}
+use lib.Seq.{take_all}
+use Rattle.model.specs.Fields.{rightAll}
+use Rattle.model.specs.Layout.{dailyRate}
+use Rattle.theory.proofs.general.Lists.{all-filled}
+use Rattle.rolling.proofs.Rates.{right-next, wrong-at, copy-filled, day-right}
+use Rattle.rolling.proofs.Sums.{rate-small}
+use Rattle.rolling.proofs.checked.Goals as goal
+
+pub returns-then-not-is_rate-clause-err : goal.returns-then-not-is_rate-clause-err
+returns-then-not-is_rate-clause-err c =
+    let new = c.args.new.now.rates in
+    let t = c.loop-t.t in
+    let fits : FitsSigned w32 (get_or new t (pos 0)) = search rules in
+    let read = to_z-of_z w32 (get_or new t (pos 0)) fits in
+    let wrong : (dailyRate 2).right (get_or new t (pos 0)) ≡ false = rw read at (sym c.is_rate.ensures ∙ c.if-not-is_rate.true) in
+    (refl, day-right new (omega arith) (wrong-at (dailyRate 2) new t (pos 0) (omega arith) wrong))
+
+pub loop-t-preserved : goal.loop-t-preserved
+loop-t-preserved c =
+    let l = c.loop-t in
+    let new = c.args.new.now.rates in
+    let fits : FitsSigned w32 (get_or new l.t (pos 0)) = search rules in
+    let read = to_z-of_z w32 (get_or new l.t (pos 0)) fits in
+    let right : (dailyRate 2).right (get_or new l.t (pos 0)) ≡ true = rw read at (sym c.is_rate.ensures ∙ c.if-not-is_rate.false) in
+    let small = rate-small (get_or new l.t (pos 0)) right in
+    record {
+      right = right-next (dailyRate 2) new l.t (pos 0) (omega arith) l.invariant.right right;
+      terms = length-set l.rates l.t _ ∙ l.invariant.terms;
+      copied = copy-filled new _ l.rates l.t _ (pos 0) (omega arith) (omega arith) (omega (arith, ints)) l.invariant.copied;
+    }
+
+pub returns-clause-ok : goal.returns-clause-ok
+returns-clause-ok c =
+    let l = c.loop-t in
+    let new = c.args.new.now.rates in
+    let all : l.t ≡ 60 = omega arith in
+    let whole : take l.t new ≡ new = take_all l.t new (omega arith) in
+    let copied : l.rates ≡ new = all-filled _ l.rates (take l.t new) l.t all l.invariant.copied ∙ whole in
+    (copied, rw copied (day-right new (omega arith) (rw whole at l.invariant.right)))

@@ -1,0 +1,7 @@
+-- After t turns the rates of the first t terms are taken away.
+use Rattle.std.proofs.Common.{◌≡◌, ◌-ℤ◌, ◌++◌, drop, get_or, length, pos}
+use Rattle.model.specs.Numbers.{table}
+use Rattle.rolling.proofs.subtract.Given as goal
+
+abbrev pub invariant-loop-t : goal.invariant-loop-t
+invariant-loop-t l = l.sums ≡ table (λ i. get_or l.fn.sums i (pos 0) -ℤ get_or l.oldest i (pos 0)) l.t ++ drop l.t l.fn.sums

@@ -1,0 +1,10 @@
+-- `rollingvalue::days_in` meets its contract: the sums of a right window are those of its days. Assumes nothing.
+use Rattle.std.proofs.Common.{arith}
+use Rattle.theory.proofs.rolling.Right.{right-facts}
+use Rattle.rollingvalue.proofs.Joined.{bounded}
+use Rattle.rollingvalue.proofs.days_in.Goals as goal
+
+pub invariant_of-result : goal.invariant_of-result
+invariant_of-result c =
+    let right = c.in_ok-place_of.ensures.ok.0 in
+    record { few = omega (arith, (right-facts c.args.w.now right).count); bounded = bounded c.args.w.now right }

@@ -1,0 +1,126 @@
+-- The days: their limits, their bytes, and the bytes of one rate.
+use Prim.Native.Nat.{ℕ, zero, suc, ◌+◌, ◌*◌, ◌-◌, ◌/◌, ◌%◌, ◌≤◌, ◌<◌}
+use mathlib.Core.Path.{◌≡◌, refl, ap, ap₂, sym, ◌∙◌, subst}
+use mathlib.Core.Bool.{Bool, true, false}
+use mathlib.Core.List.{List, [], ◌∷◌}
+use native.Mathlib.Omega.{arith}
+use borrow.Author.Tests.{leb-true, eqb-true}
+use native.Mathlib.Nat.{mul-le-mul_left}
+use native.Mathlib.Numerals.{add-one}
+use lib.Dec.{leb, eqb}
+use lib.ListN.{length, get_or, take, drop, length-append}
+use lib.Seq.{length-take-le, take-suc, take_all}
+use lib.IntN.{ℤ, pos, negsuc}
+use mir.Syntax.{w32}
+use mir.Val.{of_z}
+use Rattle.std.proofs.Common.{Option, None}
+use Rattle.std.specs.Int.{bytes_high_first}
+use Rattle.std.specs.Option.{SomeIff}
+use Rattle.model.specs.Fields.{within, bytesAll, rightAll}
+use Rattle.model.specs.Layout.{dailyRate, day, days}
+use Rattle.model.specs.Numbers.{bytes_of, unsigned}
+use Rattle.theory.proofs.acceptance.Encoding.{length-bytes}
+use Rattle.theory.proofs.general.Lists.{and_both, and_first, and_second}
+use Rattle.reader.specs.inner.Sums.{added, sumsOf}
+use Rattle.reader.proofs.DaySums.{sums-more}
+use Rattle.saving.specs.Checked.{failing}
+use Rattle.saving.specs.Form.{width_of}
+use Rattle.saving.specs.Wrote.{Wrote}
+use Rattle.saving.specs.declared.writer.Writer.{Writer}
+use Rattle.saving.specs.declared.days.Form.{Form}
+use Rattle.saving.specs.declared.days.Form.TheVariants.{Two, Four}
+use Rattle.saving.proofs.Bytes.{length_run, drop-high, high-bytes}
+
+-- ---- a day that is right, and days that are
+
+module _ (w : ℕ) where
+  module _ (rates : List ℤ) (right : (day w).right rates ≡ true) where
+    pub day-long : length rates ≡ 60
+    day-long = eqb-true (length rates) 60 (and_first (eqb (length rates) 60) (rightAll (dailyRate w) rates) right)
+
+    pub rates-right : rightAll (dailyRate w) rates ≡ true
+    rates-right = and_second (eqb (length rates) 60) (rightAll (dailyRate w) rates) right
+
+    pub day-length : length (bytesAll (dailyRate w) rates) ≡ w * 60
+    day-length = length_run (dailyRate w) (λ z. length-bytes w (unsigned w z)) rates ∙ ap (λ (n : ℕ). w * n) day-long
+
+  pub days-length : (ds : List (List ℤ)) → rightAll (day w) ds ≡ true → length (bytesAll (day w) ds) ≡ w * 60 * length ds
+  days-length [] h = omega arith
+  days-length (d ∷ ds) h =
+      let first = day-length d (and_first ((day w).right d) (rightAll (day w) ds) h) in
+      let rest = days-length ds (and_second ((day w).right d) (rightAll (day w) ds) h) in
+      length-append (bytesAll (dailyRate w) d) (bytesAll (day w) ds) ∙ omega (arith, first, rest)
+
+  -- a front of them
+  pub front-right : (ds : List (List ℤ)) (i : ℕ) → rightAll (day w) ds ≡ true → rightAll (day w) (take i ds) ≡ true
+  front-right ds zero h = refl
+  front-right [] (suc i) h = refl
+  front-right (d ∷ ds) (suc i) h =
+      and_both ((day w).right d) (rightAll (day w) (take i ds)) (and_first ((day w).right d) (rightAll (day w) ds) h)
+      (front-right ds i (and_second ((day w).right d) (rightAll (day w) ds) h))
+
+  -- a write more
+  pub room-for-day : {a b : Writer} (ds : List (List ℤ)) (i : ℕ) → i < length ds → rightAll (day w) ds ≡ true → a.at + w * 60 * length ds ≤ length a.out.now
+      → Wrote a (bytesAll (day w) (take i ds)) b → b.at + w * 60 ≤ length b.out.now
+  room-for-day ds i l right room p =
+      let more : i + 1 ≤ length ds = omega arith in
+      let most : w * 60 * (i + 1) ≤ w * 60 * length ds = mul-le-mul_left (w * 60) more in
+      let so_far : length (bytesAll (day w) (take i ds)) ≡ w * 60 * i =
+      days-length (take i ds) (front-right ds i right) ∙ ap (λ (k : ℕ). w * 60 * k) (length-take-le i ds (omega arith)) in
+      omega (arith, p.place, p.long, so_far, most)
+
+  -- ---- the checks of the days
+
+  module _ (ds : List (List ℤ)) where
+    pub days-hold : failing ((days w).limits ds) ≡ None → (within 1 70 (length ds) ≡ true) × (rightAll (day w) ds ≡ true)
+    days-hold h = go (within 1 70 (length ds)) (rightAll (day w) ds) h
+      where
+        go : (a b : Bool) → failing ((a, 4) ∷ (b, 5) ∷ []) ≡ None → (a ≡ true) × (b ≡ true)
+        go true true h = (refl, refl)
+        go true false h = cc
+        go false b h = cc
+
+    module _ (hold : failing ((days w).limits ds) ≡ None) where
+      pub few-days : length ds ≤ 70
+      few-days = leb-true (length ds) 70 (and_second (leb 1 (length ds)) (leb (length ds) 70) (days-hold hold).0)
+
+      pub field-length : length ((days w).bytes ds) ≡ 1 + w * 60 * length ds
+      field-length =
+          length-append (bytes_of 1 (length ds)) (bytesAll (day w) ds)
+          ∙ omega (arith, length-bytes 1 (length ds), days-length ds (days-hold hold).1)
+
+-- ---- a length that is known otherwise
+
+pub sized : (o : Option ℕ) (room : ℕ) {m n : ℕ} → m ≡ n → SomeIff o (n ≤ room) (room - n) → SomeIff o (m ≤ room) (room - m)
+sized o room e h = subst (λ (k : ℕ). SomeIff o (k ≤ room) (room - k)) (sym e) h
+
+-- ---- the bytes of a rate
+
+rate-bits : (form : Form) (z : ℤ) → (dailyRate (width_of form)).right z ≡ true → bytes_of (width_of form) (of_z w32 z) ≡ (dailyRate (width_of form)).bytes z
+unfolding bytes_of
+rate-bits Four (pos n) h = refl
+rate-bits Four (negsuc n) h = refl
+rate-bits Two (pos n) h = refl
+rate-bits Two (negsuc n) h =
+    let l = leb-true n 999 (and_first (leb n 999) true h) in
+    let first : (4294967296 - suc n) / 256 % 256 ≡ (65536 - suc n) / 256 % 256 = omega arith in
+    let second : (4294967296 - suc n) % 256 ≡ (65536 - suc n) % 256 = omega arith in
+    ap₂ (λ (a b : ℕ). a ∷ b ∷ []) first second
+
+pub rate-bytes : (form : Form) (z : ℤ) {n : ℕ} {y : ℤ} {bytes : List ℕ} → n ≡ width_of form → n ≤ 4 → y ≡ z → bytes ≡ bytes_high_first 4 (of_z w32 y)
+    → (dailyRate (width_of form)).right z ≡ true → take (4 - (4 - n)) (drop (4 - n) bytes) ≡ (dailyRate (width_of form)).bytes z
+rate-bytes form z {n} {y} {bytes} e narrow f g right =
+    let v = of_z w32 y in
+    ap (λ (bs : List ℕ). take (4 - (4 - n)) (drop (4 - n) bs)) g
+    ∙ ap (take (4 - (4 - n))) (drop-high (4 - n) 4 n v (omega arith) ∙ high-bytes n v)
+    ∙ take_all (4 - (4 - n)) (bytes_of n v) (omega (arith, length-bytes n v))
+    ∙ ap₂ (λ (k : ℕ) (u : ℤ). bytes_of k (of_z w32 u)) e f
+    ∙ rate-bits form z right
+
+-- ---- the sums of a front of the days
+
+pub sums-front : (ds : List (List ℤ)) (i : ℕ) → i < length ds → added (sumsOf (take i ds)) (get_or ds i []) ≡ sumsOf (take (i + 1) ds)
+sums-front ds i l =
+    sums-more (take i ds) (get_or ds i [])
+    ∙ ap sumsOf (sym (take-suc ds i [] l))
+    ∙ ap (λ (n : ℕ). sumsOf (take n ds)) (sym (add-one i))

@@ -1,0 +1,39 @@
+-- `write_day`: a rate more.
+use Rattle.std.proofs.Common.{FitsSigned, arith, get_or, pos, rules, w32}
+use Rattle.std.proofs.lemmas.Int.{to_z-of_z}
+use Rattle.model.specs.Layout.{dailyRate}
+use Rattle.model.specs.Numbers.{unsigned}
+use Rattle.theory.proofs.acceptance.Encoding.{length-bytes}
+use Rattle.theory.proofs.acceptance.Runs.{right-at}
+use Rattle.saving.specs.Form.{width_of}
+use Rattle.saving.proofs.RatesOf.{rates-right, day-long}
+use Rattle.saving.proofs.Written.{nothing, room-next, one-more}
+use Rattle.saving.proofs.days.write_day.Goals as goal
+
+pub loop-rate-init : goal.loop-rate-init
+loop-rate-init c = nothing _
+
+pub write_rate-requires-clause-right : goal.write_rate-requires-clause-right
+write_rate-requires-clause-right c =
+    let x = dailyRate (width_of c.args.form) in
+    let rates = c.args.rates.now in
+    let i = c.loop-rate.rate-index in
+    let fits : FitsSigned w32 (get_or rates i (pos 0)) = search rules in
+    let right = rates-right (width_of c.args.form) rates c.requires.right in
+    rw (to_z-of_z w32 (get_or rates i (pos 0)) fits) (right-at x rates i (pos 0) (omega arith) right)
+
+pub write_rate-requires-clause-room : goal.write_rate-requires-clause-room
+write_rate-requires-clause-room c =
+    let w = width_of c.args.form in
+    let rates = c.args.rates.now in
+    let room = rw (← day-long w rates c.requires.right) at c.requires.room in
+    room-next (dailyRate w) (λ z. length-bytes w (unsigned w z)) rates c.loop-rate.rate-index (omega arith) room c.loop-rate.invariant
+
+pub loop-rate-preserved : goal.loop-rate-preserved
+loop-rate-preserved c =
+    let w = width_of c.args.form in
+    let rates = c.args.rates.now in
+    let i = c.loop-rate.rate-index in
+    let fits : FitsSigned w32 (get_or rates i (pos 0)) = search rules in
+    one-more (dailyRate w) rates i (pos 0) (omega arith) c.loop-rate.invariant
+    (rw (to_z-of_z w32 (get_or rates i (pos 0)) fits) at c.write_rate.ensures)

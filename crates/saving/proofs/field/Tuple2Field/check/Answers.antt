@@ -1,0 +1,13 @@
+-- `check` of a pair: the first refuses, or the second answers.
+use Rattle.std.proofs.Common.{◌∙◌, sym}
+use Rattle.std.proofs.lemmas.Result.{err_from_is_err_and}
+use Rattle.saving.proofs.Checked.{fails-first, holds-first}
+use Rattle.saving.proofs.field.Tuple2Field.check.Goals as goal
+
+pub returns-in_err-check : goal.returns-in_err-check
+returns-in_err-check g c =
+    let p = err_from_is_err_and c.from_residual.result c.from_residual.ensures.1 in
+    rw (p.1, p.2) (sym (fails-first (g.A.Field.limits c.args.self.now.0) (g.B.Field.limits c.args.self.now.1) _ (sym c.in_err-check.ensures)))
+
+pub returns : goal.returns
+returns g c = c.check-2.ensures ∙ sym (holds-first (g.A.Field.limits c.args.self.now.0) (g.B.Field.limits c.args.self.now.1) (sym c.in_ok-check.ensures))

@@ -1,0 +1,12 @@
+-- `write` of the shocks: the ten of one limit, then the credit spread and the credit duration.
+use Rattle.std.proofs.Common.{◌∙◌, ap, sym}
+use Rattle.model.specs.Layout.{shocksInOrder}
+use Rattle.saving.specs.Wrote.{bytes_of_each}
+use Rattle.saving.proofs.Bytes.{run_is}
+use Rattle.saving.proofs.Written.{then, as-text}
+use Rattle.saving.proofs.fixed.ShocksField.write.Goals as goal
+
+pub returns : goal.returns
+returns c =
+    let ten = ap (bytes_of_each 2) c.shocks_in_order.ensures ∙ sym (run_is 2 0 1000 (shocksInOrder c.args.self.now).0) in
+    then (as-text ten c.numbers.ensures) (then c.number.ensures c.number-2.ensures)

@@ -1,0 +1,8 @@
+-- `write` of flows: the count, then the flows.
+use Rattle.std.proofs.Common.{sym}
+use Rattle.saving.proofs.Bytes.{run_is}
+use Rattle.saving.proofs.Written.{then, as-text}
+use Rattle.saving.proofs.flows.FlowsField.write.Goals as goal
+
+pub returns : goal.returns
+returns c = then c.number.ensures (as-text (sym (run_is 4 0 100000000 c.args.self.now.flows.now)) c.numbers.ensures)

@@ -1,0 +1,6 @@
+-- The optional fields that are written, as the layout has them.
+use Rattle.model.specs.Layout.{Present}
+use Rattle.saving.specs.declared.included.Included.{Included}
+
+abbrev pub presentOf : Included → Present
+presentOf p = record { ufr = p.ufr; bonds = p.bonds; amounts = p.amounts }

@@ -1,2 +1,0 @@
--- What the proofs of the known steps cite.
-mod Sure

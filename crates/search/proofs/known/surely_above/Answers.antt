@@ -1,9 +1,0 @@
--- `search::known::surely_above` meets its contract. Assumes nothing.
-use Rattle.search.proofs.known.Sure.{above-until}
-use Rattle.search.proofs.known.surely_above.Goals as goal
-
-pub returns-then-factor-bounds-2-clause-lower : goal.returns-then-factor-bounds-2-clause-lower
-returns-then-factor-bounds-2-clause-lower c = above-until _ c.result_bounds-bounds.ensures c.if-factor-bounds.true
-
-pub returns-then-factor-bounds-2-clause-upper : goal.returns-then-factor-bounds-2-clause-upper
-returns-then-factor-bounds-2-clause-upper c = above-until _ c.result_bounds-bounds.ensures c.if-factor-bounds-2.true

@@ -1,9 +1,0 @@
--- `search::known::surely_below` meets its contract. Assumes nothing.
-use Rattle.search.proofs.known.Sure.{below-from}
-use Rattle.search.proofs.known.surely_below.Goals as goal
-
-pub returns-then-bounds-factor-2-clause-lower : goal.returns-then-bounds-factor-2-clause-lower
-returns-then-bounds-factor-2-clause-lower c = below-from _ c.result_bounds-bounds.ensures c.if-bounds-factor.true
-
-pub returns-then-bounds-factor-2-clause-upper : goal.returns-then-bounds-factor-2-clause-upper
-returns-then-bounds-factor-2-clause-upper c = below-from _ c.result_bounds-bounds.ensures c.if-bounds-factor-2.true

@@ -1,2 +1,0 @@
--- Laws of S.
-pub mod Products

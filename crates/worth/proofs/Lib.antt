@@ -1,2 +1,0 @@
--- Flows: laws of the sum of flows times factors.
-pub mod Flows

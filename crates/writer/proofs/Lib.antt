@@ -1,2 +1,0 @@
--- Answers: what `save` has to answer.
-pub mod Answers

@@ -1,0 +1,2 @@
+-- What the proofs of the methods of `TermStep` cite.
+mod Sure

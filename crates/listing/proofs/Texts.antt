@@ -19,7 +19,7 @@ appends : AppendsLastDigit digits
 unfolding digits
 appends = search rules
 
--- std's digits of a number of 64 bits are document 01's
+-- std's digits of a number of 64 bits are those of the listing
 pub decimal_same : (n : ℕ) → n < 2 ^ 64 → Fmt.decimal n ≡ decimal n
 unfolding decimal
 decimal_same n h =

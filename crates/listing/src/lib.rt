@@ -47,7 +47,7 @@ fn push_line(text: &mut Text, name: &[u8], b: Bracket)
     push(text, b"\n");
 }
 
-// The figures under their names, in document 01's order.
+// The figures under their names, in the order of the listing.
 fn named_figures(f: Figures) -> [(&'static [u8], Bracket); 10]
     ensures lines { flat_map (λ p. named p.0.now p.1) result ≡ figureLines f }
     ensures short { All (λ p. length p.0.now ≤ 2) result }

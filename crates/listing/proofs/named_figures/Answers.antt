@@ -1,4 +1,4 @@
--- `named_figures`: the names are document 01's.
+-- `named_figures`: the names are those of the listing.
 use Rattle.std.proofs.Common.{◌≡◌, [], ◌∷◌}
 use mathlib.Core.List.{append_assoc}
 use Rattle.std.proofs.lemmas.List.{append-nil}

@@ -1,4 +1,4 @@
--- `push_number`: a space, and the digits that itoa writes, which are document 01's.
+-- `push_number`: a space, and the digits that itoa writes, which are those of the listing.
 use mathlib.Core.List.{append_assoc}
 use Rattle.model.specs.Numbers.{table}
 use Rattle.method.specs.Listing.{ascii}

@@ -1,3 +1,3 @@
--- What the engine holds of a case of document 01, and the default case. All of it has to be believed, except what is in inner.
+-- What the engine holds of a case, and the default case. All of it has to be believed, except what is in inner.
 pub mod Held
 pub mod inner

@@ -100,7 +100,7 @@ fn mortality_loss<E: End>(l: Bracket, p: &People) -> u64
     E::root(owed * owed * share as u128, 256_000_000 * p.heads)
 }
 
-/// S6: the liabilities times the root of TSO² + NSA², by document 01's fraction.
+/// S6: the liabilities times the root of TSO² + NSA², which are one fraction of whole numbers.
 pub fn s6(l: Bracket, p: &People) -> Bracket
     requires { WorthFits l × PeopleWithin p.now }
     ensures value { result ≡ bracket (mortalityLoss (end_of l) p.now) }

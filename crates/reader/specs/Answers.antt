@@ -1,4 +1,4 @@
--- What reading a file gives (document 01, 'Office errors and host errors'), and the part of the file that holds the rates.
+-- What reading a file gives, a case or the number of a refusal, and the part of the file that holds the rates.
 use Rattle.std.specs.Prelude.{ℕ, zero, suc, ◌+◌, ◌≡◌, List, Result, Ok, Err, IfOk, IsOkAnd}
 use Rattle.std.specs.Borrow.{Bor}
 use Rattle.model.specs.Numbers.{Bytes}
@@ -9,7 +9,7 @@ use Rattle.refusal.specs.Numbered.{number_of}
 use Rattle.refusal.specs.declared.Refusal.{Refusal}
 use Rattle.reader.specs.declared.file.Reading.{Reading}
 
--- document 01's number for each answer: 0, which is none of its numbers, of an accepted file
+-- The number of each answer: that of the refusal, and 0, which is none of these, of an accepted file.
 abbrev pub number_in : {A : Type 0} → Result A Refusal → ℕ
 number_in (Ok v) = 0
 number_in (Err e) = number_of e

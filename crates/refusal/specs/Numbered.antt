@@ -1,4 +1,4 @@
--- The number of a refusal (document 01, 'Office errors and host errors', and document 02), and that of an answer: 0 where nothing is refused.
+-- The number that offices and hosts know a refusal by, and that of an answer: 0 where nothing is refused.
 use Rattle.std.specs.Prelude.{ℕ, Result, Ok, Err, Option, Some, None}
 use Rattle.refusal.specs.declared.Refusal.{Refusal}
 use Rattle.refusal.specs.declared.Refusal.TheVariants.{EndsEarly, BytesFollow, WrongFields, DayCount, Rate, Forward, FlowCount, Flow, Ufr, Amount, Shock, People, Buffers, Room, WindowFull, WindowEmpty, History, Month, MonthsUfr, Damaged}

@@ -1,3 +1,3 @@
-// Request One of document 02, a case written back in its shortest form: its definitions in specs/ and what is computed of them in proofs/.
+// A case written back in its shortest form: its definitions in specs/ and what is computed of them in proofs/.
 // There is no function here: an edit of one of these definitions is put to these statements alone.
 #![tactic(auto)]

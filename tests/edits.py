@@ -58,7 +58,8 @@ def place(path):
     return crate, name
 
 
-HEAD = re.compile(r"^ *(?:pub )?(?:extern \"C\" )?fn (\w+)|^impl(?:<[^{]*?>)? (\w+)(?:<([^{]*?)>)?(?: for (\(.*\)|\w+)[^{]*)? \{|^}", re.M)
+# A constant of a trait is a function to the prover, as FourBytesRateForm::WIDTH.
+HEAD = re.compile(r"^ *(?:pub )?(?:(?:extern \"C\" )?fn |const )(\w+)|^impl(?:<[^{]*?>)? (\w+)(?:<([^{]*?)>)?(?: for (\(.*\)|\w+)[^{]*)? \{|^}", re.M)
 
 
 def kind_of(trait, arguments, kind):

@@ -66,11 +66,12 @@ class Edits(unittest.TestCase):
     def test_functions_of_impls(self):
         source = "impl<const N: usize> Ring<N> {\n    fn new() {\n}\n}\nimpl From<Ring<u64>> for Pair {\n    fn from() {}\n}\n" \
             "impl<T: Field> Field for Option<T> {\n    fn check() {}\n}\nimpl<A: Field, B: Field> Field for (A, B) {\n    fn check() {}\n}\n" \
-            "impl Field for Days<'_> {\n    #[tactic(auto)]\n    fn check() {}\n}\npub extern \"C\" fn last() {\n}\n"
+            "impl Field for Days<'_> {\n    #[tactic(auto)]\n    fn check() {}\n}\npub extern \"C\" fn last() {\n}\n" \
+            "impl Form for Two {\n    const WIDTH: usize = 2;\n}\n"
         self.assertIn("sums::CurveSums::factors", functions("curves"))
         self.assertEqual(list(functions_of(source, "a/b")), [
             (2, "a::b::Ring::new"), (6, "a::b::PairFromRingU64::from"), (9, "a::b::OptionField::check"), (12, "a::b::Tuple2Field::check"),
-            (15, "a::b::DaysField::check"), (18, "a::b::last")])
+            (15, "a::b::DaysField::check"), (18, "a::b::last"), (21, "a::b::TwoForm::WIDTH")])
 
 
 LOG = """\

@@ -1,25 +1,12 @@
 // What a valuation leaves in two lent buffers, in two lines: F and the entries of the factor buffer, Z and those of the rate buffer.
 // Both have 242 entries, all 7 beforehand, so that what a valuation leaves alone can be seen. To each zero rate 100,000 steps are added.
-use super::row::{print_number, print_numbers};
+use super::row::row;
 use std::io;
 use std::io::Write;
 
 // The rate in steps plus 100,000; 0 and 200,001 stand for rates outside -100,000 to 100,000.
 fn raised(rate: i64) -> u64 {
-    if rate < -100_000 {
-        return 0;
-    }
-    if 100_000 < rate {
-        return 200_001;
-    }
-    (rate + 100_000) as u64
-}
-
-fn print_rates<W: Write>(out: &mut W, rates: &[i64]) -> io::Result<()> {
-    for rate in rates {
-        print_number(out, raised(*rate))?;
-    }
-    Ok(())
+    (rate.clamp(-100_000, 100_001) + 100_000) as u64
 }
 
 pub(super) fn print_buffers<W: Write>(out: &mut W, file: &[u8]) -> io::Result<()> {
@@ -28,8 +15,8 @@ pub(super) fn print_buffers<W: Write>(out: &mut W, file: &[u8]) -> io::Result<()
     // the answer is that of the listing
     let _ = engine::value(file, &mut factors, &mut rates);
     out.write_all(b"F")?;
-    print_numbers(out, &factors)?;
+    row(out, &factors)?;
     out.write_all(b"\nZ")?;
-    print_rates(out, &rates)?;
+    row(out, &rates.map(raised))?;
     out.write_all(b"\n")
 }

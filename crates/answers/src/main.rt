@@ -10,15 +10,9 @@ use refusal::Refusal;
 use std::io;
 use std::io::{BufWriter, Write};
 
-fn print_listing<W: Write>(out: &mut W, file: &[u8]) -> io::Result<()> {
-    let valuation = engine::figures_of(file).map_err(Refusal::number);
-    let text = listing::text_of(valuation);
-    out.write_all(text.as_slice())
-}
-
 fn print_answers<W: Write>(out: &mut W, file: &[u8]) -> io::Result<()> {
     reading::print_reading(out, file)?;
-    print_listing(out, file)?;
+    listing::print(out, engine::figures_of(file).map_err(Refusal::number))?;
     buffers::print_buffers(out, file)
 }
 

@@ -1,4 +1,7 @@
 // The two ends of a bracket, as types: what is rounded is written once, over either.
+// `divide` is opened in the goals of both ends, which stay open without it.
+#![tactic(auto, unfolding(crate::specs::Rounding::divide))]
+
 ghost use Rattle.std.specs.Prelude.{◌≡◌, ◌+◌, ◌*◌, ◌^◌, ◌≤◌, ◌<◌};
 ghost use Rattle.arith.specs.Rounding as Rounding;
 ghost use Rattle.arith.specs.Rounding.{low, high, divide};
@@ -40,7 +43,6 @@ impl End for Low {
         bracket.lower
     }
 
-    #[tactic(auto, unfolding(crate::specs::Rounding::divide))]
     fn divide(a: u64, b: u64) -> u64 {
         a / b
     }
@@ -57,7 +59,6 @@ impl End for High {
         bracket.upper
     }
 
-    #[tactic(auto, unfolding(crate::specs::Rounding::divide))]
     fn divide(a: u64, b: u64) -> u64 {
         (a + (b - 1)) / b
     }

@@ -1,2 +1,3 @@
--- Reading: what stands at the front of a buffer after a read into the rest of it.
+-- Reading: what stands at the front of a buffer after a read into the rest of it. Mapped: a result whose error is mapped.
 pub mod Reading
+pub mod Mapped

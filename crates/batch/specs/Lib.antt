@@ -1,2 +1,3 @@
--- Input has to be believed: what can be said of reading.
+-- Both have to be believed. Input: what can be said of reading. Unread: what an input that cannot be read leaves.
 pub mod Input
+pub mod Unread

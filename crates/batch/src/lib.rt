@@ -1,4 +1,5 @@
-// Many files in one input, each behind its length in four bytes, the highest first.
+// What the programs share: an input read until a buffer is full, and many files in one input, each behind its length in four bytes, the
+// highest first.
 #![tactic(auto)]
 
 ghost use Rattle.std.specs.Prelude.{◌<◌, ◌≤◌, ◌≡◌, IfErr, IfOk, length, drop};
@@ -11,11 +12,19 @@ use std::io::Read;
 // What for_each has room for.
 const MOST_BYTES: usize = 100_000;
 
-/// A read that failed, also one that a signal interrupts, and how many bytes had come before it.
+/// A read that failed, also one that a signal interrupts, and how many bytes had come before it. The bytes themselves stand in the buffer
+/// of the caller.
 #[derive(Drop)]
 pub struct Cut {
     pub count: usize,
     pub error: io::Error,
+}
+
+/// Why a program that reads an input and prints what it finds has not printed all of it.
+#[derive(Drop)]
+pub enum Stopped {
+    Read(Cut),
+    Write(io::Error),
 }
 
 /// Reads until `buf` is full or the input ends, and answers how many bytes it put to the front of `buf`. The reader has lost these bytes
@@ -25,6 +34,7 @@ pub fn read_full<R: Read>(input: &mut R, buf: &mut [u8]) -> Result<usize, Cut>
     ensures end { IfOk result (λ n. n < length buf.new → IsAtEnd (R.remaining input.new)) }
     ensures failed { IfErr result (λ cut. LosesFront (R.remaining input.old) (R.remaining input.new) buf.new cut.count) }
 {
+    // By hand, since std's `read_exact` and `read_to_end` say nothing of what a read that fails has left.
     let mut done = 0;
     while done < buf.len() {
         let n = match input.read(&mut buf[done..]) {
@@ -52,7 +62,8 @@ pub fn next_length<R: Read>(input: &mut R) -> Result<Option<usize>, Cut>
 }
 
 /// Reads the next `wanted` bytes to the front of `buf`, and answers how many there were; none, and nothing is read, where `buf` is
-/// shorter. What `buf` holds between that count and `wanted` is not said: a read may leave anything there.
+/// shorter. What `buf` holds between that count and `wanted` is not said: a read may leave anything there. `wanted` stands beside `buf`,
+/// since the caller has one buffer for files of any length, and a file that is too long for it is no error.
 pub fn read_file<R: Read>(
     input: &mut R,
     wanted: usize,

@@ -10,7 +10,7 @@ use arith::scale::{Long, Quotient, Short};
 use heldcase::Case;
 
 // A call takes one year and leaves j - 1 to the next. The growth is lent, and the call comes last, since only then does the compiler make
-// a loop of it. It falls on j as its definition does: a `for` would need an invariant that only says the same.
+// a loop of it. It falls on j as its definition does, a form that the project has fixed.
 fn take_years<Q: Quotient>(growth: &mut Bracket, p: u64, q: u64, j: usize)
     requires { YearsWithin Q.Takes p q growth.old j }
     ensures { growth.new ≡ bracket (λ e. scaledFrom e p q (end_of growth.old e) j) }
@@ -23,7 +23,8 @@ fn take_years<Q: Quotient>(growth: &mut Bracket, p: u64, q: u64, j: usize)
 }
 
 /// A growth over j years, p ÷ q in each. A year adds a share (p - q) / q: where all years together add no more than a half, no end comes to
-/// 2^41, and every product fits. Asked once, this saves a test in each year.
+/// 2^41, and every product fits. Asked once, this saves a test in each year. The three numbers stand apart, as the definition of a growth has
+/// them.
 pub fn over_years(p: u64, q: u64, j: usize) -> Bracket
     requires { ScaledWithin p q j }
     ensures { result ≡ bracket (λ e. scaled e p q j) }

@@ -12,6 +12,7 @@ use lib.ListN.{length, get_or, drop}
 use lib.Seq.{drop_at}
 use mir.Syntax.{w8}
 use mir.Val.{Fits}
+use Rattle.std.specs.Cmp.{first_so, second_so}
 use Rattle.std.specs.Prelude.{Ok}
 use Rattle.arith.specs.Rounding.{End, low, high}
 use Rattle.model.specs.Numbers.{Bytes}
@@ -28,7 +29,6 @@ use Rattle.theory.proofs.demand3.Demand3Proved.{IsRounded}
 use Rattle.theory.proofs.general.Entries.{length-byTerm, lower_in, upper_in}
 use Rattle.theory.proofs.demand3.Files.{demand3-of-files}
 use Rattle.theory.proofs.demand3.Written.{written-rounded}
-use Rattle.theory.proofs.general.Lists.{and_first, and_second}
 use Rattle.reader.proofs.Exactly.{slice-bytes}
 use Rattle.engine.specs.Guarantee.{given, RefusedCall, AcceptedCall, AcceptedExactly, Call}
 use Rattle.engine.proofs.Valued.{passes, fails, own-refusal}
@@ -55,8 +55,8 @@ module _ (file : List ℕ) (factors : List ℕ) (rates : List ℤ) where
   unfolding valuationRefusal refusal
   enough h =
       let p = split (leb 240 (length factors) && leb 240 (length rates)) (checks file) h in (
-        leb-true 240 (length factors) (and_first (leb 240 (length factors)) (leb 240 (length rates)) p.0),
-        leb-true 240 (length rates) (and_second (leb 240 (length factors)) (leb 240 (length rates)) p.0),
+        leb-true 240 (length factors) (first_so (leb 240 (length factors)) (leb 240 (length rates)) p.0),
+        leb-true 240 (length rates) (second_so (leb 240 (length factors)) (leb 240 (length rates)) p.0),
         p.1,
       )
 

@@ -1,14 +1,14 @@
 -- What a valuation answers and leaves in the buffers: 13, the file's own refusal, or the figures of its case.
 -- Assumes nothing.
 use Prim.Native.Nat.{ℕ, zero, suc, ◌≤◌, ◌<◌}
-use mathlib.Core.Path.{◌≡◌, refl, ap, sym, ◌∙◌, subst}
+use mathlib.Core.Path.{◌≡◌, ap, sym, ◌∙◌, subst}
 use mathlib.Core.Bool.{Bool, true, false, ◌&&◌}
-use mathlib.Core.Logic.{◌⊎◌, inl, inr}
 use mathlib.Core.List.{List, ◌∷◌, ◌++◌}
 use borrow.Author.Tests.{le-leb, lt-leb}
 use lib.Dec.{leb}
 use lib.IntN.{ℤ}
 use lib.ListN.{length, drop}
+use Rattle.std.proofs.lemmas.Bool.{and_right}
 use Rattle.std.specs.Prelude.{Result, Ok, Err}
 use Rattle.method.specs.Curve.{base}
 use Rattle.model.specs.Layout.{case_of}
@@ -17,7 +17,6 @@ use Rattle.model.specs.Refusals.{first_of, checks, refusal}
 use Rattle.method.specs.Rounded as Rounded
 use Rattle.method.specs.Buffers.{valuationRefusal, factorsAfter, ratesAfter, answered, valuationOf}
 use Rattle.model.specs.declared.figures.Valuation.{Valuation}
-use Rattle.theory.proofs.general.Lists.{and-false}
 use Rattle.heldcase.specs.Held.{held}
 use Rattle.heldcase.specs.declared.Case.{Case}
 use Rattle.theory.proofs.acceptance.Acceptance.{within-limits}
@@ -59,15 +58,7 @@ module _ (file : List ℕ) (none : 0 ≡ refusal file) (k : Case) (holds : k ≡
   pub figures-accepted : (v : Valuation) → v ≡ moneyOf k → Ok v ≡ answered (refusal file) (case_of file)
   figures-accepted v g = rw (sym none) (ap ok_of (g ∙ reading-money))
 
--- `figures_of`
-pub figures-refused : (file : List ℕ) (e : Refusal) → number_of e ≡ refusal file → Err (number_of e) ≡ answered (refusal file) (case_of file)
-figures-refused file e k = rw (sym k) (go (number_of e) (some_number e))
-  where
-    go : (n : ℕ) → 0 < n → Err n ≡ answered n (case_of file)
-    go zero h = let never : ⊥ = omega arith in absurd never
-    go (suc n) h = refl
-
-module _ (file : List ℕ) (f₀ : List ℕ) (z₀ : List ℤ) (call : Call file f₀ z₀) where
+module _ {file f₀ : List ℕ} {z₀ : List ℤ} (call : Call file f₀ z₀) where
   -- the contract of `value`: the answer, both buffers at the end, and what holds of every call
   abbrev pub Meets : Result Valuation ℕ → List ℕ → List ℤ → Type 0
   Meets answer f z = record {
@@ -82,13 +73,16 @@ module _ (file : List ℕ) (f₀ : List ℕ) (z₀ : List ℤ) (call : Call file
   unfolding valuationOf factorsAfter ratesAfter
   meets-refused n e = record { value = rw e; factors = rw e; rates = rw e; call = call }
 
-  -- with a buffer that is too short: that for factors, or, where it is long enough, that for rates
-  pub too-short : (length f₀ < 240) ⊎ (240 ≤ length f₀ × length z₀ < 240) → Meets (Err 13) f₀ z₀
+  -- with a buffer that is too short, that for factors or that for rates
+  short : (leb 240 (length f₀) && leb 240 (length z₀)) ≡ false → Meets (Err 13) f₀ z₀
   unfolding valuationRefusal
-  too-short (inl h) = meets-refused 12 (fails (leb 240 (length f₀) && leb 240 (length z₀)) (checks file) (rw (lt-leb 240 (length f₀) h)))
-  too-short (inr h) =
-      meets-refused 12
-      (fails (leb 240 (length f₀) && leb 240 (length z₀)) (checks file) (and-false (leb 240 (length f₀)) (leb 240 (length z₀)) (lt-leb 240 (length z₀) h.1)))
+  short h = meets-refused 12 (fails (leb 240 (length f₀) && leb 240 (length z₀)) (checks file) h)
+
+  pub short-factors : length f₀ < 240 → Meets (Err 13) f₀ z₀
+  short-factors h = short (rw (lt-leb 240 (length f₀) h))
+
+  pub short-rates : length z₀ < 240 → Meets (Err 13) f₀ z₀
+  short-rates h = short (and_right (leb 240 (length f₀)) (leb 240 (length z₀)) (lt-leb 240 (length z₀) h))
 
   module _ (hf : 240 ≤ length f₀) (hz : 240 ≤ length z₀) where
     -- a refused file: its number is not 0

@@ -14,16 +14,16 @@ use refusal::Refusal;
 use working::{money_of, value_case};
 
 /// Values a case file into two lent buffers, for factors and for zero rates, lower and upper, term by term. A buffer of fewer than
-/// 240 entries is `Buffers`, ahead of all; a refused file has its own refusal. A refusal leaves both buffers as they were.
+/// 240 entries is `Buffers`, ahead of all; a refused file has its own refusal. A refusal leaves both buffers as they were. Hosts in C lend
+/// each by a pointer and a length, so they stay two slices.
 pub fn value(file: &[u8], factors: &mut [u64], rates: &mut [i64]) -> Result<Valuation, Refusal>
     ensures value { answer_of result ≡ valuationOf (length factors.old) (length rates.old) file.now }
     ensures factors { factors.new ≡ factorsAfter file.now factors.old rates.old }
     ensures rates { rates.new ≡ ratesAfter file.now factors.old rates.old }
     ensures call { Call file.now factors.old rates.old }
 {
-    if factors.len() < 240 || rates.len() < 240 {
-        return Err(Refusal::Buffers);
-    }
+    let factors = factors.first_chunk_mut().ok_or(Refusal::Buffers)?;
+    let rates = rates.first_chunk_mut().ok_or(Refusal::Buffers)?;
     // Not by `?`, which gets no proof of a result that holds a case: contracts see its flows as lists.
     match read(file) {
         Ok(reading) => Ok(value_case(&reading.case, factors, rates)),

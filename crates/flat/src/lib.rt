@@ -65,7 +65,7 @@ impl From<Result<Valuation, Refusal>> for HostValuation {
     }
 }
 
-// A number that stands for no verdict is undecided.
+// A number that stands for no verdict is undecided. A function and no `From`, since neither type is one of this crate.
 fn verdict_from(number: u8) -> Verdict
     ensures { result ≡ verdictFrom number }
 {
@@ -78,7 +78,7 @@ fn verdict_from(number: u8) -> Verdict
 }
 
 /// The error is the number of a refusal, as the host gives it: any but 0. It goes first: beside one, neither the verdict nor the figures
-/// are looked at.
+/// are looked at. A host can give numbers that no refusal has, so the error is no `Refusal`.
 impl TryFrom<HostValuation> for Valuation {
     ghost use Rattle.flat.specs.Flat.{valuationFrom};
 

@@ -4,7 +4,7 @@ ghost use Rattle.std.specs.Prelude.{◌≡◌, ◌<◌, ◌≤◌, [], ◌∷◌
 use std::marker::Model;
 
 /// At most `MOST` flows, in whole euros, of the terms from 1 on. A contract sees the list of them. Memory is fixed, so there is room for the
-/// most.
+/// most. Those that a host hands in to be saved stay in its own slices, which `saving` borrows.
 #[derive(Clone, Copy)]
 pub struct Flows<const MOST: usize> {
     count: usize,
@@ -51,7 +51,7 @@ impl<const MOST: usize> Flows<MOST> {
         Flows { count, entries }
     }
 
-    /// One flow more, of the term after the last.
+    /// One flow more, of the term after the last, as `Vec::push` has it: the heap that a `Vec` needs is not there.
     pub fn push(&mut self, euros: u64)
         requires { length self.old < MOST }
         ensures { self.new ≡ self.old ++ euros ∷ [] }

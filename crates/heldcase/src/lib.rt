@@ -48,7 +48,8 @@ impl Case {
 impl Default for Case {
     ghost is_default = { λ c. c ≡ defaultCase };
 
-    // The case with the default UFR, no flows, and 0 in every other field. Not derived, since the default UFR is not 0.
+    // The case with the default UFR, no flows, and 0 in every other field. Not derived, since the default UFR is not 0. The goal stays open
+    // where the definition is not unfolded.
     #[tactic(auto, unfolding(crate::specs::Held::defaultCase))]
     fn default() -> Case {
         Case {

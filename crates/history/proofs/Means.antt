@@ -1,17 +1,17 @@
 -- The months so far, and what a history gives, where each of its checks holds or fails.
-use Prim.Native.Nat.{ℕ, zero, suc, ◌+◌, ◌*◌, ◌/◌, ◌≤◌, ◌<◌}
-use mathlib.Core.Path.{◌≡◌, refl, ap, ap₂, sym, ◌∙◌}
-use mathlib.Core.Bool.{Bool, true, false, ◌&&◌}
+use Rattle.std.proofs.lemmas.Bool.{and_from, and_right}
+use Prim.Native.Nat.{ℕ, suc, ◌+◌, ◌*◌, ◌≤◌, ◌<◌}
+use mathlib.Core.Path.{◌≡◌, refl, ap, sym, ◌∙◌}
+use mathlib.Core.Bool.{true, false, ◌&&◌}
 use mathlib.Core.List.{List, [], ◌∷◌, ◌++◌}
-use mathlib.Core.Logic.{◌≢◌}
+use mathlib.Core.Logic.{◌≢◌, ◌⊎◌, inl, inr}
 use native.Mathlib.Nat.{zero-add}
 use native.Mathlib.Numerals.{add-one}
 use native.Mathlib.Omega.{arith}
 use borrow.Author.Tests.{eq-eqb, ne_eqb, le-leb, lt-leb}
 use lib.Dec.{leb, eqb}
 use lib.ListN.{length, get_or}
-use lib.IntN.{ℤ, pos, negsuc, nat_abs, neg_ℤ, ◌+ℤ◌, ◌*ℤ◌, +ℤ_idr}
-use lib.Signed.{le_z, ◌≤ℤ◌}
+use lib.IntN.{ℤ, pos, negsuc, nat_abs, ◌+ℤ◌, ◌*ℤ◌, +ℤ_idr}
 use Rattle.std.proofs.lemmas.Int.{ints}
 use Rattle.std.specs.Int.{int_div_euclid}
 use Rattle.std.specs.Prelude.{Result, Ok, Err}
@@ -20,10 +20,10 @@ use Rattle.model.specs.Fields.{valueAll, rightAll, withinZ}
 use Rattle.model.specs.Refusals.{first_of}
 use Rattle.monthsmodel.specs.Months.{month, monthsOf, total, floorZ, hundreds, roundedUfr, ufrRefusal, ufrAnswer}
 use Rattle.theory.proofs.acceptance.Runs.{values-last, values-table, values_length, right-more}
-use Rattle.theory.proofs.general.Lists.{and_both, and-false, getD-table}
+use Rattle.theory.proofs.general.Lists.{getD-table}
 use Rattle.theory.proofs.months.Rotated.{total-append}
 use Rattle.rolling.proofs.Rates.{wrong-at}
-use Rattle.rolling.proofs.Sums.{Small, rate-small}
+use Rattle.rolling.proofs.Sums.{Small}
 
 -- ---- one month more
 
@@ -44,7 +44,7 @@ module _ (history : List ℕ) where
   pub right-more-month : (i : ℕ) {z : ℤ} → z ≡ month.value history (2 * i) → month.right z ≡ true → rightAll month (first i) ≡ true
       → rightAll month (first (i + 1)) ≡ true
   right-more-month i {z} e h k =
-      ap (rightAll month) (more i e) ∙ right-more month (first i) z ∙ and_both (rightAll month (first i)) (month.right z) k h
+      ap (rightAll month) (more i e) ∙ right-more month (first i) z ∙ and_from (rightAll month (first i)) (month.right z) k h
 
   pub total-more-month : (i : ℕ) {z : ℤ} → z ≡ month.value history (2 * i) → total (first (i + 1)) ≡ total (first i) +ℤ z
   total-more-month i {z} e = ap total (more i e) ∙ total-more (first i) z
@@ -95,11 +95,15 @@ module _ (history : List ℕ) (start : ℕ) where
   unfolding ufrAnswer ufrRefusal first_of
   place h = rw h
 
-  pub other_length : length history ≢ 240 → Err 17 ≡ ufrAnswer history start
+  other_length : length history ≢ 240 → Err 17 ≡ ufrAnswer history start
   other_length h = place (ap (λ b. b && leb start 119) (ne_eqb (length history) 240 h))
 
-  pub start-past : 119 < start → Err 17 ≡ ufrAnswer history start
-  start-past h = place (and-false (eqb (length history) 240) (leb start 119) (lt-leb start 119 h))
+  start-past : 119 < start → Err 17 ≡ ufrAnswer history start
+  start-past h = place (and_right (eqb (length history) 240) (leb start 119) (lt-leb start 119 h))
+
+  pub no-ring : (length history ≢ 240) ⊎ ((length history ≡ 240) × (120 ≤ start)) → Err 17 ≡ ufrAnswer history start
+  no-ring (inl h) = other_length h
+  no-ring (inr h) = start-past (omega (arith, h.1))
 
   module _ (long : length history ≡ 240) (fits : start ≤ 119) where
     pub month-past : rightAll month (first history 120) ≡ false → Err 18 ≡ ufrAnswer history start

@@ -1,22 +1,13 @@
 // The UFR from ten years of months.
 #![tactic(auto)]
 
-ghost use Rattle.std.specs.Prelude.{◌≡◌, ◌+◌, ◌<◌, length, pos};
+ghost use Rattle.std.specs.Prelude.{◌≡◌, pos};
 ghost use Rattle.model.specs.Fields.{withinZ};
-ghost use Rattle.monthsmodel.specs.Months.{month, ufrAnswer};
+ghost use Rattle.monthsmodel.specs.Months.{ufrAnswer};
 ghost use Rattle.refusal.specs.Numbered.{answer_of};
 
+use rates::{RateForm, TwoBytes};
 use refusal::Refusal;
-use rings::Place;
-use rolling::is_rate;
-
-// A month is two bytes, two's complement.
-fn month_at(history: &[u8], at: usize) -> i16
-    requires { at + 1 < length history.now }
-    ensures { result ≡ month.value history.now at }
-{
-    i16::from_be_bytes([history[at], history[at + 1]])
-}
 
 // The limits of refusal 19.
 fn is_ufr(ufr: i64) -> bool
@@ -26,18 +17,19 @@ fn is_ufr(ufr: i64) -> bool
 }
 
 // The mean of the months of a ring, rounded to the nearest 100 steps, halves upward: 17 for a history that is no full ring of 120 months,
-// 18 for a month out of limits, 19 for a mean that is no UFR.
+// 18 for a month out of limits, 19 for a mean that is no UFR. Hosts in C hand in the months and their start apart.
 pub fn ufr_of(history: &[u8], start: u64) -> Result<u64, Refusal>
     ensures { answer_of result ≡ ufrAnswer history.now start }
 {
-    if history.len() != 240 {
+    if history.len() != 240 || 120 <= start {
         return Err(Refusal::History);
     }
-    let ring = Place::<120>::new(120, start).ok_or(Refusal::History)?;
+    let (months, _) = history.as_chunks::<2>();
     let mut sum: i64 = 0;
-    for i in 0..ring.count {
-        let month = month_at(history, 2 * i);
-        if !is_rate(i32::from(month)) {
+    // A month has the form of a rate.
+    for bytes in months {
+        let month = TwoBytes::rate_of(bytes);
+        if !TwoBytes::is_rate(month) {
             return Err(Refusal::Month);
         }
         sum += i64::from(month);

@@ -27,6 +27,7 @@ use refusal::Refusal;
 use rolling::{add_day, drop_day, empty};
 use rollingmodel::{ChangedWindow, Day, RollingWindow};
 use rollingvalue::value_window;
+use saving::given::GivenCase;
 use saving::save;
 use window::window_point;
 
@@ -108,7 +109,13 @@ pub extern "C" fn ginghamowl_save(
         (saveAnswer (given fields rates.now pension.now bonds.now) (length out.old)) }
     ensures buffer { out.new ≡ savedAfter (given fields rates.now pension.now bonds.now) out.old }
 {
-    save(&fields, rates, pension, bonds, out).into()
+    let case = GivenCase {
+        fields: &fields,
+        rates,
+        pension,
+        bonds,
+    };
+    save(&case, out).into()
 }
 
 // An empty rolling window.
@@ -158,7 +165,13 @@ pub extern "C" fn ginghamowl_rolling_value(
     ensures rates { rates.new ≡ windowRatesAfter window (given fields case_rates.now pension.now bonds.now)
         factors.old rates.old }
 {
-    value_window(window, fields, case_rates, pension, bonds, factors, rates).into()
+    let case = GivenCase {
+        fields: &fields,
+        rates: case_rates,
+        pension,
+        bonds,
+    };
+    value_window(window, &case, factors, rates).into()
 }
 
 // The UFR that a history of months gives, as `history::ufr_of` finds it.

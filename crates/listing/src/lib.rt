@@ -1,7 +1,10 @@
-// The listing of a valuation: its text, and the text in a lent buffer.
-#![tactic(auto)]
+// The listing of a valuation: its text, printed or written to a lent buffer. The engine has no heap, so the text is put together in a buffer
+// of fixed size.
+// Goals of three functions stay open where what a listing is made of is not unfolded.
+#![tactic(auto, unfolding(crate::specs::inner::Parts::spaced, crate::specs::inner::Parts::named, crate::specs::inner::Parts::figureLines, method::specs::Listing::ascii, method::specs::Listing::word, method::specs::Listing::listing, model::specs::Numbers::table))]
 
-ghost use Rattle.std.specs.Prelude.{◌≡◌, ◌+◌, ◌≤◌, ◌++◌, All, length, take};
+ghost use Rattle.std.specs.Prelude.{◌≡◌, ◌+◌, ◌≤◌, ◌++◌, All, OnOk, length, take};
+ghost use Rattle.std.specs.Io.KnownBytes.{Appends};
 ghost use Rattle.std.specs.List.{flat_map};
 ghost use Rattle.arrayvec.specs.ArrayVec.{array_vec_len};
 ghost use Rattle.method.specs.Listing.{decimal, word, listing, listingAfter, listingLength};
@@ -10,9 +13,15 @@ ghost use Rattle.listing.specs.inner.Parts.{spaced, named, figureLines, judged};
 use arrayvec::ArrayVec;
 use itoa::Buffer;
 use model::figures::{Bracket, Figures, Valuation, Verdict};
+use std::io;
+use std::io::Write;
 
-// No listing is longer.
+// No listing is longer. Callees ask for room in a clause, since `ArrayVec` is the toolchain's own type: it tells how many bytes it can hold, and
+// not how many more.
 pub type Text = ArrayVec<u8, 512>;
+
+// By parts, and not by `write!`: of what `write!` appends its contract speaks only where it succeeds, and it does not say that it does where
+// there is room.
 
 // Appends bytes.
 fn push(text: &mut Text, bytes: &[u8])
@@ -35,7 +44,6 @@ fn push_number(text: &mut Text, n: u64)
 }
 
 // One line: name, lower, upper.
-#[tactic(auto, unfolding(crate::specs::inner::Parts::named, method::specs::Listing::ascii, model::specs::Numbers::table))]
 fn push_line(text: &mut Text, name: &[u8], b: Bracket)
     requires { (length name.now ≤ 2) × (array_vec_len text.old + 45 ≤ 512) }
     ensures items { text.new.items ≡ text.old.items ++ named name.now b }
@@ -47,7 +55,7 @@ fn push_line(text: &mut Text, name: &[u8], b: Bracket)
     push(text, b"\n");
 }
 
-// The figures under their names, in the order of the listing.
+// The figures under their names, in the order of the listing. Field by field, since C's struct has no list of its fields.
 fn named_figures(f: Figures) -> [(&'static [u8], Bracket); 10]
     ensures lines { flat_map (λ p. named p.0.now p.1) result ≡ figureLines f }
     ensures short { All (λ p. length p.0.now ≤ 2) result }
@@ -77,8 +85,7 @@ fn push_figures(text: &mut Text, f: Figures)
     }
 }
 
-// The word of a verdict.
-#[tactic(auto, unfolding(method::specs::Listing::word, method::specs::Listing::ascii, model::specs::Numbers::table))]
+// The word of a verdict. A function and no `Display`, since the type is `model`'s, where definitions stand without functions.
 fn word_of(v: Verdict) -> &'static [u8]
     ensures word { result.now ≡ word v }
     ensures short { length result.now ≤ 14 }
@@ -92,7 +99,6 @@ fn word_of(v: Verdict) -> &'static [u8]
 }
 
 // The listing of a valuation, or of the number of a refusal.
-#[tactic(auto, unfolding(method::specs::Listing::listing, method::specs::Listing::ascii, model::specs::Numbers::table, crate::specs::inner::Parts::spaced, crate::specs::inner::Parts::figureLines))]
 pub fn text_of(v: Result<Valuation, u8>) -> Text
     ensures { result.items ≡ listing v }
 {
@@ -112,6 +118,13 @@ pub fn text_of(v: Result<Valuation, u8>) -> Text
     text
 }
 
+/// Prints the listing of a valuation, or of the number of a refusal.
+pub fn print<W: Write>(out: &mut W, v: Result<Valuation, u8>) -> io::Result<()>
+    ensures { OnOk result (Appends (W.contents out.old) (W.contents out.new) (listing v)) }
+{
+    out.write_all(text_of(v).as_slice())
+}
+
 /// Writes the listing of a valuation to the front of a buffer, and answers its length. A buffer that is too short is left alone; then
 /// the answer is 0, as C is told it. The error is the number of a refusal, also one that a host made up.
 pub fn write_listing(v: Result<Valuation, u8>, out: &mut [u8]) -> usize
@@ -121,6 +134,7 @@ pub fn write_listing(v: Result<Valuation, u8>, out: &mut [u8]) -> usize
 {
     let text = text_of(v);
     let used = text.len();
+    // By the lengths, since `get_mut(..used)` does not say what `out` holds after it.
     if out.len() < used {
         return 0;
     }

@@ -1,14 +1,14 @@
 -- The worth of flows, one flow more: what the loop over them adds.
 -- Assumes nothing.
 use Prim.Native.Nat.{ℕ, suc, ◌+◌, ◌*◌, ◌-◌, ◌^◌, ◌≤◌, ◌<◌}
-use mathlib.Core.Path.{◌≡◌, refl, ap, ◌∙◌}
+use mathlib.Core.Path.{◌≡◌, ap, ◌∙◌}
 use mathlib.Core.List.{List, [], ◌∷◌, ◌++◌}
 use native.Mathlib.Omega.{arith}
 use native.Mathlib.Nat.{mul-le-mul, mul_comm, le_trans, lt_of_le_of_lt}
 use native.Mathlib.Numerals.{add-one}
 use lib.Dec.{lit≤, lit<}
 use lib.ListN.{length, get_or, take, length-append}
-use lib.Seq.{take-suc, take-length, length-take-le}
+use lib.Seq.{take-suc, length-take-le}
 use Rattle.arith.specs.inner.Range.{InRange}
 use Rattle.arith.specs.Rounding.{End, low, high, divide}
 use Rattle.arith.proofs.Rounding.{divide-le}
@@ -106,9 +106,3 @@ pub one-more : {A : Type 0} (flows : List ℕ) (factors : List Bracket) (done : 
 one-more flows factors done x r p k l q =
     let n : length (done ++ (x ∷ [])) ≡ length done + 1 = length-append done (x ∷ []) in
     rw n (record { total = p; most = rw q (record { lower = omega (arith, k, l); upper = omega (arith, k, l) }) })
-
-pub worth-all : (flows : List ℕ) (factors : List Bracket) (i : ℕ) (r : Bracket) → i ≡ length flows → r ≡ worthTo flows factors i
-    → r ≡ bracket (λ e. worth e (factorAt factors e) 1 flows)
-worth-all flows factors i r h p =
-    p ∙ by-ends (λ e. worth e (factorAt factors e) 1 (take i flows)) (λ e. worth e (factorAt factors e) 1 flows)
-    (λ e. rw (h, take-length flows))

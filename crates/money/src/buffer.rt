@@ -45,7 +45,7 @@ fn root_of_squares<E: End>(correlation: u64, s: &Losses) -> u64
     E::root(1_000 * squares + correlated, 1_000)
 }
 
-/// S, with the correlation in thousandths.
+/// S, with the correlation in thousandths. An end is a line of its own: a closure cannot be generic over `End`.
 pub fn buffer(correlation: u64, s: &Losses) -> Bracket
     requires { (correlation ≤ 1000) × LossesFit s.now }
     ensures value { result ≡ bracket (bufferOf correlation s.now) }

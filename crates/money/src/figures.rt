@@ -56,6 +56,7 @@ fn figures(l: Three<Bracket>, b: Three<Bracket>, a: &Amounts, x: &Shocks, p: &Pe
 }
 
 /// The figures and the verdict by them.
+// The goal stays open where `judge` is not unfolded.
 #[tactic(auto, unfolding(method::specs::Rounded::judge))]
 pub fn money_by(
     l: Three<Bracket>,

@@ -24,6 +24,7 @@ fn fall(b: Bracket, l: Bracket, bm: Bracket, lm: Bracket) -> Bracket
 }
 
 /// S1, the larger fall of bonds less liabilities from the base curve to the up or the down curve.
+// That the worths fit is asked of the caller: a `Three` of brackets is one of factors too, of other sizes.
 pub fn s1(l: Three<Bracket>, b: Three<Bracket>) -> Bracket
     requires { WorthsFit l × WorthsFit b }
     ensures value { result ≡ bracket (interestLoss (ends l) (ends b)) }
@@ -100,7 +101,7 @@ fn mortality_loss<E: End>(l: Bracket, p: &People) -> u64
     E::root(owed * owed * share as u128, 256_000_000 * p.heads)
 }
 
-/// S6: the liabilities times the root of TSO² + NSA², which are one fraction of whole numbers.
+/// S6: the liabilities times the root of TSO² + NSA², which are one fraction of whole numbers. An end is a line of its own, as in `buffer`.
 pub fn s6(l: Bracket, p: &People) -> Bracket
     requires { WorthFits l × PeopleWithin p.now }
     ensures value { result ≡ bracket (mortalityLoss (end_of l) p.now) }

@@ -8,6 +8,7 @@ use arith::bracket::Bracket;
 use model::figures::Verdict;
 
 /// The verdict, from the ends of A, L and S.
+// The goals stay open where `judge` is not unfolded.
 #[tactic(auto, unfolding(method::specs::Rounded::judge))]
 pub fn verdict_of(a: Bracket, l: Bracket, s: Bracket) -> Verdict
     requires { Judgeable a l s }

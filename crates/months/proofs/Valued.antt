@@ -9,6 +9,7 @@ use borrow.Author.Tests.{le-leb, lt-leb}
 use lib.Dec.{leb, lit<}
 use lib.IntN.{ℤ}
 use lib.ListN.{length, drop}
+use Rattle.std.proofs.lemmas.Bool.{and_right}
 use Rattle.std.specs.Prelude.{Result, Ok, Err}
 use Rattle.method.specs.Buffers.{valuationRefusal}
 use Rattle.model.specs.Case.{FileCase, perStep, withUfr}
@@ -21,7 +22,7 @@ use Rattle.model.specs.Refusals.{first_of, refusal}
 use Rattle.heldcase.specs.declared.Case.{Case}
 use Rattle.model.specs.declared.figures.Valuation.{Valuation}
 use Rattle.theory.proofs.curve.Changed.{ufr-P}
-use Rattle.theory.proofs.general.Lists.{and-false, table_same}
+use Rattle.theory.proofs.general.Lists.{table_same}
 use Rattle.theory.proofs.months.Valued.{own_first, history-after, within-limits}
 use Rattle.refusal.specs.Numbered.{number_of}
 use Rattle.refusal.specs.declared.Refusal.{Refusal}
@@ -78,7 +79,7 @@ module _ (file history : List ℕ) (start : ℕ) (f₀ : List ℕ) (z₀ : List 
   short-factors h = short (rw (lt-leb 240 (length f₀) h))
 
   pub short-rates : length z₀ < 240 → Meets (Err 13) f₀ z₀
-  short-rates h = short (and-false (leb 240 (length f₀)) (leb 240 (length z₀)) (lt-leb 240 (length z₀) h))
+  short-rates h = short (and_right (leb 240 (length f₀)) (leb 240 (length z₀)) (lt-leb 240 (length z₀) h))
 
   module _ (hf : 240 ≤ length f₀) (hz : 240 ≤ length z₀) where
     own : valuationRefusal (length f₀) (length z₀) file ≡ refusal file

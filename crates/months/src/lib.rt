@@ -1,13 +1,11 @@
 // The valuation of a case file with the UFR from ten years of months, as a host calls it.
 #![tactic(auto)]
 
-mod case;
-
 ghost use Rattle.std.specs.Prelude.{◌≡◌, length};
 ghost use Rattle.monthsmodel.specs.Months.{monthsValuation, monthsFactorsAfter, monthsRatesAfter};
 ghost use Rattle.refusal.specs.Numbered.{answer_of};
 
-use case::with_ufr;
+use heldcase::Case;
 use history::ufr_of;
 use model::figures::Valuation;
 use reader::file::read;
@@ -15,7 +13,7 @@ use refusal::Refusal;
 use working::value_case;
 
 /// Values a case file with the UFR that a history gives into two lent buffers, as `engine::value` does a file that has that UFR in its
-/// field. A refusal leaves both buffers as they were.
+/// field. A refusal leaves both buffers as they were. Hosts in C lend each by a pointer and a length, so they stay two slices.
 pub fn value_with_months(
     file: &[u8],
     history: &[u8],
@@ -27,15 +25,14 @@ pub fn value_with_months(
     ensures factors { factors.new ≡ monthsFactorsAfter file.now history.now start factors.old rates.old }
     ensures rates { rates.new ≡ monthsRatesAfter file.now history.now start factors.old rates.old }
 {
-    if factors.len() < 240 || rates.len() < 240 {
-        return Err(Refusal::Buffers);
-    }
+    let factors = factors.first_chunk_mut().ok_or(Refusal::Buffers)?;
+    let rates = rates.first_chunk_mut().ok_or(Refusal::Buffers)?;
     // Not by `?`, which gets no proof of a result that holds a case: contracts see its flows as lists.
     let own = match read(file) {
         Ok(reading) => reading.case,
         Err(refusal) => return Err(refusal),
     };
     let ufr = ufr_of(history, start)?;
-    let case = with_ufr(own, ufr);
+    let case = Case { ufr, ..own };
     Ok(value_case(&case, factors, rates))
 }

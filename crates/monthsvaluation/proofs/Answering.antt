@@ -1,20 +1,12 @@
 -- What is answered of the parts that were read. Assumes nothing.
-use Rattle.std.proofs.Common.{◌≡◌, ◌∙◌, inl, inr, sym, ap, subst, ℕ, ◌≤◌, ◌<◌, List, ◌++◌, Option, Some, None, Ok, Err, Result, OnOk, IfSome, arith, length, take, length-take-le, append-nil, take_all}
-use Rattle.std.proofs.lemmas.Result.{err_from_is_err_and}
+use Rattle.std.proofs.Common.{◌≡◌, ◌∙◌, inl, inr, ap, subst, ℕ, ◌≤◌, ◌<◌, List, ◌++◌, Option, Some, None, IfSome, arith, length, take, length-take-le, append-nil, take_all}
 use Rattle.std.proofs.KnownBytes.{Keeps-refl}
-use Rattle.std.specs.Result.{MatchResult, IsErrAnd}
 use Rattle.std.specs.Int.{from_be_bytes, w64}
 use Rattle.std.specs.Io.KnownBytes.{Consumes, IsAtEnd, Appends}
 use Rattle.batch.specs.Input.{LosesFront}
 use Rattle.model.specs.Numbers.{number}
 use Rattle.monthsvaluation.specs.Answered.{PartRead, BothRead, Answered}
 use Rattle.monthsvaluation.specs.Shown.{shown}
-
--- what holds where a result is good holds there with the error mapped too
-pub on-mapped : {T E F P Q : Type 0} (R : E → F → Type 0) (a : Result T E) (b : Result T F) → MatchResult a (λ x. b ≡ Ok x) (λ e. IsErrAnd b (R e))
-    → (P → Q) → OnOk a P → OnOk b Q
-on-mapped {Q = Q} R (Ok x) b mapped f p = subst (λ r. OnOk r Q) (sym mapped) (f p)
-on-mapped {Q = Q} R (Err e) b mapped f p = subst (λ r. OnOk r Q) (sym (err_from_is_err_and b mapped).1) tt
 
 eight-bytes : (bytes : List ℕ) → from_be_bytes w64 bytes ≡ number bytes 0 8
 unfolding number

@@ -2,16 +2,13 @@
 // with it. Each of the first two stands behind its length in four bytes, and the start index has eight, the highest first.
 #![tactic(auto)]
 
-ghost use Rattle.std.specs.Prelude.{◌≡◌, ◌+◌, ◌++◌, ◌≤◌, IfErr, IfOk, OnOk, length};
+ghost use Rattle.std.specs.Prelude.{IfErr, IfOk, OnOk};
 ghost use Rattle.std.specs.Io.KnownBytes.{Appends};
-ghost use Rattle.arrayvec.specs.ArrayVec.{array_vec_len};
+ghost use Rattle.batch.specs.Unread.{KeepsUnread};
 ghost use Rattle.monthsvaluation.specs.Answered.{PartGiven, Answered};
 ghost use Rattle.monthsvaluation.specs.Shown.{ufrLine, shown};
-ghost use Rattle.monthsvaluation.specs.Unread.{KeepsUnread};
 
-use arrayvec::ArrayVec;
-use batch::Cut;
-use itoa::Buffer;
+use batch::{Cut, Stopped};
 use refusal::Refusal;
 use std::io;
 use std::io::{Read, Write};
@@ -21,34 +18,11 @@ const MOST_FILE: usize = 17624;
 
 const MOST_HISTORY: usize = 241;
 
-// The word UFR, a space, at most 20 digits and the end of the line.
-type Line = ArrayVec<u8, 25>;
-
-// Why not all was printed.
-#[derive(Drop)]
-enum Stopped {
-    Read(Cut),
-    Write(io::Error),
-}
-
-fn push(line: &mut Line, bytes: &[u8])
-    requires { array_vec_len line.old + length bytes.now ≤ 25 }
-    ensures { line.new.items ≡ line.old.items ++ bytes.now }
-{
-    let _fits = line.try_extend_from_slice(bytes);
-}
-
 // UFR and its steps.
-#[tactic(auto, unfolding(method::specs::Listing::ascii, model::specs::Numbers::table))]
-fn line_of(ufr: u64) -> Line
-    ensures { result.items ≡ ufrLine ufr }
+fn print_line<W: Write>(out: &mut W, ufr: u64) -> io::Result<()>
+    ensures { OnOk result (Appends (W.contents out.old) (W.contents out.new) (ufrLine ufr)) }
 {
-    let mut digits = Buffer::new();
-    let mut line = Line::new();
-    push(&mut line, b"UFR ");
-    push(&mut line, digits.format(ufr).as_bytes());
-    push(&mut line, b"\n");
-    line
+    writeln!(out, "UFR {ufr}")
 }
 
 // A refused case or history has no line of the UFR.
@@ -60,10 +34,9 @@ fn print_valuation<W: Write>(out: &mut W, file: &[u8], history: &[u8], start: u6
     let valuation = months::value_with_months(file, history, start, &mut factors, &mut rates);
     let ufr = history::ufr_of(history, start);
     if let (Ok(_), Ok(ufr)) = (valuation, ufr) {
-        out.write_all(line_of(ufr).as_slice())?;
+        print_line(out, ufr)?;
     }
-    let text = listing::text_of(valuation.map_err(Refusal::number));
-    out.write_all(text.as_slice())
+    listing::print(out, valuation.map_err(Refusal::number))
 }
 
 // The next part, to the front of buf, and its length; none where the input ends within it or it is longer than buf.
@@ -82,7 +55,8 @@ fn read_part<R: Read>(input: &mut R, buf: &mut [u8]) -> Result<Option<usize>, Cu
     Ok(Some(count))
 }
 
-// Where the input ends early, a read fails or a length is too large, nothing is printed.
+// Where the input ends early, a read fails or a length is too large, nothing is printed. `valuation` has an `answer` too, of another input
+// and with another text.
 fn answer<R: Read, W: Write>(input: &mut R, out: &mut W) -> Result<(), Stopped>
     ensures answered { OnOk result (Answered (R.remaining input.old) (W.contents out.old) (W.contents out.new)) }
     ensures unread { IfErr result (KeepsUnread (W.contents out.old) (W.contents out.new)) }

@@ -1,11 +1,11 @@
 -- A count byte, the count, the rest of the length: check by check, and where the cursor then is.
-use Rattle.std.proofs.Common.{◌≡◌, ◌∙◌, ℕ, zero, suc, ◌+◌, ◌*◌, ◌/◌, ◌≤◌, Bool, true, false, List, [], ◌∷◌, ◌++◌, get_or, take, drop, length, ap, sym, refl, arith}
+use Rattle.std.specs.Cmp.{first_so, second_so}
+use Rattle.std.proofs.Common.{◌≡◌, ◌∙◌, ℕ, ◌+◌, ◌*◌, ◌/◌, ◌≤◌, Bool, true, false, List, [], ◌∷◌, ◌++◌, get_or, take, drop, length, ap, sym, refl, arith}
 use Rattle.std.specs.Borrow.{Bor}
 use mathlib.Core.Path.{ap₂}
 use borrow.Author.Tests.{leb-true}
 use lib.Dec.{leb, lit<}
 use native.Mathlib.Nat.{mul-div_cancel_left}
-use Rattle.theory.proofs.general.Lists.{and_first, and_second}
 use Rattle.model.specs.Fields.{Check, reaches, within, valueAll}
 use Rattle.model.specs.Layout.{flow}
 use Rattle.model.specs.Refusals.{first_of}
@@ -46,7 +46,7 @@ module _ (most size : ℕ) (r : Refusal) (file : List ℕ) (at n : ℕ) (is : n 
   whole-last b f h = go byte (few ++ whole) tt b (h ∙ sym (after-hold few whole (f, tt))) ∙ in_order
 
 pub within-both : (a b v : ℕ) → within a b v ≡ true → (a ≤ v) × (v ≤ b)
-within-both a b v h = (leb-true a v (and_first (leb a v) (leb v b) h), leb-true v b (and_second (leb a v) (leb v b) h))
+within-both a b v h = (leb-true a v (first_so (leb a v) (leb v b) h), leb-true v b (second_so (leb a v) (leb v b) h))
 
 -- what is read from a cursor that has moved
 pub part-moved : {old new : Cursor} {part : Bor (List ℕ)} {at n : ℕ} → Moved old new at → IsPart new.file part new.at n → IsPart old.file part at n

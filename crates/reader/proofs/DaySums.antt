@@ -1,12 +1,14 @@
 -- The sums over the days: one day more adds its rates, and no sum of days whose rates are within their limits is far from 0.
-use Rattle.std.proofs.Common.{◌≡◌, ◌∙◌, ℕ, zero, suc, ◌+◌, ◌*◌, ◌/◌, ◌-◌, ◌≤◌, ◌<◌, Bool, true, false, ◌&&◌, cond, List, [], ◌∷◌, ◌++◌, length, length-drop, get_or, take, drop, replicate, ap, sym, refl, subst, arith, ℤ, pos, neg_ℤ, ◌+ℤ◌}
+use Rattle.std.specs.Cmp.{first_so, second_so}
+use Rattle.std.proofs.Common.{◌≡◌, ◌∙◌, ℕ, suc, ◌+◌, ◌*◌, ◌-◌, ◌/◌, ◌≤◌, ◌<◌, Bool, true, false, ◌&&◌, cond, List, [], ◌∷◌, ◌++◌, length, length-drop, get_or, take, drop, replicate, ap, sym, refl, arith, ℤ, pos, neg_ℤ, ◌+ℤ◌}
 use Rattle.std.proofs.lemmas.Int.{ints}
-use Rattle.std.specs.Simd.{first_chunks}
+use Rattle.std.proofs.lemmas.Nat.{le-div}
 use mathlib.Core.Path.{ap₂}
-use native.Mathlib.Nat.{mul-le-mul, mul-le-mul_left, mul_assoc, mul-div_cancel_left}
+use native.Mathlib.Nat.{mul-le-mul, mul-le-mul_left, mul-div-le, mul-div_cancel_left, div-eq_of_lt-le}
 use borrow.Author.Tests.{eqb-true, eq-eqb}
 use lib.Dec.{eqb}
-use lib.Seq.{length-take-le, get_or-take, get_or-drop}
+use lib.Seq.{take-append_seam, drop-append_seam, drop-drop}
+use lib.ListN.{length-append}
 use lib.IntN.{+ℤ_assoc, +ℤ_idl, +ℤ_idr}
 use Rattle.model.specs.Numbers.{number, table, twosComplement}
 use Rattle.model.specs.Case.{knownForm, unitsPerStep, s}
@@ -15,10 +17,10 @@ use Rattle.model.specs.Fields.{valueAll, rightAll}
 use Rattle.model.specs.Layout.{dailyRate, day}
 use Rattle.theory.proofs.acceptance.Form.{by_form}
 use Rattle.theory.proofs.acceptance.Runs.{right-at, values-last, values-table, values_length}
-use Rattle.theory.proofs.general.Lists.{and_first, and_second, getD-table, table_same}
-use Rattle.reader.specs.inner.Sums.{Bounded, ratesIn, added, sumsOf}
+use Rattle.theory.proofs.general.Lists.{getD-table, table_same}
+use Rattle.reader.specs.inner.Sums.{Bounded, added, sumsOf}
 use Rattle.reader.proofs.DayRates.{between-true}
-use Rattle.reader.proofs.Digits.{chunk-number, number-part}
+use Rattle.reader.proofs.Digits.{number-part}
 
 -- one day more at the end
 s-more : (ds : List (List ℤ)) (d : List ℤ) (t : ℕ) → s (ds ++ (d ∷ [])) (suc t) ≡ s ds (suc t) +ℤ get_or d t (pos 0)
@@ -60,15 +62,15 @@ module _ (w : ℕ) where
   unfolding s
   sum-bound [] h t l = record { least = omega (arith, ints); most = omega (arith, ints) }
   sum-bound (d ∷ ds) h t l =
-      let first = and_first ((day w).right d) (rightAll (day w) ds) h in
-      let long = eqb-true (length d) 60 (and_first (eqb (length d) 60) (rightAll (dailyRate w) d) first) in
-      let each = and_second (eqb (length d) 60) (rightAll (dailyRate w) d) first in
+      let first = first_so ((day w).right d) (rightAll (day w) ds) h in
+      let long = eqb-true (length d) 60 (first_so (eqb (length d) 60) (rightAll (dailyRate w) d) first) in
+      let each = second_so (eqb (length d) 60) (rightAll (dailyRate w) d) first in
       let rate = between-true (right-at (dailyRate w) d t (pos 0) (omega arith) each) in
-      let rest = sum-bound ds (and_second ((day w).right d) (rightAll (day w) ds) h) t l in
+      let rest = sum-bound ds (second_so ((day w).right d) (rightAll (day w) ds) h) t l in
       sum-between (get_or d t (pos 0)) (s ds (suc t)) (10000 * units) (10000 * (units * length ds)) (10000 * (units * length (d ∷ ds)))
       (wider (get_or d t (pos 0)) (1000 * units) (10000 * units) rate (omega arith)) rest (omega arith)
 
-  few-units : units ≤ 100
+  pub few-units : units ≤ 100
   few-units = go (eqb w 4)
     where
       go : (b : Bool) → cond b 100 1 ≤ 100
@@ -85,56 +87,81 @@ module _ (w : ℕ) where
             rw e (record { least = omega (arith, ints, b.least); most = omega (arith, ints, b.most) });
       }
 
-  -- the rates of a day
-  pub day-rates : knownForm w ≡ true → (chunks : List (List ℕ)) (rates : List ℕ) (d : ℕ) → chunks ≡ first_chunks w (length rates / w) rates
-      → 60 * d + 60 ≤ length chunks → ratesIn w (take 60 (drop (60 * d) chunks)) ≡ valueAll (dailyRate w) rates (0 + w * 60 * d) 60
-  day-rates known chunks rates d e l =
-      table_same _ _ 60
-      (λ t k.
-      ap (λ c. twosComplement w (number c 0 w)) (get_or-take 60 (drop (60 * d) chunks) t [] k ∙ get_or-drop (60 * d) chunks t [])
-      ∙ ap (twosComplement w)
-      (chunk-number w chunks rates (60 * d + t) [] e (by_form (λ v. 1 ≤ v) w known (omega arith) (omega arith)) (omega arith)
-      ∙ ap (λ i. number rates i w) (by_form (λ v. 0 + v * (60 * d + t) ≡ 0 + v * 60 * d + v * t) w known (omega arith) (omega arith))))
-      ∙ sym (values-table (dailyRate w) rates (0 + w * 60 * d) 60)
-
   -- a day is right where its rates are
   pub day-right : (rates : List ℕ) (at : ℕ) → (day w).right ((day w).value rates at) ≡ rightAll (dailyRate w) (valueAll (dailyRate w) rates at 60)
   day-right rates at =
       ap (λ b. b && rightAll (dailyRate w) (valueAll (dailyRate w) rates at 60))
       (eq-eqb (length (valueAll (dailyRate w) rates at 60)) 60 (values_length (dailyRate w) rates at 60))
 
--- the chunks of days
-pub chunks-many : (w n : ℕ) (rates : List ℕ) → knownForm w ≡ true → length rates ≡ w * 60 * n → length rates / w ≡ 60 * n
-chunks-many w n rates known h =
-    ap (λ m. m / w) (h ∙ mul_assoc w 60 n) ∙ mul-div_cancel_left (60 * n) (by_form (λ v. 1 ≤ v) w known (omega arith) (omega arith))
+-- the rates of a part of a file
+pub rates-part : (w : ℕ) (file : List ℕ) (start m at n : ℕ) → at + w * n ≤ m
+    → valueAll (dailyRate w) (take m (drop start file)) at n ≡ valueAll (dailyRate w) file (start + at) n
+rates-part w file start m at n l =
+    values-table (dailyRate w) (take m (drop start file)) at n
+    ∙ table_same _ _ n
+    (λ i k.
+    let inside : at + w * i + w ≤ m = omega (arith, mul-le-mul_left w k) in
+    let there : start + (at + w * i) ≡ start + at + w * i = omega arith in
+    ap (twosComplement w) (number-part file start m (at + w * i) w inside ∙ ap (λ j. number file j w) there))
+    ∙ sym (values-table (dailyRate w) file (start + at) n)
 
--- the part that one turn reads
-pub turn-part : (chunks : List (List ℕ)) (d : ℕ) → take (60 * d + 60 - 60 * d) (drop (60 * d) chunks) ≡ take 60 (drop (60 * d) chunks)
-turn-part chunks d = let e : 60 * d + 60 - 60 * d ≡ 60 = omega arith in ap (λ n. take n (drop (60 * d) chunks)) e
+-- so many whole days have so many bytes
+pub day-size : (w : ℕ) → knownForm w ≡ true → 0 < w * 60
+day-size w known = by_form (λ v. 0 < v * 60) w known (omega arith) (omega arith)
 
-pub turn-long : (chunks : List (List ℕ)) (d : ℕ) → 60 * d + 60 ≤ length chunks → length (take (60 * d + 60 - 60 * d) (drop (60 * d) chunks)) ≡ 60
-turn-long chunks d l = ap length (turn-part chunks d) ∙ length-take-le 60 (drop (60 * d) chunks) (rw length-drop (omega arith))
+pub whole-days : (w n : ℕ) (rates : List ℕ) → knownForm w ≡ true → length rates ≡ w * 60 * n → length rates / (w * 60) ≡ n
+whole-days w n rates known long = ap (λ bytes. bytes / (w * 60)) long ∙ mul-div_cancel_left n (day-size w known)
+
+-- a day that a turn reads, where the days before it have been read
+module _ (w : ℕ) (rates day rest : List ℕ) (d : ℕ) (is : drop (w * 60 * d) rates ≡ day ++ rest) (long : length day ≡ w * 60) where
+  pub turn-rates : valueAll (dailyRate w) day 0 60 ≡ valueAll (dailyRate w) rates (0 + w * 60 * d) 60
+  turn-rates =
+      let front : day ≡ take (w * 60) (drop (w * 60 * d) rates) = sym (take-append_seam day rest) ∙ ap₂ take long (sym is) in
+      let there : w * 60 * d + 0 ≡ 0 + w * 60 * d = omega arith in
+      ap (λ bytes. valueAll (dailyRate w) bytes 0 60) front
+      ∙ rates-part w rates (w * 60 * d) (w * 60) 0 60 (omega arith)
+      ∙ ap (λ i. valueAll (dailyRate w) rates i 60) there
+
+  pub turn-left : rest ≡ drop (w * 60 * (d + 1)) rates
+  turn-left =
+      let there : w * 60 * d + w * 60 ≡ w * 60 * (d + 1) = omega arith in
+      sym (drop-append_seam day rest)
+      ∙ ap₂ drop long (sym is)
+      ∙ drop-drop (w * 60) (w * 60 * d) rates
+      ∙ ap (λ i. drop i rates) there
+
+  pub turn-within : knownForm w ≡ true → d < length rates / (w * 60)
+  turn-within known =
+      let size : 0 < w * 60 = day-size w known in
+      let inside : length rates - w * 60 * d ≡ w * 60 + length rest = sym (length-drop (w * 60 * d) rates) ∙ ap length is ∙ length-append day rest ∙ ap (λ n. n + length rest) long in
+      omega (arith, le-div (d + 1) (length rates) (w * 60) size (omega (arith, size, inside)))
+
+-- no whole day is left
+pub all-days : (w : ℕ) (rates : List ℕ) (d : ℕ) → knownForm w ≡ true → d ≤ length rates / (w * 60) → length (drop (w * 60 * d) rates) < w * 60
+    → d ≡ length rates / (w * 60)
+all-days w rates d known few short =
+    let size : 0 < w * 60 = day-size w known in
+    let read = mul-le-mul_left (w * 60) few in
+    let inside = mul-div-le (length rates) (w * 60) in
+    sym (div-eq_of_lt-le (w * 60) (omega (arith, read, inside)) (omega (arith, short, length-drop (w * 60 * d) rates)))
 
 pub no-sums : sumsOf [] ≡ replicate 60 (pos 0)
 unfolding table s
 no-sums = refl
 
--- the days of a part of a file
-pub days-whole : (w : ℕ) → knownForm w ≡ true → (n : ℕ) (file : List ℕ) (at : ℕ) (part : List ℕ) → part ≡ take (w * 60 * n) (drop at file)
-    → valueAll (day w) part 0 n ≡ valueAll (day w) file at n
-days-whole w known n file at part e =
-    values-table (day w) part 0 n
+-- the days of a part of a file that has so many whole days
+pub days-whole : (w n : ℕ) (file : List ℕ) (at : ℕ) (part : List ℕ) → length part / (w * 60) ≡ n → part ≡ take (w * 60 * n) (drop at file)
+    → valueAll (day w) part 0 (length part / (w * 60)) ≡ valueAll (day w) file at n
+days-whole w n file at part long e =
+    ap (valueAll (day w) part 0) long
+    ∙ values-table (day w) part 0 n
     ∙ table_same _ _ n
     (λ d l.
-    values-table (dailyRate w) part (0 + w * 60 * d) 60
-    ∙ table_same _ _ 60
-    (λ t k.
-    let inside : w * 60 * d + w * t + w ≤ w * 60 * n = by_form (λ v. v * 60 * d + v * t + v ≤ v * 60 * n) w known (omega arith) (omega arith) in
-    let here : 0 + w * 60 * d + w * t ≡ w * 60 * d + w * t = omega arith in
-    let there : at + (w * 60 * d + w * t) ≡ at + w * 60 * d + w * t = omega arith in
-    ap (twosComplement w)
-    (ap₂ (λ xs i. number xs i w) e here ∙ number-part file at (w * 60 * n) (w * 60 * d + w * t) w inside ∙ ap (λ i. number file i w) there))
-    ∙ sym (values-table (dailyRate w) file (at + w * 60 * d) 60))
+    let inside : 0 + w * 60 * d + w * 60 ≤ w * 60 * n = omega (arith, mul-le-mul_left (w * 60) l) in
+    let there : at + (0 + w * 60 * d) ≡ at + w * 60 * d = omega arith in
+    ap (λ xs. valueAll (dailyRate w) xs (0 + w * 60 * d) 60) e
+    ∙ rates-part w file at (w * 60 * n) (0 + w * 60 * d) 60 inside
+    ∙ ap (λ i. valueAll (dailyRate w) file i 60) there)
     ∙ sym (values-table (day w) file at n)
 
 -- what is kept of days within the limits

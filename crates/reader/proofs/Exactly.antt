@@ -1,5 +1,5 @@
 -- What a reading tells of a file that keeps the layout and limits, and the empty part of one that is refused.
-use Rattle.std.proofs.Common.{◌≡◌, ◌∙◌, ℕ, zero, suc, ◌+◌, ◌<◌, List, [], get_or, ap, sym, refl, zero-add, Result, Ok, Err, arith}
+use Rattle.std.proofs.Common.{◌≡◌, ◌∙◌, ℕ, zero, suc, List, [], get_or, ap, sym, refl, zero-add, Result, Ok, Err, arith}
 use Rattle.std.specs.Borrow.{Bor}
 use mir.Syntax.{w8}
 use mir.Val.{Fits}

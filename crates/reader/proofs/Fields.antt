@@ -1,6 +1,5 @@
 -- The twelve numbers of the shocks.
 use Rattle.std.proofs.Common.{◌≡◌, ◌∙◌, ℕ, ◌+◌, List, get_or, ap, arith}
-use mathlib.Core.Path.{ap₂}
 use Rattle.model.specs.Numbers.{number}
 use Rattle.model.specs.Fields.{number_of, valueAll}
 use Rattle.model.specs.Layout.{shocks, shocksFrom}

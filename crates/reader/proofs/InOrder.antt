@@ -1,17 +1,20 @@
 -- A file is read in the order of its checks: what is left of them after each field, and where the cursor then is.
-use Rattle.std.proofs.Common.{◌≡◌, ◌∙◌, ℕ, ◌+◌, ◌*◌, Bool, true, false, not, cond, List, [], ◌∷◌, ◌++◌, length, get_or, append_assoc, ap, sym, refl, subst, leb, ℤ}
-use Rattle.std.specs.Borrow.{Bor}
+use Rattle.std.proofs.Common.{◌≡◌, ◌∙◌, ℕ, Bool, true, false, not, cond, List, [], ◌∷◌, ◌++◌, length, append_assoc, ap, sym, refl, subst, leb, ℤ}
+use Rattle.std.specs.Borrow.{Bor, MutBor}
+use Rattle.std.specs.Fn.{Once, FnOnceReturnsAtMut}
+use Rattle.std.specs.Prelude.{MatchOption, Option, Some, None, Result, Ok, Err}
 use mathlib.Core.Path.{ap₂}
-use lib.Dec.{T, eqb}
+use lib.Dec.{T}
 use Rattle.model.specs.Constants.{defaultUfr}
-use Rattle.model.specs.Case.{FileCase, perStep}
+use Rattle.model.specs.Case.{perStep}
 use Rattle.model.specs.Fields.{Check, number_of, Field, field, counted, optional, ◌then◌}
-use Rattle.model.specs.Layout.{days, flow, amounts, noAmounts, shocks, people, Present, stands, rateBytesIn, presentIn, fileMap, FirstParts, Parts, layout, caseFrom, fields_of, case_of}
+use Rattle.model.specs.Layout.{days, flow, amounts, noAmounts, shocks, people, stands, rateBytesIn, presentIn, fileMap, FirstParts, layout, caseFrom, fields_of, case_of}
 use Rattle.model.specs.declared.case.Amounts.{Amounts}
 use Rattle.model.specs.Refusals.{first_of, mapChecks, forwardsRight, checks, refusal, ufrEnd, daysAt}
 use Rattle.theory.proofs.acceptance.Checks.{numbered, after_none}
 use Rattle.refusal.specs.Numbered.{number_of as number_of_refusal}
-use Rattle.reader.specs.inner.Reading.{Moved}
+use Rattle.reader.specs.inner.Reading.{Moved, Reads}
+use Rattle.reader.specs.inner.Optional.{Answered, ReadIf}
 use Rattle.reader.specs.inner.Map.{mapField}
 use Rattle.refusal.specs.declared.Refusal.{Refusal}
 use Rattle.reader.specs.declared.cursor.Cursor.{Cursor}
@@ -44,77 +47,91 @@ module _ {A : Type 0} (f : Field A) {file : Bor (List ℕ)} {old : Cursor} {at :
   pub value-there : f.value old.file.now old.at ≡ f.value file.now at
   value-there = ap₂ (λ b i. f.value b.now i) a.same a.there
 
-pub numbered-if : (b : Bool) (cs : List Check) → T (numbered cs) → T (numbered (cond b cs []))
-numbered-if true cs t = t
-numbered-if false cs t = tt
+-- ---- a field that a file need not have
 
--- ---- the fields, by the bits that the map has
+-- a field that a file need not have is read, by a function that was handed over and reads it, or is not there
+pub record ReadsIf {A B : Type 0} (f : Field A) (Q : Cursor → B → A → Type 0) (there : Bool) (old new : Cursor) (r : Result (Option B) Refusal) : Type 0 where
+  pub is : ReadIf there (λ r left. Reads f (Q old) old left r) old new r
 
-abbrev pub ufrOf : Bool → Field ℕ
-ufrOf u = optional u defaultUfr (field 9 (number_of 2 0 5000))
+pub handed : {A B F : Type 0} {f : Field A} {Q : Cursor → B → A → Type 0} {g : Once F (MutBor Cursor × Unit {0}) (Result B Refusal × (MutBor Cursor × Unit {0}))} {fn : F}
+    {there : Bool} {old new : Cursor} {r : Result (Option B) Refusal}
+    → ((r : Result B Refusal) (shown left : MutBor Cursor) → g.post fn (shown, tt) (r, (left, tt)) → Reads f (Q shown.now) shown.now left.now r)
+    → ReadIf there (FnOnceReturnsAtMut g fn old) old new r → ReadsIf f Q there old new r
+handed {B = B} {f = f} {Q = Q} {g = g} {fn = fn} {old = old} {new = new} says h = record { is = record { read = λ t. go _ (h.read t); absent = h.absent } }
+  where
+    one : (r : Result B Refusal) → FnOnceReturnsAtMut g fn old r new → Reads f (Q old) old new r
+    one r k = subst (λ c. Reads f (Q c) c new r) k.shows (subst (λ c. Reads f (Q k.shown.now) k.shown.now c r) k.leaves (says r k.shown k.left k.met))
 
-abbrev pub shortOf : Bool → Field (List (List ℤ))
-shortOf s = optional s [] (days 2)
+    go : (r : Result (Option B) Refusal) → Answered (FnOnceReturnsAtMut g fn old) new r → Answered (λ r left. Reads f (Q old) old left r) new r
+    go (Ok (Some v)) k = one (Ok v) k
+    go (Ok None) k = k
+    go (Err e) k = one (Err e) k
 
-abbrev pub pensionOf : Field (List ℕ)
-pensionOf = counted 120 7 8 flow
+module _ {A B : Type 0} {f : Field A} {Q : Cursor → B → A → Type 0} (x : A) {file : Bor (List ℕ)} {old new : Cursor} {at : ℕ} {b : Bool} (rest : List Check) where
+  pub halt-if : (t : Bool) (r : Refusal) → b ≡ t → At file old at ((optional t x f).checks file.now at ++ rest) → ReadsIf f Q b old new (Err r)
+      → number_of_refusal r ≡ refusal file.now
+  halt-if true r e a h = halt f rest a r (h.is.read e)
+  halt-if false r e a h = let none = (h.is.absent e).0 in let never : ⊥ = cc in absurd never
 
-abbrev pub bondsOf : Bool → Field (List ℕ)
-bondsOf b = optional b [] (counted 60 7 8 flow)
+  -- the value, where the field is there
+  pub step-if : (t : Bool) (v : Option B) → T (numbered (f.checks file.now at)) → b ≡ t → At file old at ((optional t x f).checks file.now at ++ rest)
+      → ReadsIf f Q b old new (Ok v)
+      → At file new ((optional t x f).end file.now at) rest × MatchOption v (t ≡ false) (λ w. (t ≡ true) × Q old w (f.value file.now at))
+  step-if true (Some v) n e a h = let k = h.is.read e in (step f rest a n k.0 k.1.1, (refl, subst (Q old v) (value-there f rest a) k.1.0))
+  step-if true None n e a h = absurd (h.is.read e)
+  step-if false (Some v) n e a h = let none = (h.is.absent e).0 in let never : ⊥ = cc in absurd never
+  step-if false None n e a h = (subst (λ c. At file c at rest) (sym (h.is.absent e).1) a, refl)
 
-abbrev pub amountsOf : Bool → Field Amounts
-amountsOf a = optional a noAmounts (field 10 amounts)
-
-abbrev pub longOf : Bool → Field (List (List ℤ))
-longOf s = optional (not s) [] (days 4)
-
-abbrev pub firstOf : Bool → Bool → Bool → Bool → Field FirstParts
-firstOf u s b a =
-    ufrOf u then shortOf s then pensionOf then bondsOf b then amountsOf a then field 11 shocks then field 12 people
-
-abbrev pub layoutOf : Bool → Bool → Bool → Bool → Field Parts
-layoutOf u s b a = firstOf u s b a then longOf s
-
-layout-by : (t : Bool) (p : Present) → layout (cond t 4 2) p ≡ layoutOf p.ufr (not t) p.bonds p.amounts
-layout-by true p = refl
-layout-by false p = refl
-
-bytes-by : (t : Bool) → ◌≡◌ {A = ℕ} (cond t 4 2) (cond (not t) 2 4)
-bytes-by true = refl
-bytes-by false = refl
+-- ---- the fields, by the bits that the map of the file has
 
 flat : (m a b c d e f g h last : List Check)
     → (m ++ ((a ++ (b ++ (c ++ (d ++ (e ++ (f ++ g)))))) ++ h)) ++ last ≡ m ++ (a ++ (b ++ (c ++ (d ++ (e ++ (f ++ (g ++ (h ++ last))))))))
 flat m a b c d e f g h last = simp append_assoc
 
-module _ (file : List ℕ) (u s b a : Bool) (eu : u ≡ stands 0 (fileMap file)) (es : s ≡ not (stands 7 (fileMap file)))
-    (eb : b ≡ stands 3 (fileMap file)) (ea : a ≡ stands 4 (fileMap file)) where
-  fields-are : fields_of file ≡ layoutOf u s b a
-  fields-are = layout-by (stands 7 (fileMap file)) (presentIn (fileMap file)) ∙ (λ i. layoutOf (sym eu i) (sym es i) (sym eb i) (sym ea i))
+abbrev pub pensionOf : Field (List ℕ)
+pensionOf = counted 120 7 8 flow
 
-  pub case-is : case_of file ≡ caseFrom (cond s 2 4) ((layoutOf u s b a).value file 2)
-  unfolding case_of
-  case-is =
-      ap₂ caseFrom (bytes-by (stands 7 (fileMap file)) ∙ ap (λ t. cond t 2 4) (sym es)) (ap (λ f. f.value file 2) fields-are)
+module _ (file : List ℕ) where
+  abbrev pub ufrOf : Field ℕ
+  ufrOf = optional (stands 0 (fileMap file)) defaultUfr (field 9 (number_of 2 0 5000))
 
-  abbrev pub lastChecks : List Check
-  lastChecks = (leb (length file) ((layoutOf u s b a).end file 2), 2) ∷ (forwardsRight (perStep (case_of file)) (case_of file).days, 6) ∷ []
+  abbrev pub shortOf : Field (List (List ℤ))
+  shortOf = optional (not (stands 7 (fileMap file))) [] (days 2)
+
+  abbrev pub bondsOf : Field (List ℕ)
+  bondsOf = optional (stands 3 (fileMap file)) [] (counted 60 7 8 flow)
+
+  abbrev pub amountsOf : Field Amounts
+  amountsOf = optional (stands 4 (fileMap file)) noAmounts (field 10 amounts)
+
+  abbrev pub longOf : Field (List (List ℤ))
+  longOf = optional (stands 7 (fileMap file)) [] (days 4)
+
+  abbrev pub firstBy : Bool → Field FirstParts
+  firstBy t = ufrOf then optional (not t) [] (days 2) then pensionOf then bondsOf then amountsOf then field 11 shocks then field 12 people
+
+  fields-are : fields_of file ≡ (firstBy (stands 7 (fileMap file)) then longOf)
+  fields-are = go (stands 7 (fileMap file))
+    where
+      go : (t : Bool) → layout (cond t 4 2) (presentIn (fileMap file)) ≡ (firstBy t then optional t [] (days 4))
+      go true = refl
+      go false = refl
 
   -- where each field starts
   abbrev pub at-short : ℕ
-  at-short = (ufrOf u).end file 2
+  at-short = ufrOf.end file 2
 
   abbrev pub at-pension : ℕ
-  at-pension = (shortOf s).end file at-short
+  at-pension = shortOf.end file at-short
 
   abbrev pub at-bonds : ℕ
   at-bonds = pensionOf.end file at-pension
 
   abbrev pub at-amounts : ℕ
-  at-amounts = (bondsOf b).end file at-bonds
+  at-amounts = bondsOf.end file at-bonds
 
   abbrev pub at-shocks : ℕ
-  at-shocks = (amountsOf a).end file at-amounts
+  at-shocks = amountsOf.end file at-amounts
 
   abbrev pub at-people : ℕ
   at-people = (field 11 shocks).end file at-shocks
@@ -122,9 +139,15 @@ module _ (file : List ℕ) (u s b a : Bool) (eu : u ≡ stands 0 (fileMap file))
   abbrev pub at-long : ℕ
   at-long = (field 12 people).end file at-people
 
+  abbrev pub at-end : ℕ
+  at-end = longOf.end file at-long
+
   -- what is left before each field
+  abbrev pub from-end : List Check
+  from-end = (leb (length file) at-end, 2) ∷ (forwardsRight (perStep (case_of file)) (case_of file).days, 6) ∷ []
+
   abbrev pub from-long : List Check
-  from-long = (longOf s).checks file at-long ++ lastChecks
+  from-long = longOf.checks file at-long ++ from-end
 
   abbrev pub from-people : List Check
   from-people = (field 12 people).checks file at-people ++ from-long
@@ -133,43 +156,38 @@ module _ (file : List ℕ) (u s b a : Bool) (eu : u ≡ stands 0 (fileMap file))
   from-shocks = (field 11 shocks).checks file at-shocks ++ from-people
 
   abbrev pub from-amounts : List Check
-  from-amounts = (amountsOf a).checks file at-amounts ++ from-shocks
+  from-amounts = amountsOf.checks file at-amounts ++ from-shocks
 
   abbrev pub from-bonds : List Check
-  from-bonds = (bondsOf b).checks file at-bonds ++ from-amounts
+  from-bonds = bondsOf.checks file at-bonds ++ from-amounts
 
   abbrev pub from-pension : List Check
   from-pension = pensionOf.checks file at-pension ++ from-bonds
 
   abbrev pub from-short : List Check
-  from-short = (shortOf s).checks file at-short ++ from-pension
+  from-short = shortOf.checks file at-short ++ from-pension
 
   abbrev pub from-ufr : List Check
-  from-ufr = (ufrOf u).checks file 2 ++ from-short
+  from-ufr = ufrOf.checks file 2 ++ from-short
 
   pub refusal-is : refusal file ≡ first_of (mapField.checks file 0 ++ from-ufr)
   unfolding refusal checks fileMap
   refusal-is =
       ap (λ f. first_of ((mapChecks file ++ f.checks file 2) ++ ((leb (length file) (f.end file 2), 2) ∷ (forwardsRight (perStep (case_of file)) (case_of file).days, 6) ∷ []))) fields-are
       ∙ ap first_of
-      (flat (mapChecks file) ((ufrOf u).checks file 2) ((shortOf s).checks file at-short) (pensionOf.checks file at-pension) ((bondsOf b).checks file at-bonds)
-      ((amountsOf a).checks file at-amounts) ((field 11 shocks).checks file at-shocks) ((field 12 people).checks file at-people)
-      ((longOf s).checks file at-long) lastChecks)
+      (flat (mapChecks file) (ufrOf.checks file 2) (shortOf.checks file at-short) (pensionOf.checks file at-pension) (bondsOf.checks file at-bonds)
+      (amountsOf.checks file at-amounts) ((field 11 shocks).checks file at-shocks) ((field 12 people).checks file at-people)
+      (longOf.checks file at-long) from-end)
+
+  pub case-is : case_of file ≡ caseFrom (rateBytesIn (fileMap file)) ((firstBy (stands 7 (fileMap file)) then longOf).value file 2)
+  unfolding case_of
+  case-is = ap (λ f. caseFrom (rateBytesIn (fileMap file)) (f.value file 2)) fields-are
 
   -- the count of the days
-  pub days-at : daysAt file ≡ cond s at-short at-long
+  pub days-at : daysAt file ≡ cond (stands 7 (fileMap file)) at-long at-short
   unfolding daysAt ufrEnd
-  days-at = go (stands 7 (fileMap file)) es
+  days-at = go (stands 7 (fileMap file))
     where
-      p : Present
-      p = presentIn (fileMap file)
-
-      there : (t : Bool) → firstOf p.ufr (not true) p.bonds p.amounts ≡ firstOf u (not true) b a
-      there t = λ i. firstOf (sym eu i) (not true) (sym eb i) (sym ea i)
-
-      go : (t : Bool) → s ≡ not t → cond t ((firstOf p.ufr (not true) p.bonds p.amounts).end file 2) (cond p.ufr 4 2) ≡ cond s at-short at-long
-      go true e = ap (λ f. f.end file 2) (there true) ∙ (λ i. cond (sym e i) at-short ((firstOf u (sym e i) b a).end file 2))
-      go false e = ap (λ t. cond t 4 2) (sym eu) ∙ (λ i. cond (sym e i) at-short at-long)
-
-  pub bytes-are : cond s 2 4 ≡ rateBytesIn (fileMap file)
-  bytes-are = ap (λ t. cond t 2 4) es ∙ sym (bytes-by (stands 7 (fileMap file)))
+      go : (t : Bool) → cond t ((firstBy true).end file 2) (cond (stands 0 (fileMap file)) 4 2) ≡ cond t ((firstBy t).end file 2) at-short
+      go true = refl
+      go false = refl

@@ -9,4 +9,5 @@ pub mod Forwards
 pub mod InOrder
 pub mod Runs
 pub mod Steps
+pub mod Until
 pub mod Whole

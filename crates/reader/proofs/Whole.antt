@@ -1,36 +1,29 @@
 -- The whole file: the days that it has, the end, the limits of 6, and the case.
-use Rattle.std.proofs.Common.{◌≡◌, ◌∙◌, ℕ, zero, suc, ◌+◌, ◌-◌, ◌*◌, Bool, true, false, not, cond, List, [], ◌∷◌, ◌++◌, length, get_or, take, drop, leb, ap, sym, refl, subst, Option, Some, None, Result, Ok, Err, arith, ◌<◌, ℤ, pos, neg_ℤ, ◌+ℤ◌, ◌-ℤ◌, ◌*ℤ◌}
+use Rattle.std.proofs.Common.{◌≡◌, ◌∙◌, ℕ, zero, suc, ◌+◌, ◌-◌, ◌*◌, Bool, true, false, not, cond, List, [], ◌∷◌, ◌++◌, length, get_or, take, drop, leb, ap, refl, subst, Option, Some, None, Result, Ok, Err, arith, ◌<◌, ℤ, pos, neg_ℤ, ◌+ℤ◌, ◌-ℤ◌, ◌*ℤ◌}
 use Rattle.std.specs.Prelude.{MatchOption, IsErr, IsErrAnd}
 use Rattle.std.specs.Borrow.{Bor}
 use mathlib.Core.Path.{ap₂}
-use lib.Dec.{T, eqb}
+use lib.Dec.{eqb}
 use Rattle.model.specs.Constants.{stepsPerOne}
-use Rattle.model.specs.Numbers.{number, every, table}
-use Rattle.model.specs.Case.{FileCase, unitsPerStep, perStep, s}
-use Rattle.model.specs.Limits.{forward}
-use Rattle.model.specs.Fields.{Check, Field, withinZ}
+use Rattle.model.specs.Numbers.{every, table}
+use Rattle.model.specs.Case.{FileCase, perStep, s}
+use Rattle.model.specs.Fields.{Check, Field, optional, withinZ}
 use Rattle.model.specs.Layout.{day, days, fileMap, rateBytesIn}
-use Rattle.model.specs.Refusals.{first_of, forwardsRight, refusal, ratesPart, daysAt, dayCount}
+use Rattle.model.specs.Refusals.{forwardsRight, refusal, ratesPart, daysAt, dayCount}
 use Rattle.method.specs.Curve.{base, curve, natural, P}
 use Rattle.theory.proofs.acceptance.Runs.{values_length}
 use Rattle.theory.proofs.curve.CaseCurves.{base_sum}
 use Rattle.theory.proofs.general.Lists.{every-same, getD-table, table_same}
 use Rattle.refusal.specs.Numbered.{number_of}
-use Rattle.reader.specs.Answers.{RatesPart, ratesFrom, behind, Read}
+use Rattle.reader.specs.Answers.{RatesPart, Read}
 use Rattle.reader.specs.declared.file.Reading.{Reading}
-use Rattle.reader.specs.inner.Checks.{Checked}
-use Rattle.reader.specs.inner.Reading.{Moved, IsPart}
+use Rattle.reader.specs.inner.Reading.{Moved, IsPart, Reads}
 use Rattle.reader.specs.inner.IsDays.{IsDays}
-use Rattle.reader.specs.inner.Sums.{Sums, sumsOf, sumAt, forwardRight, raised}
+use Rattle.reader.specs.inner.Sums.{Sums, sumAt, forwardRight, raised}
 use Rattle.refusal.specs.declared.Refusal.{Refusal}
 use Rattle.reader.specs.declared.cursor.Cursor.{Cursor}
 use Rattle.reader.specs.declared.days.Days.{Days}
-use Rattle.reader.proofs.InOrder.{At, halt, step, value-there, shortOf, longOf}
-
--- the map that the code has read
-pub map-is : (file : Bor (List ℕ)) (cursor : Cursor) (m : ℕ) → cursor.file ≡ file → cursor.at ≡ 0 → m ≡ number cursor.file.now cursor.at 2 → m ≡ fileMap file.now
-unfolding fileMap
-map-is file cursor m e z h = h ∙ ap₂ (λ b i. number b.now i 2) e z
+use Rattle.reader.proofs.InOrder.{At, halt, step, value-there}
 
 -- ---- the days, of two bytes or else of four
 
@@ -46,29 +39,31 @@ days-there {w = w} {v = v} {ds = ds} a h = record {
   };
 }
 
--- the days that a file has, where the two fields start at i and j
+-- the days of a file with four-byte days, or without, where the two fields start at i and j
 abbrev pub daysIn : Bool → List ℕ → ℕ → ℕ → List (List ℤ)
-daysIn s file i j = cond (eqb (cond s 2 4) 4) ((longOf s).value file j) ((shortOf s).value file i)
+daysIn t file i j = cond (eqb (cond t 4 2) 4) ((optional t [] (days 4)).value file j) ((optional (not t) [] (days 2)).value file i)
 
-pub record Told (s : Bool) (file : Bor (List ℕ)) (i j : ℕ) (v : Days) : Type 0 where
-  pub days : IsDays (cond s 2 4) file (cond s i j) v (daysIn s file.now i j)
-  pub count : length (daysIn s file.now i j) ≡ get_or file.now (cond s i j) 0
+pub record Told (t : Bool) (file : Bor (List ℕ)) (i j : ℕ) (v : Days) : Type 0 where
+  pub days : IsDays (cond t 4 2) file (cond t j i) v (daysIn t file.now i j)
+  pub count : length (daysIn t file.now i j) ≡ get_or file.now (cond t j i) 0
 
-pub short-told : (s : Bool) (short : Option Days) {file : Bor (List ℕ)} {old : Cursor} {i : ℕ} {rest : List Check} {ds : List (List ℤ)} → At file old i rest
-    → ds ≡ (shortOf s).value file.now i → MatchOption short (s ≡ false) (λ d. (s ≡ true) × IsDays 2 old.file old.at d ds)
-    → MatchOption short (s ≡ false) (λ d. (s ≡ true) × IsDays 2 file i d ((shortOf s).value file.now i))
-short-told s None a e h = h
-short-told s (Some d) {file = file} {i = i} a e h = (h.0, subst (IsDays 2 file i d) e (days-there a h.1))
+-- the two-byte days that have been read, where a file has these
+abbrev pub Short : Bool → Bor (List ℕ) → ℕ → Option Days → Type 0
+Short t file i short = MatchOption short (not t ≡ false) (λ d. (not t ≡ true) × IsDays 2 file i d ((days 2).value file.now i))
 
-pub long-told : (s : Bool) (short : Option Days) {file : Bor (List ℕ)} {old new : Cursor} {v : Days} {i j : ℕ} (rest : List Check)
-    → At file old j ((longOf s).checks file.now j ++ rest)
-    → MatchOption short (s ≡ false) (λ d. (s ≡ true) × IsDays 2 file i d ((shortOf s).value file.now i))
-    → MatchOption short
-    (Checked ((days 4).checks old.file.now old.at)
-    (λ v. IsDays 4 old.file old.at v ((days 4).value old.file.now old.at) × Moved old new ((days 4).end old.file.now old.at)) (Ok v))
-    (λ d. (◌≡◌ {A = Result Days Refusal} (Ok v) (Ok d)) × Moved old new old.at)
-    → At file new ((longOf s).end file.now j) rest × Told s file i j v
-long-told true (Some d) {file} {v = v} {i = i} rest a h m =
+pub short-told : (t : Bool) (short : Option Days) {file : Bor (List ℕ)} {old : Cursor} {i : ℕ} {rest : List Check} → At file old i rest
+    → MatchOption short (not t ≡ false) (λ d. (not t ≡ true) × IsDays 2 old.file old.at d ((days 2).value file.now i)) → Short t file i short
+short-told t None a h = h
+short-told t (Some d) a h = (h.0, days-there a h.1)
+
+-- what reads the days answers
+abbrev pub Answer : Option Days → Cursor → Cursor → Result Days Refusal → Type 0
+Answer short old new r = MatchOption short (Reads (days 4) (IsDays 4 old.file old.at) old new r) (λ d. (r ≡ Ok d) × Moved old new old.at)
+
+pub long-told : (t : Bool) (short : Option Days) {file : Bor (List ℕ)} {old : Cursor} (new : Cursor) (v : Days) (i : ℕ) {j : ℕ} (rest : List Check)
+    → At file old j ((optional t [] (days 4)).checks file.now j ++ rest) → Short t file i short → Answer short old new (Ok v)
+    → At file new ((optional t [] (days 4)).end file.now j) rest × Told t file i j v
+long-told false (Some d) {file} new v i rest a h m =
     let e : d ≡ v = cc in (
       record { same = m.1.same ∙ a.same; there = m.1.behind ∙ a.there; left = a.left },
       record {
@@ -76,9 +71,9 @@ long-told true (Some d) {file} {v = v} {i = i} rest a h m =
         count = values_length (day 2) file.now (i + 1) (get_or file.now i 0);
       },
     )
-long-told true None rest a h m = let never : ⊥ = cc in absurd never
-long-told false (Some d) rest a h m = let never : ⊥ = cc in absurd never
-long-told false None {file} {v = v} {j = j} rest a h m = (
+long-told false None new v i rest a h m = let never : ⊥ = cc in absurd never
+long-told true (Some d) new v i rest a h m = let never : ⊥ = cc in absurd never
+long-told true None {file} new v i {j} rest a h m = (
   step (days 4) rest a tt m.0 m.1.1,
   record {
     days = subst (IsDays 4 file j v) (value-there (days 4) rest a) (days-there a m.1.0);
@@ -86,17 +81,12 @@ long-told false None {file} {v = v} {j = j} rest a h m = (
   },
 )
 
-pub long-halt : (s : Bool) (short : Option Days) {file : Bor (List ℕ)} {old : Cursor} (new : Cursor) (i : ℕ) {j : ℕ} (rest : List Check) (e : Refusal)
-    → At file old j ((longOf s).checks file.now j ++ rest)
-    → MatchOption short (s ≡ false) (λ d. (s ≡ true) × IsDays 2 file i d ((shortOf s).value file.now i))
-    → MatchOption short
-    (Checked ((days 4).checks old.file.now old.at)
-    (λ v. IsDays 4 old.file old.at v ((days 4).value old.file.now old.at) × Moved old new ((days 4).end old.file.now old.at)) (Err e))
-    (λ d. (◌≡◌ {A = Result Days Refusal} (Err e) (Ok d)) × Moved old new old.at)
+pub long-halt : (t : Bool) (short : Option Days) {file : Bor (List ℕ)} {old : Cursor} (new : Cursor) (i : ℕ) {j : ℕ} (rest : List Check) (e : Refusal)
+    → At file old j ((optional t [] (days 4)).checks file.now j ++ rest) → Short t file i short → Answer short old new (Err e)
     → number_of e ≡ refusal file.now
-long-halt s (Some d) new i rest e a h m = let never : ⊥ = cc in absurd never
-long-halt true None new i rest e a h m = let never : ⊥ = cc in absurd never
-long-halt false None new i rest e a h m = halt (days 4) rest a e m
+long-halt t (Some d) new i rest e a h m = let never : ⊥ = cc in absurd never
+long-halt false None new i rest e a h m = let never : ⊥ = cc in absurd never
+long-halt true None new i rest e a h m = halt (days 4) rest a e m
 
 -- ---- the end of the file
 

@@ -4,3 +4,4 @@ pub mod Reading
 pub mod Sums
 pub mod IsDays
 pub mod Map
+pub mod Optional

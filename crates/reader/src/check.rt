@@ -1,15 +1,16 @@
 // One check of a file.
 #![tactic(auto, unfolding(model::specs::Refusals::first_of))]
 
-ghost use Rattle.std.specs.Prelude.{◌≡◌, [], ◌∷◌};
-ghost use Rattle.refusal.specs.Numbered.{number_of};
+ghost use Rattle.std.specs.Prelude.{◌≡◌, [], ◌∷◌, if◌then◌else◌, None, Some};
+ghost use Rattle.refusal.specs.Numbered.{number_of, refusal_in};
 ghost use Rattle.reader.specs.inner.Checks.{Checked};
 
 use refusal::Refusal;
 
 // One check: its refusal where it fails.
 pub fn check(holds: bool, refusal: Refusal) -> Result<(), Refusal>
-    ensures { Checked ((holds, number_of refusal) ∷ []) (λ _. Unit {0}) result }
+    ensures checked { Checked ((holds, number_of refusal) ∷ []) (λ _. Unit {0}) result }
+    ensures refused { refusal_in result ≡ (if holds then None else Some (number_of refusal)) }
 {
     if holds { Ok(()) } else { Err(refusal) }
 }

@@ -4,7 +4,6 @@
 ghost use Rattle.std.specs.Prelude.{◌≡◌, [], ◌∷◌, ◌+◌, ◌*◌, ◌^◌, ◌<◌, ◌≤◌, leb, get_or, length};
 
 use crate::check::check;
-use crate::limits::between;
 use crate::numbers::{big_endian, big_endian_all};
 use refusal::Refusal;
 
@@ -74,7 +73,7 @@ impl<'a> Cursor<'a> {
             × Moved self.old self.new (self.old.at + 1 + size * count)) result }
     {
         let count = self.number::<1>()? as usize;
-        check(between(1, most, count), refusal)?;
+        check((1..=most).contains(&count), refusal)?;
         Ok((count, self.take(size * count)?))
     }
 

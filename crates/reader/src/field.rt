@@ -2,6 +2,8 @@
 #![tactic(auto, using(crate::proofs::Steps::some_number), unfolding(model::specs::Refusals::first_of))]
 
 ghost use Rattle.std.specs.Prelude.{◌≡◌, ◌<◌, ◌≤◌, ◌*◌, ◌/◌, [], ◌∷◌, true, false, length, MatchOption, Ok};
+ghost use Rattle.reader.specs.inner.Optional.{ReadIf};
+ghost use Rattle.std.specs.Fn.{FnOnceReturnsAtMut};
 ghost use Rattle.model.specs.Constants.{defaultUfr};
 ghost use Rattle.model.specs.Fields.{field, number_of, counted, optional, valueAll, rightAll};
 ghost use Rattle.model.specs.Layout.{flow, days, amounts, noAmounts, shocks, people, stands};
@@ -10,20 +12,19 @@ ghost use Rattle.reader.specs.inner.Checks.{Checked};
 ghost use Rattle.reader.specs.inner.Reading.{Moved, Reads, Itself};
 ghost use Rattle.reader.specs.inner.IsDays.{IsDays};
 ghost use Rattle.reader.specs.inner.Map.{mapField};
-ghost use Rattle.model.specs.Case.{knownForm};
 
 use crate::check::check;
 use crate::cursor::Cursor;
-use crate::days::{Days, sum_days};
+use crate::days::{DaySums, Days, sum_days};
 use crate::limits::{amounts_within, people_within, shocks_within};
 use crate::numbers::big_endian;
-use crate::rates::units_per_step;
 use heldcase::Case;
 use heldcase::flows::Flows;
 use model::case::{Amounts, People, Shocks};
+use rates::{FourBytes, RateForm, TwoBytes};
 use refusal::Refusal;
 
-// Which fields a file has.
+// Which fields a file has, as it says. The map of a case that is saved is made, and is a field of its own there.
 #[derive(Clone, Copy)]
 pub struct Map {
     pub bits: u16,
@@ -168,70 +169,41 @@ pub fn read_people(cursor: &mut Cursor) -> Result<People, Refusal>
     Ok(people)
 }
 
-// The days field whose rates have `W` bytes.
-pub fn read_days<'a, const W: usize>(cursor: &mut Cursor<'a>) -> Result<Days<'a>, Refusal>
-    requires { knownForm W ≡ true }
-    ensures { Reads (days W) (IsDays W cursor.old.file cursor.old.at) cursor.old cursor.new result }
+// The days field of one form of rates.
+pub fn read_days<'a, F: RateForm>(cursor: &mut Cursor<'a>) -> Result<Days<'a>, Refusal>
+    ensures { Reads (days F.WIDTH) (IsDays F.WIDTH cursor.old.file cursor.old.at) cursor.old cursor.new result }
 {
     let count_at = cursor.at;
-    let (count, rates) = cursor.counted(70, W * 60, Refusal::DayCount)?;
-    let sums = sum_days::<W>(rates, count)?;
+    let (count, rates) = cursor.counted(70, F::WIDTH * 60, Refusal::DayCount)?;
+    let summed = DaySums {
+        per_step: F::UNITS_PER_STEP * count as u64,
+        sums: sum_days::<F>(rates)?,
+    };
     Ok(Days {
-        per_step: units_per_step::<W>() * count as u64,
-        sums,
+        summed,
         rates,
         rates_at: count_at + 1,
     })
 }
 
-// The UFR, or its default in a file without that field.
-pub fn read_ufr_if(cursor: &mut Cursor, there: bool) -> Result<u64, Refusal>
-    ensures { Reads (optional there defaultUfr (field 9 (number_of 2 0 5000))) Itself cursor.old cursor.new result }
-{
-    if there {
-        read_ufr(cursor)
-    } else {
-        Ok(Case::DEFAULT_UFR)
-    }
-}
-
-// The bond flows; none in a file without that field.
-pub fn read_bonds_if(cursor: &mut Cursor, there: bool) -> Result<Flows<60>, Refusal>
-    ensures { Reads (optional there [] (counted 60 7 8 flow)) Itself cursor.old cursor.new result }
-{
-    if there {
-        read_flows(cursor)
-    } else {
-        Ok(Flows::default())
-    }
-}
-
-// The amounts; all zero in a file without that field.
-pub fn read_amounts_if(cursor: &mut Cursor, there: bool) -> Result<Amounts, Refusal>
-    ensures { Reads (optional there noAmounts (field 10 amounts)) Itself cursor.old cursor.new result }
-{
-    if there {
-        read_amounts(cursor)
-    } else {
-        Ok(Amounts::default())
-    }
-}
-
-// The days whose rates have two bytes, in a file that has these.
-pub fn read_short_days<'a>(
+// A field that a file need not have, read by its own reader where it is there.
+pub fn read_if<'a, T, F: FnOnce(&mut Cursor<'a>) -> Result<T, Refusal> + Drop>(
     cursor: &mut Cursor<'a>,
     there: bool,
-) -> Result<Option<Days<'a>>, Refusal>
-    ensures { Reads (optional there [] (days 2)) (λ v ds. MatchOption v (there ≡ false) (λ d. (there ≡ true) × IsDays 2 cursor.old.file cursor.old.at d ds)) cursor.old cursor.new result }
+    read: F,
+) -> Result<Option<T>, Refusal>
+    requires { F.IsAlwaysCallable read }
+    ensures { ReadIf there (FnOnceReturnsAtMut F.FnOnce read cursor.old) cursor.old cursor.new result }
 {
     if there {
-        Ok(Some(read_days::<2>(cursor)?))
+        Ok(Some(read(cursor)?))
     } else {
         Ok(None)
     }
 }
 
-// The days: those of two bytes, or else those of four.
+// The days: those of two bytes, or else those of four. A function of its own: its clause tells at once what either arm has read, which a
+// caller would not know behind its own `match`.
 pub fn read_long_days<'a>(
     cursor: &mut Cursor<'a>,
     short: Option<Days<'a>>,
@@ -241,6 +213,6 @@ pub fn read_long_days<'a>(
 {
     match short {
         Some(days) => Ok(days),
-        None => read_days::<4>(cursor),
+        None => read_days::<FourBytes>(cursor),
     }
 }

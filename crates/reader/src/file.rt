@@ -5,10 +5,11 @@ ghost use Rattle.reader.specs.Answers.{Read, ReadExactly, RatesPart};
 
 use crate::cursor::Cursor;
 use crate::field::{
-    read_amounts_if, read_bonds_if, read_flows, read_long_days, read_map, read_people, read_shocks,
-    read_short_days, read_ufr_if,
+    read_amounts, read_days, read_flows, read_if, read_long_days, read_map, read_people,
+    read_shocks, read_ufr,
 };
 use heldcase::Case;
+use rates::TwoBytes;
 use refusal::Refusal;
 
 // The case of an accepted file, the caller's own bytes that hold its rates, and where in the file these stand.
@@ -26,24 +27,23 @@ impl<'a> Reading<'a> {
     {
         let mut cursor = Cursor::new(file);
         let map = read_map(&mut cursor)?;
-        let ufr = read_ufr_if(&mut cursor, map.stands(0))?;
-        let short = read_short_days(&mut cursor, !map.stands(7))?;
+        let ufr = read_if(&mut cursor, map.stands(0), read_ufr)?;
+        let short = read_if(&mut cursor, !map.stands(7), read_days::<TwoBytes>)?;
         let pension = read_flows::<120>(&mut cursor)?;
-        let bonds = read_bonds_if(&mut cursor, map.stands(3))?;
-        let amounts = read_amounts_if(&mut cursor, map.stands(4))?;
+        let bonds = read_if(&mut cursor, map.stands(3), read_flows::<60>)?;
+        let amounts = read_if(&mut cursor, map.stands(4), read_amounts)?;
         let shocks = read_shocks(&mut cursor)?;
         let people = read_people(&mut cursor)?;
         let days = read_long_days(&mut cursor, short)?;
         cursor.finish()?;
-        days.forwards_within()?;
-        let sums = days.raised();
+        days.summed.forwards_within()?;
         let case = Case {
-            ufr,
-            per_step: days.per_step,
-            sums,
+            ufr: ufr.unwrap_or(Case::DEFAULT_UFR),
+            per_step: days.summed.per_step,
+            sums: days.summed.raised(),
             pension,
-            bonds,
-            amounts,
+            bonds: bonds.unwrap_or_default(),
+            amounts: amounts.unwrap_or_default(),
             shocks,
             people,
         };

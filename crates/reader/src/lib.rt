@@ -8,4 +8,3 @@ pub mod field;
 pub mod file;
 pub mod limits;
 pub mod numbers;
-pub mod rates;

@@ -1,18 +1,13 @@
-// Whether the numbers of a field are within their limits, and those of one limit in the order of the layout.
+// Whether the numbers of a field are within their limits, and those of one limit in the order of the layout: of a file that is read, and of
+// a case that is saved.
 #![tactic(auto, using(crate::proofs::Digits::all_right))]
 
 ghost use Rattle.std.specs.Prelude.{◌≡◌, nat_le};
 ghost use Rattle.std.specs.List.{list_all};
-ghost use Rattle.model.specs.Fields.{within, rightAll};
+ghost use Rattle.model.specs.Fields.{rightAll};
 ghost use Rattle.model.specs.Layout.{flow, amounts, amountsInOrder, shocks, shocksInOrder, people};
 
 use model::case::{Amounts, People, Shocks};
-
-pub fn between(least: usize, most: usize, v: usize) -> bool
-    ensures { result ≡ within least most v }
-{
-    least <= v && v <= most
-}
 
 fn all_at_most(numbers: &[u64], most: u64) -> bool
     ensures { result ≡ list_all (λ number. nat_le number most) numbers.now }
@@ -27,6 +22,7 @@ pub fn flows_within(flows: &[u64]) -> bool
     all_at_most(flows, 100_000_000)
 }
 
+// By name: hosts in C lay amounts out as a struct, and `model` holds definitions and no conversion.
 pub fn amounts_in_order(a: &Amounts) -> [u64; 8]
     ensures { result ≡ amountsInOrder a.now }
 {
@@ -49,7 +45,7 @@ pub fn amounts_within(a: &Amounts) -> bool
     all_at_most(&amounts_in_order(a), 100_000_000_000)
 }
 
-// The ten of one limit: all but the credit spread and the credit duration.
+// By name, as the amounts: the ten of one limit, which is all but the credit spread and the credit duration.
 pub fn shocks_in_order(x: &Shocks) -> [u64; 10]
     ensures { result ≡ (shocksInOrder x.now).0 }
 {
@@ -78,5 +74,5 @@ pub fn shocks_within(x: &Shocks) -> bool
 pub fn people_within(p: &People) -> bool
     ensures { result ≡ people.right p.now }
 {
-    1 <= p.heads && p.heads <= 1_000_000 && p.pension_age <= 1_200 && p.mean_age <= 1_200
+    (1..=1_000_000).contains(&p.heads) && p.pension_age <= 1_200 && p.mean_age <= 1_200
 }

@@ -3,7 +3,8 @@ ghost use Rattle.std.specs.Prelude.{◌≡◌, ◌+◌, ◌*◌, ◌^◌, ◌<�
 ghost use Rattle.model.specs.Fields.{number_of, valueAll};
 ghost use Rattle.model.specs.Numbers.{number};
 
-// The big-endian number of up to 8 bytes.
+// The big-endian number of up to 8 bytes. By a loop, which is the same for each width: `from_be_bytes` asks for an array of the width of its
+// own type.
 pub fn big_endian(bytes: &[u8]) -> u64
     requires { length bytes.now ≤ 8 }
     ensures { (result ≡ number bytes.now 0 (length bytes.now)) × (result < 256 ^ length bytes.now) }
@@ -22,6 +23,8 @@ pub fn big_endian_all<const W: usize, const N: usize>(bytes: &[u8]) -> [u64; N]
 {
     let (chunks, _) = bytes.as_chunks::<W>();
     let mut numbers = [0; N];
+    // By an index: the closure of `array::from_fn` would know neither that it is below N nor how many chunks there are, and clauses there
+    // would be longer than this loop.
     for (i, number) in numbers.iter_mut().enumerate() {
         *number = big_endian(&chunks[i]);
     }

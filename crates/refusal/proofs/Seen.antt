@@ -27,6 +27,7 @@ refusal_from n =
     (cond (eqb n 19) MonthsUfr
     Damaged))))))))))))))))))
 
+-- no library knows these refusals, so this is by their cases
 same : (r : Refusal) → refusal_from (number_of r) ≡ r
 same EndsEarly = refl
 same BytesFollow = refl

@@ -53,7 +53,7 @@ pub enum Refusal {
 }
 
 impl Refusal {
-    /// 1 to 19, or 27.
+    /// 1 to 19, or 27. Offices and hosts know a refusal by this number, so it has a name of its own beside the discriminant.
     pub fn number(self) -> u8
         ensures { result ≡ number_of self }
     {

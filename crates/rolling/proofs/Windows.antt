@@ -1,7 +1,9 @@
 -- Which windows are right, by the days from the oldest on; and what a change of a window answers, where each of its checks holds or fails.
-use Prim.Native.Nat.{ℕ, zero, suc, ◌+◌, ◌*◌, ◌-◌, ◌≤◌, ◌<◌}
-use mathlib.Core.Path.{◌≡◌, refl, ap, ap₂, sym, ◌∙◌}
-use mathlib.Core.Bool.{Bool, true, false, ◌&&◌}
+use Rattle.std.proofs.lemmas.Bool.{and_from}
+use Rattle.std.specs.Cmp.{second_so}
+use Prim.Native.Nat.{ℕ, zero, suc, ◌+◌, ◌-◌, ◌≤◌, ◌<◌}
+use mathlib.Core.Path.{◌≡◌, refl, ap, sym, ◌∙◌}
+use mathlib.Core.Bool.{Bool, true, false}
 use mathlib.Core.List.{List, [], ◌∷◌, ◌++◌}
 use native.Mathlib.Nat.{mod-eq_of_lt}
 use native.Mathlib.Numerals.{add-one}
@@ -10,7 +12,7 @@ use borrow.Author.Tests.{lt-ltb, le-ltb, eq-eqb}
 use lib.Dec.{eqb}
 use lib.ListN.{length, get_or, drop}
 use lib.IntN.{ℤ, pos}
-use Rattle.std.proofs.Common.{Option, Result, Some, None, Ok, Err}
+use Rattle.std.proofs.Common.{Option, Some, None, Err}
 use Rattle.std.specs.Option.{IsSome, ok_or}
 use Rattle.model.specs.Case.{s}
 use Rattle.model.specs.Fields.{rightAll}
@@ -20,7 +22,7 @@ use Rattle.model.specs.Refusals.{first_of}
 use Rattle.rollingmodel.specs.Rolling.{slot, dayIn, daysHeld, sumsOf, windowRight, withDayIn, addRefusal, dropRefusal, added, dropped, addDay, dropDay}
 use Rattle.rollingmodel.specs.declared.RollingWindow.{RollingWindow}
 use Rattle.theory.proofs.acceptance.Runs.{right-more, right-at}
-use Rattle.theory.proofs.general.Lists.{and_first, and_second, and_both, length-table, table-first, table_same, table_of}
+use Rattle.theory.proofs.general.Lists.{length-table, table-first, table_same, table_of}
 use Rattle.theory.proofs.rolling.Held.{held-count, held-day}
 use Rattle.theory.proofs.rolling.Right.{Right, right-facts, facts-right}
 use Rattle.rolling.specs.inner.Sums.{EachWithin, plus, minus, firstDays}
@@ -49,7 +51,7 @@ module _ (w : RollingWindow) where
       contrary r =
           let whole = right-at (day 2) (daysHeld w) i [] (omega (arith, held-count w)) r.days in
           let own = rw (held-day w i l ∙ sym e) at whole in
-          let right = and_second (eqb (length held) 60) (rightAll (dailyRate 2) held) own in
+          let right = second_so (eqb (length held) 60) (rightAll (dailyRate 2) held) own in
           cc
 
   pub next-day : (i : ℕ) {held sums after : List ℤ} → held ≡ dayIn w.rates (slot 70 w.start i) → length held ≡ 60 → rightAll (dailyRate 2) held ≡ true
@@ -58,10 +60,10 @@ module _ (w : RollingWindow) where
   unfolding table
   next-day i {held} {sums} {after} e long right all are more =
       let days = firstDays w i in
-      let own : (day 2).right held ≡ true = and_both (eqb (length held) 60) (rightAll (dailyRate 2) held) (eq-eqb (length held) 60 long) right in
+      let own : (day 2).right held ≡ true = and_from (eqb (length held) 60) (rightAll (dailyRate 2) held) (eq-eqb (length held) 60 long) right in
       let next : firstDays w (i + 1) ≡ days ++ (held ∷ []) =
       ap (table (λ j. dayIn w.rates (slot 70 w.start j))) (add-one i) ∙ ap (λ (d : List ℤ). days ++ (d ∷ [])) (sym e) in (
-        ap (rightAll (day 2)) next ∙ right-more (day 2) days held ∙ and_both (rightAll (day 2) days) ((day 2).right held) all own,
+        ap (rightAll (day 2)) next ∙ right-more (day 2) days held ∙ and_from (rightAll (day 2) days) ((day 2).right held) all own,
         more ∙ ap (λ (l : List ℤ). plus l held) are ∙ plus-is (sumsOf days) days (sums-at days) held ∙ ap sumsOf (sym next),
       )
 

@@ -9,6 +9,7 @@ ghost use Rattle.refusal.specs.declared.Refusal.TheVariants.{Damaged, Rate};
 ghost use Rattle.refusal.specs.Numbered.{refused_by};
 ghost use Rattle.rolling.specs.inner.Sums.{EachWithin, plus, minus};
 
+use rates::{RateForm, TwoBytes};
 use refusal::Refusal;
 use rings::Place;
 use rollingmodel::{Day, RollingWindow};
@@ -27,15 +28,14 @@ pub fn empty() -> RollingWindow
 }
 
 // The rates in a slot.
-fn day_in(rates: &[i16; 4200], slot: usize) -> &[i16]
+fn day_in(rates: &[i16; 4200], slot: usize) -> &[i16; 60]
     requires { slot < 70 }
-    ensures day { result.now ≡ dayIn rates.now slot }
-    ensures terms { length result.now ≡ 60 }
+    ensures { result.now ≡ dayIn rates.now slot }
 {
-    &rates[TERMS * slot..TERMS * slot + TERMS]
+    &rates.as_chunks::<TERMS>().0[slot]
 }
 
-// Writes a day into a slot.
+// Writes a day into a slot. By a range, since the contract of `as_chunks_mut` says nothing of what the array ends as.
 fn put_day(rates: &mut [i16; 4200], slot: usize, new: &[i16; 60])
     requires { slot < 70 }
     ensures { rates.new ≡ withDayIn rates.old slot new.now }
@@ -43,23 +43,11 @@ fn put_day(rates: &mut [i16; 4200], slot: usize, new: &[i16; 60])
     rates[TERMS * slot..TERMS * slot + TERMS].copy_from_slice(new);
 }
 
-/// Whether a rate of two bytes is within its limits: those of refusal 5, and of 18, since a month has the form of a rate.
-pub fn is_rate(rate: i32) -> bool
-    ensures { result ≡ (dailyRate 2).right rate }
-{
-    (-1_000..=10_000).contains(&rate)
-}
-
 // Whether each rate of a day that is held is within the limits.
-fn is_right(held: &[i16]) -> bool
+fn is_right(held: &[i16; 60]) -> bool
     ensures { result ≡ rightAll (dailyRate 2) held.now }
 {
-    for rate in held {
-        if !is_rate(i32::from(*rate)) {
-            return false;
-        }
-    }
-    true
+    held.iter().all(|rate| TwoBytes::is_rate(i32::from(*rate)))
 }
 
 // The rates of a day that a host hands in, if each is within the limits. By an index, as `add`.
@@ -69,7 +57,7 @@ fn checked(new: &Day) -> Result<[i16; 60], Refusal>
 {
     let mut rates = [0; 60];
     for (t, rate) in new.rates.iter().enumerate() {
-        if !is_rate(*rate) {
+        if !TwoBytes::is_rate(*rate) {
             return Err(Refusal::Rate);
         }
         rates[t] = *rate as i16;
@@ -78,10 +66,10 @@ fn checked(new: &Day) -> Result<[i16; 60], Refusal>
 }
 
 // Adds a day to the sums per term. By an index, since a loop over `iter_mut().zip(..)` has no name for what it has written so far, of which
-// its invariant has to speak.
-fn add(sums: &mut [i64; 60], new: &[i16])
-    requires terms { length new.now ≡ 60 }
-    requires small { EachWithin 1000000 sums.old }
+// its invariant has to speak. One function for the days of files and of cases too would be no plainer: these come as bytes and as `i32`, and
+// are tested in the same loop, while a day here is added only after all of it is tested. Only `add` and `subtract` ask for small sums.
+fn add(sums: &mut [i64; 60], new: &[i16; 60])
+    requires { EachWithin 1000000 sums.old }
     ensures { sums.new ≡ plus sums.old new.now }
 {
     for (t, sum) in sums.iter_mut().enumerate() {
@@ -90,9 +78,8 @@ fn add(sums: &mut [i64; 60], new: &[i16])
 }
 
 // Takes a day from the sums per term, as `add` adds it. A sign as a parameter of `add` would hide which way it goes.
-fn subtract(sums: &mut [i64; 60], oldest: &[i16])
-    requires terms { length oldest.now ≡ 60 }
-    requires small { EachWithin 1000000 sums.old }
+fn subtract(sums: &mut [i64; 60], oldest: &[i16; 60])
+    requires { EachWithin 1000000 sums.old }
     ensures { sums.new ≡ minus sums.old oldest.now }
 {
     for (t, sum) in sums.iter_mut().enumerate() {

@@ -1,11 +1,14 @@
 -- The case that is valued is the one that holds the window's days and the other fields: the sums of the days are P(t) of its base curve. So
 -- what is worked out of it is the rounded working of that case. Assumes nothing.
+use Rattle.std.proofs.lemmas.Bool.{and_right}
 use Prim.Native.Nat.{ℕ, zero, suc, ◌*◌, ◌-◌, ◌<◌, ◌≤◌}
 use mathlib.Core.Path.{◌≡◌, refl, ap, ap₂, sym, ◌∙◌, subst}
-use mathlib.Core.Bool.{true}
+use mathlib.Core.Bool.{true, false, ◌&&◌}
 use mathlib.Core.List.{List, ◌++◌}
 use native.Mathlib.Nat.{one-mul}
 use native.Mathlib.Omega.{arith}
+use borrow.Author.Tests.{lt-leb}
+use lib.Dec.{leb, lit<}
 use lib.ListN.{length, get_or, drop}
 use lib.IntN.{ℤ, pos, neg_ℤ, ◌+ℤ◌, ◌-ℤ◌, ◌*ℤ◌}
 use Rattle.std.specs.Prelude.{Result, Ok, Err}
@@ -18,9 +21,7 @@ use Rattle.model.specs.Limits.{Between, WithinLimits}
 use Rattle.model.specs.Numbers.{every, table}
 use Rattle.model.specs.Refusals.{forwardsRight}
 use Rattle.rollingmodel.specs.Rolling.{daysHeld, windowRight, windowRefusal, windowValuation, windowFactorsAfter, windowRatesAfter}
-use Rattle.savingmodel.specs.Saving.{given}
 use Rattle.heldcase.specs.declared.Case.{Case}
-use Rattle.model.specs.declared.case.CaseFields.{CaseFields}
 use Rattle.model.specs.declared.figures.Valuation.{Valuation}
 use Rattle.rollingmodel.specs.declared.RollingWindow.{RollingWindow}
 use Rattle.theory.proofs.curve.CaseCurves.{base_sum}
@@ -36,6 +37,7 @@ use Rattle.refusal.specs.Numbered.{number_of}
 use Rattle.refusal.specs.declared.Refusal.{Refusal}
 use Rattle.reader.proofs.Steps.{some_number}
 use Rattle.rollingvalue.specs.inner.Joined.{joined}
+use Rattle.rollingvalue.proofs.Ordered.{value-27, value-13, value-long}
 use Rattle.theory.proofs.rolling.Valued.{within-limits}
 
 -- ---- the sums of the days held
@@ -87,19 +89,16 @@ module _ (w : RollingWindow) (right : windowRight w ≡ true) where
 pub few-flows : (w : RollingWindow) (k : FileCase) (factors rates : ℕ) → 0 ≡ windowRefusal w k factors rates → (length k.pension ≤ 120) × (length k.bonds ≤ 60)
 few-flows w k factors rates none = let limits = within-limits w k factors rates (sym none) in (limits.mostPension, limits.mostBonds)
 
-module _ (w : RollingWindow) (f : CaseFields) (own : List ℤ) (pension bonds : List ℕ) (f₀ : List ℕ) (z₀ : List ℤ) where
-  abbrev k : FileCase
-  k = given f own pension bonds
+pub case-holds : (w : RollingWindow) (k : FileCase) → windowRight w ≡ true → {days : ℕ} {sums : List ℤ} {case : Case} → (days ≡ w.count) × (sums ≡ w.sums)
+    → case ≡ joined k days (raised days sums) → case ≡ held (withDays 2 (daysHeld w) k)
+unfolding held perStep
+case-holds w k right is made =
+    made ∙ ap₂ (λ (n : ℕ) (xs : List ℤ). joined k n (raised n xs)) is.0 is.1
+    ∙ ap₂ (λ (n : ℕ) (xs : List ℕ). joined k n xs) (step w right) (sums-curve w right k)
 
+module _ (w : RollingWindow) (k : FileCase) (f₀ : List ℕ) (z₀ : List ℤ) where
   abbrev valued : FileCase
   valued = withDays 2 (daysHeld w) k
-
-  pub case-holds : windowRight w ≡ true → {sums : List ℕ} {case : Case} → sums ≡ raised w.count w.sums → case ≡ joined f w.count sums pension bonds
-      → case ≡ held valued
-  unfolding held perStep
-  case-holds right is made =
-      made
-      ∙ ap₂ (λ (n : ℕ) (xs : List ℕ). joined f n xs pension bonds) (step w right) (is ∙ sums-curve w right k)
 
   -- the contract of `value_window`: the answer, and both buffers at the end
   abbrev pub Meets : Result Valuation ℕ → List ℕ → List ℤ → Type 0
@@ -114,22 +113,36 @@ module _ (w : RollingWindow) (f : CaseFields) (own : List ℤ) (pension bonds : 
   refused-window zero e l = let never : ⊥ = omega arith in absurd never
   refused-window (suc n) e l = record { value = rw (sym e); factors = rw (sym e); rates = rw (sym e) }
 
-  pub refused : (e : Refusal) → number_of e ≡ windowRefusal w k (length f₀) (length z₀) → Meets (Err (number_of e)) f₀ z₀
-  refused e h = refused-window (number_of e) h (some_number e)
+  pub damaged : windowRight w ≡ false → Meets (Err 27) f₀ z₀
+  damaged h = refused-window 27 (value-27 w k (length f₀) (length z₀) h) (lit< tt)
 
-  module _ (none : 0 ≡ windowRefusal w k (length f₀) (length z₀)) {case : Case} (is : case ≡ held valued) where
+  module _ (right : windowRight w ≡ true) where
+    short : (leb 240 (length f₀) && leb 240 (length z₀)) ≡ false → Meets (Err 13) f₀ z₀
+    short h = refused-window 13 (value-13 w k (length f₀) (length z₀) right h) (lit< tt)
+
+    pub short-factors : length f₀ < 240 → Meets (Err 13) f₀ z₀
+    short-factors h = short (rw (lt-leb 240 (length f₀) h))
+
+    pub short-rates : length z₀ < 240 → Meets (Err 13) f₀ z₀
+    short-rates h = short (and_right (leb 240 (length f₀)) (leb 240 (length z₀)) (lt-leb 240 (length z₀) h))
+
+  pub refused : 240 ≤ length f₀ → 240 ≤ length z₀ → (e : Refusal) → number_of e ≡ windowRefusal w k 240 240 → Meets (Err (number_of e)) f₀ z₀
+  refused hf hz e h = refused-window (number_of e) (h ∙ value-long w k (length f₀) (length z₀) hf hz) (some_number e)
+
+  module _ (none : 0 ≡ windowRefusal w k 240 240) {case : Case} (is : case ≡ held valued) where
     limits : WithinLimits valued
-    limits = within-limits w k (length f₀) (length z₀) (sym none)
+    limits = within-limits w k 240 240 (sym none)
 
     pub case-fits : CaseFits case
     case-fits = subst CaseFits (sym is) (held_fits valued limits)
 
-    pub valued-window : {v : Valuation} {factors : List ℕ} {rates : List ℤ}
+    pub valued-window : 240 ≤ length f₀ → 240 ≤ length z₀ → {v : Valuation} {factors : List ℕ} {rates : List ℤ}
         → v ≡ moneyOf case
         → factors ≡ factorsOn case base ++ drop 240 f₀
         → rates ≡ ratesOn case ++ drop 240 z₀
         → Meets (Ok v) factors rates
     unfolding windowValuation windowFactorsAfter windowRatesAfter
-    valued-window p q r =
+    valued-window hf hz p q r =
         let (x, (y, z)) = held-valued valued limits f₀ z₀ is p q r in
-        record { value = rw (sym none) x; factors = rw (sym none) y; rates = rw (sym none) z }
+        let zero = sym (none ∙ value-long w k (length f₀) (length z₀) hf hz) in
+        record { value = rw zero x; factors = rw zero y; rates = rw zero z }

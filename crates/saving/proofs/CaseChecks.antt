@@ -1,6 +1,6 @@
 -- Which number a case is refused with, check by check, and the bytes of its shortest file.
 use Prim.Native.Nat.{ℕ, ◌*◌}
-use mathlib.Core.Path.{◌≡◌, refl, ap, ap₂, sym, ◌∙◌, subst}
+use mathlib.Core.Path.{◌≡◌, refl, ap, ap₂, sym, ◌∙◌}
 use mathlib.Core.Bool.{true, false, cond}
 use mathlib.Core.List.{List, [], ◌∷◌, ◌++◌}
 use lib.Dec.{eqb}
@@ -8,7 +8,8 @@ use lib.ListN.{length}
 use lib.IntN.{ℤ}
 use Rattle.std.proofs.Common.{Option, Some, None}
 use Rattle.std.specs.Option.{unwrap_or}
-use Rattle.model.specs.Case.{FileCase, knownForm, perStep, unitsPerStep, withDays}
+use Rattle.theory.proofs.acceptance.Form.{by_form}
+use Rattle.model.specs.Case.{FileCase, knownForm, perStep, unitsPerStep}
 use Rattle.model.specs.Fields.{Check}
 use Rattle.model.specs.Layout.{Present, layout, parts_of, days, shocks, people, fileOf, mapOf}
 use Rattle.model.specs.Numbers.{bytes_of}
@@ -20,9 +21,6 @@ use Rattle.refusal.specs.declared.Refusal.{Refusal}
 use Rattle.refusal.specs.declared.Refusal.TheVariants.{WrongFields}
 use Rattle.refusal.specs.Numbered.{number_of}
 use Rattle.saving.specs.Checked.{failing}
-use Rattle.saving.specs.Form.{width_of}
-use Rattle.saving.specs.declared.days.Form.{Form}
-use Rattle.saving.specs.declared.days.Form.TheVariants.{Two, Four}
 use Rattle.saving.proofs.Checked.{fails-first, holds-first, both-hold}
 
 -- ---- the first check that fails, as a number
@@ -66,13 +64,6 @@ module _ (k : FileCase) where
 
 -- ---- the days, among the fields
 
-known-form : (form : Form) → knownForm (width_of form) ≡ true
-known-form Two = refl
-known-form Four = refl
-
-known : (form : Form) {w : ℕ} → width_of form ≡ w → knownForm w ≡ true
-known form e = subst (λ (v : ℕ). knownForm v ≡ true) e (known-form form)
-
 module _ (f : CaseFields) (d : List (List ℤ)) (pension bonds : List ℕ) (p : Present) where
   abbrev limitsOf : ℕ → List Check
   limitsOf w =
@@ -86,15 +77,17 @@ module _ (f : CaseFields) (d : List (List ℤ)) (pension bonds : List ℕ) (p : 
       ++ ((bondsField p).limits bonds
       ++ ((amountsField p).limits f.amounts ++ ((shocks.right f.shocks, 11) ∷ (people.right f.people, 12) ∷ [])))
 
-  days-among : (form : Form) → failing (limitsOf (width_of form)) ≡ None → failing ((days (width_of form)).limits d) ≡ None
-  days-among Two h =
-      let u = (ufrField p).limits f.ufr in
-      let first = (both-hold (u ++ ((days 2).limits d ++ behind)) [] h).0 in
-      (both-hold ((days 2).limits d) behind (both-hold u ((days 2).limits d ++ behind) first).1).0
-  days-among Four h = (both-hold ((ufrField p).limits f.ufr ++ behind) ((days 4).limits d) h).1
+  days-among : (w : ℕ) → knownForm w ≡ true → failing (limitsOf w) ≡ None → failing ((days w).limits d) ≡ None
+  days-among w known = by_form (λ v. failing (limitsOf v) ≡ None → failing ((days v).limits d) ≡ None) w known two four
+    where
+      two : failing (limitsOf 2) ≡ None → failing ((days 2).limits d) ≡ None
+      two h =
+          let u = (ufrField p).limits f.ufr in
+          let first = (both-hold (u ++ ((days 2).limits d ++ behind)) [] h).0 in
+          (both-hold ((days 2).limits d) behind (both-hold u ((days 2).limits d ++ behind) first).1).0
 
-  days-hold-in : (form : Form) {w : ℕ} → width_of form ≡ w → failing (limitsOf w) ≡ None → failing ((days (width_of form)).limits d) ≡ None
-  days-hold-in form e h = days-among form (subst (λ (v : ℕ). failing (limitsOf v) ≡ None) (sym e) h)
+      four : failing (limitsOf 4) ≡ None → failing ((days 4).limits d) ≡ None
+      four h = (both-hold ((ufrField p).limits f.ufr ++ behind) ((days 4).limits d) h).1
 
 -- ---- what each step tells
 
@@ -108,40 +101,36 @@ module _ (f : CaseFields) (rates : List ℤ) (pension bonds : List ℕ) where
   pub form-refused : {r : Refusal} → r ≡ WrongFields → knownForm w ≡ false → number_of r ≡ caseRefusal case
   form-refused e h = ap number_of e ∙ case-number case (form-unknown case h)
 
-  -- the fields of these days
-  abbrev fieldsOf : List (List ℤ) → FileCase
-  fieldsOf ds = withDays w ds (given f [] pension bonds)
+  abbrev ds : List (List ℤ)
+  ds = daysOf rates
 
-  module _ {ds : List (List ℤ)} (daysAre : ds ≡ daysOf rates) (form : Form) (width : width_of form ≡ w) {q : Present} (present : q ≡ needed case) where
-    abbrev sixOf : List Check
-    sixOf = (forwardsRight (unitsPerStep (width_of form) * length ds) ds, 6) ∷ []
+  abbrev sixOf : List Check
+  sixOf = (forwardsRight (unitsPerStep w * length ds) ds, 6) ∷ []
 
-    module _ {checks : List Check} (are : checks ≡ (layout w q).limits (parts_of (fieldsOf ds))) where
+  module _ (known : knownForm w ≡ true) {q : Present} (present : q ≡ needed case) where
+    module _ {checks : List Check} (are : checks ≡ (layout w q).limits (parts_of case)) where
       needed-limits : checks ≡ (layout w (needed case)).limits (parts_of case)
-      needed-limits = are ∙ ap₂ (λ (p : Present) (d : List (List ℤ)). (layout w p).limits (parts_of (fieldsOf d))) present daysAre
+      needed-limits = are ∙ ap (λ (p : Present). (layout w p).limits (parts_of case)) present
 
       pub field-refused : (r : Refusal) → Some (number_of r) ≡ failing checks → number_of r ≡ caseRefusal case
-      field-refused r h = case-number case (field-fails case (known form width) (number_of r) (sym (ap failing needed-limits) ∙ sym h))
-
-      pub days-within : None ≡ failing checks → failing ((days (width_of form)).limits ds) ≡ None
-      days-within h = days-hold-in f ds pension bonds q form width (sym (ap failing are) ∙ sym h)
+      field-refused r h = case-number case (field-fails case known (number_of r) (sym (ap failing needed-limits) ∙ sym h))
 
       module _ (hold : None ≡ failing checks) where
-        six-checked : failing (caseChecks case) ≡ failing sixOf
+        -- where the fields are within their limits, the days are: what is left is the check of their forward rates
+        six-checked : failing (caseChecks case) ≡ failing ((days w).limits ds ++ sixOf)
         unfolding perStep
         six-checked =
-            forwards-are case (known form width) (sym (ap failing needed-limits) ∙ sym hold)
-            ∙ ap₂ (λ (v : ℕ) (d : List (List ℤ)). failing ((forwardsRight (unitsPerStep v * length d) d, 6) ∷ [])) (sym width) (sym daysAre)
+            forwards-are case known (sym (ap failing needed-limits) ∙ sym hold)
+            ∙ sym (holds-first ((days w).limits ds) sixOf (days-among f ds pension bonds q w known (sym (ap failing are) ∙ sym hold)))
 
-        pub six-refused : (r : Refusal) → Some (number_of r) ≡ failing sixOf → number_of r ≡ caseRefusal case
+        pub six-refused : (r : Refusal) → Some (number_of r) ≡ failing ((days w).limits ds ++ sixOf) → number_of r ≡ caseRefusal case
         six-refused r h = case-number case (six-checked ∙ sym h)
 
-        pub accepted : None ≡ failing sixOf → 0 ≡ caseRefusal case
+        pub accepted : None ≡ failing ((days w).limits ds ++ sixOf) → 0 ≡ caseRefusal case
         accepted h = case-number case (six-checked ∙ sym h)
 
-    pub file_is : {map : ℕ} {fields : List ℕ} → map ≡ mapOf w q → fields ≡ (layout w q).bytes (parts_of (fieldsOf ds))
-        → bytes_of 2 map ++ fields ≡ shortest case
+    pub file_is : {map : ℕ} {fields : List ℕ} → map ≡ mapOf w q → fields ≡ (layout w q).bytes (parts_of case) → bytes_of 2 map ++ fields ≡ shortest case
     unfolding shortest fileOf
     file_is mapIs fieldsAre =
         ap₂ (λ (n : ℕ) (t : List ℕ). bytes_of 2 n ++ t) mapIs fieldsAre
-        ∙ ap₂ (λ (p : Present) (d : List (List ℤ)). bytes_of 2 (mapOf w p) ++ (layout w p).bytes (parts_of (fieldsOf d))) present daysAre
+        ∙ ap (λ (p : Present). bytes_of 2 (mapOf w p) ++ (layout w p).bytes (parts_of case)) present

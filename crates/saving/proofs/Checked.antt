@@ -10,7 +10,7 @@ use Rattle.model.specs.Fields.{Check}
 use Rattle.model.specs.Refusals.{first_of}
 use Rattle.reader.specs.inner.Checks.{Checked}
 use Rattle.reader.proofs.Steps.{some_number}
-use Rattle.refusal.specs.Numbered.{refusal_in}
+use Rattle.refusal.specs.Numbered.{number_of, refusal_in}
 use Rattle.refusal.specs.declared.Refusal.{Refusal}
 use Rattle.saving.specs.Checked.{failing}
 
@@ -28,6 +28,13 @@ pub both-hold : (xs ys : List Check) → failing (xs ++ ys) ≡ None → (failin
 both-hold [] ys h = (refl, h)
 both-hold ((true, m) ∷ xs) ys h = both-hold xs ys h
 both-hold ((false, m) ∷ xs) ys h = cc
+
+-- a check that fails, and those behind it
+pub refused-at : (e : Refusal) (b : Bool) {c : Bool} (n : ℕ) (behind : List Check) → number_of e ≡ first_of ((b, suc n) ∷ []) → b ≡ c
+    → Some (number_of e) ≡ failing ((c, suc n) ∷ behind)
+unfolding first_of
+refused-at e true n behind h k = let some = some_number e in let never : ⊥ = omega arith in absurd never
+refused-at e false n behind h k = ap Some h ∙ ap (λ (x : Bool). failing ((x, suc n) ∷ behind)) k
 
 -- one check, as the reader tells it
 pub one-check : {A : Type 0} (r : Result A Refusal) (b : Bool) {c : Bool} (n : ℕ) (Q : A → Type 0) → Checked ((b, suc n) ∷ []) Q r → b ≡ c

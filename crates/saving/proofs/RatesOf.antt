@@ -13,22 +13,22 @@ use lib.Seq.{length-take-le, take-suc, take_all}
 use lib.IntN.{ℤ, pos, negsuc}
 use mir.Syntax.{w32}
 use mir.Val.{of_z}
+use Rattle.std.specs.Cmp.{first_so, second_so}
+use Rattle.std.proofs.lemmas.Bool.{and_from}
 use Rattle.std.proofs.Common.{Option, None}
 use Rattle.std.specs.Int.{bytes_high_first}
 use Rattle.std.specs.Option.{SomeIff}
 use Rattle.model.specs.Fields.{within, bytesAll, rightAll}
+use Rattle.model.specs.Case.{knownForm}
 use Rattle.model.specs.Layout.{dailyRate, day, days}
 use Rattle.model.specs.Numbers.{bytes_of, unsigned}
 use Rattle.theory.proofs.acceptance.Encoding.{length-bytes}
-use Rattle.theory.proofs.general.Lists.{and_both, and_first, and_second}
+use Rattle.theory.proofs.acceptance.Form.{by_form}
 use Rattle.reader.specs.inner.Sums.{added, sumsOf}
 use Rattle.reader.proofs.DaySums.{sums-more}
 use Rattle.saving.specs.Checked.{failing}
-use Rattle.saving.specs.Form.{width_of}
 use Rattle.saving.specs.Wrote.{Wrote}
 use Rattle.saving.specs.declared.writer.Writer.{Writer}
-use Rattle.saving.specs.declared.days.Form.{Form}
-use Rattle.saving.specs.declared.days.Form.TheVariants.{Two, Four}
 use Rattle.saving.proofs.Bytes.{length_run, drop-high, high-bytes}
 
 -- ---- a day that is right, and days that are
@@ -36,10 +36,10 @@ use Rattle.saving.proofs.Bytes.{length_run, drop-high, high-bytes}
 module _ (w : ℕ) where
   module _ (rates : List ℤ) (right : (day w).right rates ≡ true) where
     pub day-long : length rates ≡ 60
-    day-long = eqb-true (length rates) 60 (and_first (eqb (length rates) 60) (rightAll (dailyRate w) rates) right)
+    day-long = eqb-true (length rates) 60 (first_so (eqb (length rates) 60) (rightAll (dailyRate w) rates) right)
 
     pub rates-right : rightAll (dailyRate w) rates ≡ true
-    rates-right = and_second (eqb (length rates) 60) (rightAll (dailyRate w) rates) right
+    rates-right = second_so (eqb (length rates) 60) (rightAll (dailyRate w) rates) right
 
     pub day-length : length (bytesAll (dailyRate w) rates) ≡ w * 60
     day-length = length_run (dailyRate w) (λ z. length-bytes w (unsigned w z)) rates ∙ ap (λ (n : ℕ). w * n) day-long
@@ -47,8 +47,8 @@ module _ (w : ℕ) where
   pub days-length : (ds : List (List ℤ)) → rightAll (day w) ds ≡ true → length (bytesAll (day w) ds) ≡ w * 60 * length ds
   days-length [] h = omega arith
   days-length (d ∷ ds) h =
-      let first = day-length d (and_first ((day w).right d) (rightAll (day w) ds) h) in
-      let rest = days-length ds (and_second ((day w).right d) (rightAll (day w) ds) h) in
+      let first = day-length d (first_so ((day w).right d) (rightAll (day w) ds) h) in
+      let rest = days-length ds (second_so ((day w).right d) (rightAll (day w) ds) h) in
       length-append (bytesAll (dailyRate w) d) (bytesAll (day w) ds) ∙ omega (arith, first, rest)
 
   -- a front of them
@@ -56,8 +56,8 @@ module _ (w : ℕ) where
   front-right ds zero h = refl
   front-right [] (suc i) h = refl
   front-right (d ∷ ds) (suc i) h =
-      and_both ((day w).right d) (rightAll (day w) (take i ds)) (and_first ((day w).right d) (rightAll (day w) ds) h)
-      (front-right ds i (and_second ((day w).right d) (rightAll (day w) ds) h))
+      and_from ((day w).right d) (rightAll (day w) (take i ds)) (first_so ((day w).right d) (rightAll (day w) ds) h)
+      (front-right ds i (second_so ((day w).right d) (rightAll (day w) ds) h))
 
   -- a write more
   pub room-for-day : {a b : Writer} (ds : List (List ℤ)) (i : ℕ) → i < length ds → rightAll (day w) ds ≡ true → a.at + w * 60 * length ds ≤ length a.out.now
@@ -82,7 +82,7 @@ module _ (w : ℕ) where
 
     module _ (hold : failing ((days w).limits ds) ≡ None) where
       pub few-days : length ds ≤ 70
-      few-days = leb-true (length ds) 70 (and_second (leb 1 (length ds)) (leb (length ds) 70) (days-hold hold).0)
+      few-days = leb-true (length ds) 70 (second_so (leb 1 (length ds)) (leb (length ds) 70) (days-hold hold).0)
 
       pub field-length : length ((days w).bytes ds) ≡ 1 + w * 60 * length ds
       field-length =
@@ -96,26 +96,32 @@ sized o room e h = subst (λ (k : ℕ). SomeIff o (k ≤ room) (room - k)) (sym 
 
 -- ---- the bytes of a rate
 
-rate-bits : (form : Form) (z : ℤ) → (dailyRate (width_of form)).right z ≡ true → bytes_of (width_of form) (of_z w32 z) ≡ (dailyRate (width_of form)).bytes z
+rate-bits : (w : ℕ) → knownForm w ≡ true → (z : ℤ) → (dailyRate w).right z ≡ true → bytes_of w (of_z w32 z) ≡ (dailyRate w).bytes z
 unfolding bytes_of
-rate-bits Four (pos n) h = refl
-rate-bits Four (negsuc n) h = refl
-rate-bits Two (pos n) h = refl
-rate-bits Two (negsuc n) h =
-    let l = leb-true n 999 (and_first (leb n 999) true h) in
-    let first : (4294967296 - suc n) / 256 % 256 ≡ (65536 - suc n) / 256 % 256 = omega arith in
-    let second : (4294967296 - suc n) % 256 ≡ (65536 - suc n) % 256 = omega arith in
-    ap₂ (λ (a b : ℕ). a ∷ b ∷ []) first second
+rate-bits w known z = by_form (λ v. (dailyRate v).right z ≡ true → bytes_of v (of_z w32 z) ≡ (dailyRate v).bytes z) w known (two z) (four z)
+  where
+    two : (z : ℤ) → (dailyRate 2).right z ≡ true → bytes_of 2 (of_z w32 z) ≡ (dailyRate 2).bytes z
+    two (pos n) h = refl
+    two (negsuc n) h =
+        let l = leb-true n 999 (first_so (leb n 999) true h) in
+        let first : (4294967296 - suc n) / 256 % 256 ≡ (65536 - suc n) / 256 % 256 = omega arith in
+        let second : (4294967296 - suc n) % 256 ≡ (65536 - suc n) % 256 = omega arith in
+        ap₂ (λ (a b : ℕ). a ∷ b ∷ []) first second
 
-pub rate-bytes : (form : Form) (z : ℤ) {n : ℕ} {y : ℤ} {bytes : List ℕ} → n ≡ width_of form → n ≤ 4 → y ≡ z → bytes ≡ bytes_high_first 4 (of_z w32 y)
-    → (dailyRate (width_of form)).right z ≡ true → take (4 - (4 - n)) (drop (4 - n) bytes) ≡ (dailyRate (width_of form)).bytes z
-rate-bytes form z {n} {y} {bytes} e narrow f g right =
+    four : (z : ℤ) → (dailyRate 4).right z ≡ true → bytes_of 4 (of_z w32 z) ≡ (dailyRate 4).bytes z
+    four (pos n) h = refl
+    four (negsuc n) h = refl
+
+pub rate-bytes : {n w : ℕ} → n ≡ w → knownForm w ≡ true → (z : ℤ) {y : ℤ} {bytes : List ℕ} → y ≡ z → bytes ≡ bytes_high_first 4 (of_z w32 y)
+    → (dailyRate w).right z ≡ true → take (4 - (4 - n)) (drop (4 - n) bytes) ≡ (dailyRate w).bytes z
+rate-bytes {n} {w} e known z {y} {bytes} f g right =
     let v = of_z w32 y in
-    ap (λ (bs : List ℕ). take (4 - (4 - n)) (drop (4 - n) bs)) g
-    ∙ ap (take (4 - (4 - n))) (drop-high (4 - n) 4 n v (omega arith) ∙ high-bytes n v)
-    ∙ take_all (4 - (4 - n)) (bytes_of n v) (omega (arith, length-bytes n v))
-    ∙ ap₂ (λ (k : ℕ) (u : ℤ). bytes_of k (of_z w32 u)) e f
-    ∙ rate-bits form z right
+    let narrow : w ≤ 4 = by_form (λ n. n ≤ 4) w known (omega arith) (omega arith) in
+    ap₂ (λ (k : ℕ) (bs : List ℕ). take (4 - (4 - k)) (drop (4 - k) bs)) e g
+    ∙ ap (take (4 - (4 - w))) (drop-high (4 - w) 4 w v (omega arith) ∙ high-bytes w v)
+    ∙ take_all (4 - (4 - w)) (bytes_of w v) (omega (arith, length-bytes w v))
+    ∙ ap (λ (u : ℤ). bytes_of w (of_z w32 u)) f
+    ∙ rate-bits w known z right
 
 -- ---- the sums of a front of the days
 

@@ -1,64 +1,24 @@
 // The days: their count, and their rates one after another.
 #![tactic(auto, using(crate::proofs::Lengths::lengths))]
 
-ghost use Rattle.std.specs.Prelude.{◌≡◌, true, false, ◌+◌, ◌*◌, ◌≤◌, [], ◌∷◌, length, IfSome, IfNone, None};
-ghost use Rattle.model.specs.Case.{knownForm, unitsPerStep};
+ghost use Rattle.std.specs.Prelude.{◌≡◌, true, ◌+◌, ◌*◌, ◌≤◌, [], ◌∷◌, length, IfOk, None};
+ghost use Rattle.model.specs.Case.{unitsPerStep};
 ghost use Rattle.model.specs.Fields.{bytesAll, rightAll, within};
 ghost use Rattle.model.specs.Layout.{dailyRate, day, days};
 ghost use Rattle.model.specs.Refusals.{forwardsRight};
 ghost use Rattle.reader.specs.inner.Sums.{Bounded, added, sumsOf};
 ghost use Rattle.refusal.specs.Numbered.{refusal_in};
 ghost use Rattle.savingmodel.specs.Saving.{daysOf};
-ghost use Rattle.saving.specs.Form.{width_of};
-ghost use Rattle.saving.specs.Checked.{failing};
+ghost use Rattle.saving.specs.Checked.{daysChecks, failing};
 ghost use Rattle.saving.specs.Wrote.{Wrote};
 
-use crate::field::{Field, require};
+use crate::field::Field;
 use crate::writer::Writer;
-use reader::days as summed;
-use reader::rates::units_per_step;
+use rates::RateForm;
+use reader::check::check;
+use reader::days::DaySums;
 use refusal::Refusal;
-
-// How many bytes a rate has in a file, and so in which units it is.
-#[derive(Clone, Copy)]
-pub enum Form {
-    Two,
-    Four,
-}
-
-impl Form {
-    // A host hands in the number of bytes.
-    pub fn of(rate_bytes: u64) -> Option<Form>
-        ensures some { IfSome result (λ form. width_of form ≡ rate_bytes) }
-        ensures none { IfNone result (knownForm rate_bytes ≡ false) }
-    {
-        match rate_bytes {
-            2 => Some(Form::Two),
-            4 => Some(Form::Four),
-            _ => None,
-        }
-    }
-
-    pub fn width(self) -> usize
-        ensures width { result ≡ width_of self }
-        ensures narrow { result ≤ 4 }
-    {
-        match self {
-            Form::Two => 2,
-            Form::Four => 4,
-        }
-    }
-
-    // How many units of a rate are a rate step.
-    fn units(self) -> u64
-        ensures { (result ≡ unitsPerStep (width_of self)) × (result ≤ 100) }
-    {
-        match self {
-            Form::Two => units_per_step::<2>(),
-            Form::Four => units_per_step::<4>(),
-        }
-    }
-}
+use std::marker::PhantomData;
 
 // The days of a list of rates, 60 a day. A list that is no whole number of days has none.
 pub fn days_in(rates: &[i32]) -> &[[i32; 60]]
@@ -72,143 +32,133 @@ pub fn days_in(rates: &[i32]) -> &[[i32; 60]]
 fn is_day_count(count: usize) -> bool
     ensures { result ≡ within 1 70 count }
 {
-    1 <= count && count <= 70
+    (1..=70).contains(&count)
 }
 
-// The limits of refusal 5.
-fn is_rate(rate: i32, form: Form) -> bool
-    ensures { result ≡ (dailyRate (width_of form)).right rate }
+// Adds the rates of a day to the sums of their terms, and says whether each is within its limits. It goes on past one that is not, since
+// the compiler then makes several terms at a time. That the sums are of at most 69 days is asked here alone.
+fn add_day<F: RateForm>(rates: &[i32; 60], sums: &mut [i64; 60]) -> bool
+    requires { Bounded 69000000 sums.old }
+    ensures right { result ≡ (day F.WIDTH).right rates.now }
+    ensures sums { sums.new ≡ added sums.old rates.now }
 {
-    match form {
-        Form::Two => -1_000 <= rate && rate <= 10_000,
-        Form::Four => -100_000 <= rate && rate <= 1_000_000,
+    let mut right = true;
+    // By an index: what a loop over `iter_mut().zip(..)` has written so far has no name for its invariant.
+    for (t, sum) in sums.iter_mut().enumerate() {
+        right &= F::is_rate(rates[t]);
+        *sum += i64::from(rates[t]);
     }
+    right
 }
 
-fn is_day(rates: &[i32; 60], form: Form) -> bool
-    ensures { result ≡ (day (width_of form)).right rates.now }
+// The sums of days, if their count and each of their rates is within its limits.
+fn sum_days<F: RateForm>(held: &[[i32; 60]]) -> Result<[i64; 60], Refusal>
+    ensures refusal { refusal_in result ≡ failing ((days F.WIDTH).limits held.now) }
+    ensures sums { IfOk result (λ sums. sums ≡ sumsOf held.now) }
 {
-    for rate in rates {
-        if !is_rate(*rate, form) {
-            return false;
-        }
-    }
-    true
-}
-
-fn are_days(held: &[[i32; 60]], form: Form) -> bool
-    ensures { result ≡ rightAll (day (width_of form)) held.now }
-{
+    check(is_day_count(held.len()), Refusal::DayCount)?;
+    let mut sums = [0; 60];
     for rates in held {
-        if !is_day(rates, form) {
-            return false;
-        }
+        check(add_day::<F>(rates, &mut sums), Refusal::Rate)?;
     }
-    true
+    Ok(sums)
+}
+
+// Refusal 6, of days that are within their own limits, by their sums: as the reader checks the days of a file.
+fn forwards_within<F: RateForm>(held: &[[i32; 60]], sums: [i64; 60]) -> Result<(), Refusal>
+    requires right { failing ((days F.WIDTH).limits held.now) ≡ None }
+    requires sums { sums ≡ sumsOf held.now }
+    ensures { refusal_in result ≡ failing ((forwardsRight (unitsPerStep F.WIDTH * length held.now) held.now, 6) ∷ []) }
+{
+    let summed = DaySums {
+        per_step: F::UNITS_PER_STEP * held.len() as u64,
+        sums,
+    };
+    summed.forwards_within()
 }
 
 // The last bytes of a rate's 32 bits.
-fn write_rate(rate: i32, form: Form, out: &mut Writer<'_>)
-    requires right { (dailyRate (width_of form)).right rate ≡ true }
-    requires room { out.old.at + width_of form ≤ length out.old.out.now }
-    ensures { Wrote out.old ((dailyRate (width_of form)).bytes rate) out.new }
+fn write_rate<F: RateForm>(rate: i32, out: &mut Writer<'_>)
+    requires right { (dailyRate F.WIDTH).right rate ≡ true }
+    requires room { out.old.at + F.WIDTH ≤ length out.old.out.now }
+    ensures { Wrote out.old ((dailyRate F.WIDTH).bytes rate) out.new }
 {
     let bytes = rate.to_be_bytes();
-    // Of a length that is known here, the bytes are stored in one step.
-    match form {
-        Form::Two => out.put(&bytes[2..]),
-        Form::Four => out.put(&bytes),
-    }
+    out.put(&bytes[4 - F::WIDTH..]);
 }
 
-fn write_day(rates: &[i32], form: Form, out: &mut Writer<'_>)
-    requires right { (day (width_of form)).right rates.now ≡ true }
-    requires room { out.old.at + width_of form * 60 ≤ length out.old.out.now }
-    ensures { Wrote out.old (bytesAll (dailyRate (width_of form)) rates.now) out.new }
+fn write_day<F: RateForm>(rates: &[i32], out: &mut Writer<'_>)
+    requires right { (day F.WIDTH).right rates.now ≡ true }
+    requires room { out.old.at + F.WIDTH * 60 ≤ length out.old.out.now }
+    ensures { Wrote out.old (bytesAll (dailyRate F.WIDTH) rates.now) out.new }
 {
     for rate in rates {
-        write_rate(*rate, form, out);
+        write_rate::<F>(*rate, out);
     }
 }
 
-fn write_days(held: &[[i32; 60]], form: Form, out: &mut Writer<'_>)
-    requires right { rightAll (day (width_of form)) held.now ≡ true }
-    requires room { out.old.at + width_of form * 60 * length held.now ≤ length out.old.out.now }
-    ensures { Wrote out.old (bytesAll (day (width_of form)) held.now) out.new }
+fn write_days<F: RateForm>(held: &[[i32; 60]], out: &mut Writer<'_>)
+    requires right { rightAll (day F.WIDTH) held.now ≡ true }
+    requires room { out.old.at + F.WIDTH * 60 * length held.now ≤ length out.old.out.now }
+    ensures { Wrote out.old (bytesAll (day F.WIDTH) held.now) out.new }
 {
-    for rates in held {
-        write_day(rates, form, out);
+    for day in held {
+        write_day::<F>(day, out);
     }
 }
 
-// Adds the rates of a day to the sums of their terms.
-fn add_day(rates: &[i32; 60], sums: &mut [i64; 60])
-    requires { Bounded 69000000 sums.old }
-    ensures { sums.new ≡ added sums.old rates.now }
-{
-    for (t, sum) in sums.iter_mut().enumerate() {
-        *sum += i64::from(rates[t]);
-    }
-}
-
-// Days of rates of one form, in its units.
-#[derive(Clone, Copy)]
-pub struct Days<'a> {
+// Days of rates of one form, in its units. What their limits say is found once, when they are taken from a list: one loop sums the rates and
+// looks at their limits. The days of a file are `reader::days::Days`: of these the bytes are kept, and not the rates.
+#[derive(Drop)]
+pub struct Days<'a, F: RateForm> {
     pub held: &'a [[i32; 60]],
-    pub form: Form,
+    form: PhantomData<F>,
+    // By their count and their rates.
+    within: Result<(), Refusal>,
+    // By these, and then by their forward rates.
+    pub forwards: Result<(), Refusal>,
+    ghost within_told: { refusal_in within ≡ failing ((days F.WIDTH).limits held.now) },
+    ghost forwards_told: { refusal_in forwards ≡ failing (daysChecks F.WIDTH held.now) },
 }
 
-impl Days<'_> {
-    // The sum of each term's rates.
-    fn sums(&self) -> [i64; 60]
-        requires { failing ((days (width_of self.now.form)).limits self.now.held.now) ≡ None }
-        ensures { result ≡ sumsOf self.now.held.now }
+impl<'a, F: RateForm> Days<'a, F> {
+    pub fn of(rates: &'a [i32]) -> Self
+        ensures { result.held.now ≡ daysOf rates.now }
     {
-        let mut sums = [0; 60];
-        for rates in self.held {
-            add_day(rates, &mut sums);
+        let held = days_in(rates);
+        let form = PhantomData;
+        match sum_days::<F>(held) {
+            Ok(sums) => Days {
+                held,
+                form,
+                within: Ok(()),
+                forwards: forwards_within::<F>(held, sums),
+            },
+            Err(refusal) => Days {
+                held,
+                form,
+                within: Err(refusal),
+                forwards: Err(refusal),
+            },
         }
-        sums
-    }
-
-    // Refusal 6, of days that are within their own limits: by their sums, as the reader checks the days of a file.
-    pub fn forwards_within(&self) -> Result<(), Refusal>
-        requires { failing ((days (width_of self.now.form)).limits self.now.held.now) ≡ None }
-        ensures { refusal_in result
-            ≡ failing ((forwardsRight (unitsPerStep (width_of self.now.form) * length self.now.held.now) self.now.held.now, 6) ∷ []) }
-    {
-        let per_step = self.form.units() * self.held.len() as u64;
-        let sums = self.sums();
-        let days = summed::Days {
-            per_step,
-            sums,
-            rates: &[],
-            rates_at: 0,
-        };
-        days.forwards_within()
     }
 }
 
-impl Field for Days<'_> {
-    ghost bytes = { λ d. (days (width_of d.form)).bytes d.held.now };
+impl<F: RateForm> Field for Days<'_, F> {
+    ghost bytes = { λ d. (days F.WIDTH).bytes d.held.now };
 
-    ghost limits = { λ d. (days (width_of d.form)).limits d.held.now };
+    ghost limits = { λ d. (days F.WIDTH).limits d.held.now };
 
     fn check(&self) -> Result<(), Refusal> {
-        require(is_day_count(self.held.len()), Refusal::DayCount)?;
-        require(are_days(self.held, self.form), Refusal::Rate)
+        self.within
     }
 
     fn room_after(&self, room: usize) -> Option<usize> {
-        let count = 60 * self.held.len();
-        match self.form {
-            Form::Two => room.checked_sub(1 + 2 * count),
-            Form::Four => room.checked_sub(1 + 4 * count),
-        }
+        room.checked_sub(1 + F::WIDTH * 60 * self.held.len())
     }
 
     fn write(&self, out: &mut Writer<'_>) {
         out.number(1, self.held.len() as u64);
-        write_days(self.held, self.form, out);
+        write_days::<F>(self.held, out);
     }
 }

@@ -1,10 +1,10 @@
 // What a case is made of: each field says at once what is checked of it, how many bytes it takes and how it is written. A field that is
 // absent is `None`, and fields one after another are a pair.
-ghost use Rattle.std.specs.Prelude.{◌≡◌, ◌+◌, ◌-◌, ◌≤◌, ℕ, List, [], ◌∷◌, ◌++◌, length, None};
+ghost use Rattle.std.specs.Prelude.{◌≡◌, ◌+◌, ◌-◌, ◌≤◌, ℕ, List, [], ◌++◌, length, None};
 ghost use Rattle.std.specs.Option.{SomeIff};
 ghost use Rattle.std.proofs.lemmas.List.Edits.{sets};
 ghost use Rattle.model.specs.Fields.{Check};
-ghost use Rattle.refusal.specs.Numbered.{number_of, refusal_in};
+ghost use Rattle.refusal.specs.Numbered.{refusal_in};
 ghost use Rattle.saving.specs.Checked.{failing, if_there};
 ghost use Rattle.saving.specs.Wrote.{Wrote};
 
@@ -29,13 +29,6 @@ pub trait Field {
         requires right { failing (limits self.now) ≡ None }
         requires room { out.old.at + length (bytes self.now) ≤ length out.old.out.now }
         ensures { Wrote out.old (bytes self.now) out.new };
-}
-
-// One check.
-pub fn require(holds: bool, refusal: Refusal) -> Result<(), Refusal>
-    ensures { refusal_in result ≡ failing ((holds, number_of refusal) ∷ []) }
-{
-    if holds { Ok(()) } else { Err(refusal) }
 }
 
 impl<T: Field> Field for Option<T> {

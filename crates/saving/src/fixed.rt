@@ -6,9 +6,11 @@ ghost use Rattle.model.specs.Fields.{within};
 ghost use Rattle.model.specs.Layout.{amounts, shocks, people};
 ghost use Rattle.model.specs.Numbers.{bytes_of};
 
-use crate::field::{Field, require};
+use crate::field::Field;
 use crate::writer::Writer;
 use model::case::{Amounts, People, Shocks};
+use reader::check::check;
+use reader::field::Map;
 use reader::limits::{
     amounts_in_order, amounts_within, people_within, shocks_in_order, shocks_within,
 };
@@ -26,7 +28,7 @@ impl Field for Ufr {
     ghost limits = { λ u. (within 0 5000 u.steps, 9) ∷ [] };
 
     fn check(&self) -> Result<(), Refusal> {
-        require(self.steps <= 5_000, Refusal::Ufr)
+        check(self.steps <= 5_000, Refusal::Ufr)
     }
 
     fn room_after(&self, room: usize) -> Option<usize> {
@@ -44,7 +46,7 @@ impl Field for Amounts {
     ghost limits = { λ a. (amounts.right a, 10) ∷ [] };
 
     fn check(&self) -> Result<(), Refusal> {
-        require(amounts_within(self), Refusal::Amount)
+        check(amounts_within(self), Refusal::Amount)
     }
 
     fn room_after(&self, room: usize) -> Option<usize> {
@@ -62,7 +64,7 @@ impl Field for Shocks {
     ghost limits = { λ x. (shocks.right x, 11) ∷ [] };
 
     fn check(&self) -> Result<(), Refusal> {
-        require(shocks_within(self), Refusal::Shock)
+        check(shocks_within(self), Refusal::Shock)
     }
 
     fn room_after(&self, room: usize) -> Option<usize> {
@@ -82,7 +84,7 @@ impl Field for People {
     ghost limits = { λ p. (people.right p, 12) ∷ [] };
 
     fn check(&self) -> Result<(), Refusal> {
-        require(people_within(self), Refusal::People)
+        check(people_within(self), Refusal::People)
     }
 
     fn room_after(&self, room: usize) -> Option<usize> {
@@ -94,12 +96,6 @@ impl Field for People {
         out.number(2, self.pension_age);
         out.number(2, self.mean_age);
     }
-}
-
-// Which fields a file has.
-#[derive(Clone, Copy)]
-pub struct Map {
-    pub bits: u64,
 }
 
 impl Field for Map {
@@ -116,6 +112,6 @@ impl Field for Map {
     }
 
     fn write(&self, out: &mut Writer<'_>) {
-        out.number(2, self.bits);
+        out.number(2, u64::from(self.bits));
     }
 }

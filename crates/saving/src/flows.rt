@@ -5,12 +5,14 @@ ghost use Rattle.std.specs.Prelude.{[], ◌∷◌};
 ghost use Rattle.model.specs.Fields.{counted};
 ghost use Rattle.model.specs.Layout.{flow};
 
-use crate::field::{Field, require};
+use crate::field::Field;
 use crate::writer::Writer;
+use reader::check::check;
 use reader::limits::flows_within;
 use refusal::Refusal;
 
-// Some flows, of which a file has at most `most`. Their count is one byte.
+// Some flows, of which a file has at most `most`. Their count is one byte. They are lent: the flows of a case that was read are
+// `heldcase::flows::Flows`, which own their numbers, since a file has them as bytes.
 #[derive(Clone, Copy)]
 pub struct Flows<'a> {
     pub flows: &'a [u64],
@@ -24,11 +26,11 @@ impl Field for Flows<'_> {
 
     fn check(&self) -> Result<(), Refusal> {
         let count = self.flows.len();
-        require(
-            1 <= count && count <= usize::from(self.most),
+        check(
+            (1..=usize::from(self.most)).contains(&count),
             Refusal::FlowCount,
         )?;
-        require(flows_within(self.flows), Refusal::Flow)
+        check(flows_within(self.flows), Refusal::Flow)
     }
 
     fn room_after(&self, room: usize) -> Option<usize> {

@@ -6,31 +6,27 @@ pub mod days;
 pub mod field;
 pub mod fixed;
 pub mod flows;
+pub mod given;
 pub mod included;
 pub mod writer;
 
 ghost use Rattle.std.specs.Prelude.{◌≡◌, length};
-ghost use Rattle.savingmodel.specs.Saving.{given, saveAnswer, savedAfter};
+ghost use Rattle.savingmodel.specs.Saving.{saveAnswer, savedAfter};
 ghost use Rattle.refusal.specs.Numbered.{answer_of};
+ghost use Rattle.saving.specs.Said.{said};
 
 use case::checked_file;
 use field::{Field, write_front};
-use model::case::CaseFields;
+use given::GivenCase;
 use refusal::Refusal;
 
 // Writes the shortest file of a case to the front of a lent buffer, and answers its length. A refusal writes no byte: the case is checked,
 // and the room, before the first is written.
-pub fn save(
-    f: &CaseFields,
-    rates: &[i32],
-    pension: &[u64],
-    bonds: &[u64],
-    out: &mut [u8],
-) -> Result<usize, Refusal>
-    ensures value { answer_of result ≡ saveAnswer (given f.now rates.now pension.now bonds.now) (length out.old) }
-    ensures buffer { out.new ≡ savedAfter (given f.now rates.now pension.now bonds.now) out.old }
+pub fn save(case: &GivenCase, out: &mut [u8]) -> Result<usize, Refusal>
+    ensures value { answer_of result ≡ saveAnswer (said case.now) (length out.old) }
+    ensures buffer { out.new ≡ savedAfter (said case.now) out.old }
 {
-    let file = checked_file(f, rates, pension, bonds)?;
+    let file = checked_file(case)?;
     let left = file.room_after(out.len()).ok_or(Refusal::Room)?;
     let length = out.len() - left;
     write_front(&file, out);

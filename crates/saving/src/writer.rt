@@ -28,7 +28,7 @@ impl<'a> Writer<'a> {
         self.at = end;
     }
 
-    // The lowest `width` bytes of a number, the highest first.
+    // The lowest `width` bytes of a number, the highest first. No field has numbers of more than 8 bytes: this and `numbers` ask for it.
     pub fn number(&mut self, width: usize, v: u64)
         requires room { self.old.at + width ≤ length self.old.out.now }
         requires narrow { width ≤ 8 }

@@ -16,6 +16,7 @@ use zerorates::search::{RateEnd, Search};
 // The row of one search. Each number of tests is a search of its own, from the beginning.
 fn print_row<E: RateEnd, W: Write>(out: &mut W, search: Search) -> io::Result<()> {
     write!(out, " {}", search.term)?;
+    // `tests` is not an index: a search asks for the number of tests.
     for tests in 0..=TESTS {
         let left = search.steps_left::<E>(tests);
         write!(out, " {} {}", left.first, left.last)?;
@@ -44,20 +45,16 @@ fn print_term<W: Write>(out: &mut W, t: usize, factor: Bracket, guess: u64) -> i
     out.write_all(b"U")?;
     print_row::<High, W>(out, by_lower)?;
     let lower = by_upper.steps_left::<Low>(TESTS);
-    if LAST_GUESS < lower.first {
-        return Ok(LAST_GUESS);
-    }
-    Ok(lower.first)
+    Ok(lower.first.min(LAST_GUESS))
 }
 
+// `factors` are those that the engine lends: lower, upper, term by term.
 fn print_terms<W: Write>(out: &mut W, factors: &[u64; 240]) -> io::Result<()> {
     let mut guess = 0;
-    for t in 0..120 {
-        let factor = Bracket {
-            lower: factors[2 * t],
-            upper: factors[2 * t + 1],
-        };
-        guess = print_term(out, t + 1, factor, guess)?;
+    let (brackets, _) = factors.as_chunks::<2>();
+    // i is not only an index: a row has the term, which is i + 1.
+    for (i, &[lower, upper]) in brackets.iter().enumerate() {
+        guess = print_term(out, i + 1, Bracket { lower, upper }, guess)?;
     }
     Ok(())
 }

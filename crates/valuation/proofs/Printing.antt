@@ -1,16 +1,8 @@
 -- What is printed is the listing of what was read. Assumes nothing.
-use Rattle.std.proofs.Common.{◌≡◌, inl, inr, ℕ, ◌≤◌, ◌<◌, ◌++◌, List, [], Option, Some, None, Ok, Err, Result, OnOk, arith, length, take, sym, ap, subst, ◌∙◌, length-take-le, take_at, append-nil, take_all}
-use Rattle.std.proofs.lemmas.Result.{err_from_is_err_and}
+use Rattle.std.proofs.Common.{◌≡◌, inl, inr, ℕ, ◌≤◌, ◌<◌, ◌++◌, List, [], Option, Some, None, arith, length, take, sym, ap, subst, ◌∙◌, length-take-le, take_at, append-nil, take_all}
 use Rattle.std.proofs.Math.Nat.{eq-or-lt_of_le}
-use Rattle.std.specs.Result.{MatchResult, IsErrAnd}
 use Rattle.std.specs.Io.KnownBytes.{Consumes, IsAtEnd, Appends}
 use Rattle.valuation.specs.Printed.{listingOf, Printed}
-
--- what holds where a result is good holds there with the error mapped too
-pub on-mapped : {T E F P Q : Type 0} (R : E → F → Type 0) (a : Result T E) (b : Result T F) → MatchResult a (λ x. b ≡ Ok x) (λ e. IsErrAnd b (R e))
-    → (P → Q) → OnOk a P → OnOk b Q
-on-mapped {Q = Q} R (Ok x) b mapped f p = subst (λ r. OnOk r Q) (sym mapped) (f p)
-on-mapped {Q = Q} R (Err e) b mapped f p = subst (λ r. OnOk r Q) (sym (err_from_is_err_and b mapped).1) tt
 
 -- where the reader has no byte left, or as many as there was room for were read, these are the first of its bytes
 first-bytes : (room n : ℕ) (bytes rest file : List ℕ) → length file ≡ room → n ≤ room → bytes ≡ take n file ++ rest

@@ -1,3 +1,2 @@
--- Both have to be believed. Printed: what the program prints. Unread: what an input that cannot be read leaves.
+-- Printed has to be believed: what the program prints.
 pub mod Printed
-pub mod Unread

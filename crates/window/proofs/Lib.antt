@@ -1,4 +1,5 @@
 -- Laws that the proofs of the functions cite, and the theorem that the window shows every factor and figure of an accepted case.
+pub mod Chunks
 pub mod Whole
 pub mod Points
 pub mod Shown

@@ -1,12 +1,15 @@
 -- What a point shows, by its number and by the sizes of its ends. Assumes nothing.
 use mathlib.Core.Path.{◌≡◌}
-use mathlib.Core.Bool.{cond}
+use mathlib.Core.Bool.{true, false, cond}
 use mathlib.Core.List.{List}
 use Prim.Native.Nat.{ℕ, ◌*◌, ◌-◌, ◌^◌, ◌≤◌, ◌<◌}
 use native.Mathlib.Omega.{arith}
 use lib.ListN.{length, get_or}
 use borrow.Author.Tests.{le-leb, lt-leb}
-use Rattle.method.specs.Window.{holds, figuresInOrder, factorPoint, moneyPoint, factorBracket, windowPoint}
+use Rattle.std.specs.Prelude.{Option, Some, None, MatchOption, Float}
+use Rattle.method.specs.Window.{double, holds, figuresInOrder, factorPoint, moneyPoint, factorBracket, windowPoint}
+use Rattle.model.specs.declared.window.Doubles.{Doubles}
+use Rattle.window.specs.Holds.{Holds}
 use Rattle.arith.specs.declared.bracket.Bracket.{Bracket}
 use Rattle.model.specs.declared.figures.Figures.{Figures}
 use Rattle.model.specs.declared.window.Point.{Point}
@@ -16,6 +19,13 @@ use Rattle.model.specs.declared.window.Point.TheVariants.{Blank}
 module _ (b : Bracket) (point : Point) where
   pub held : b.lower ≤ 2 ^ 53 → b.upper ≤ 2 ^ 53 → cond (holds b) point Blank ≡ point
   held h g = simp (le-leb b.lower (2 ^ 53) h, le-leb b.upper (2 ^ 53) g)
+
+-- the point of two doubles, if they are there, is that of the bracket that they hold
+pub point-of : (b : Bracket) (kind : Float → Float → Point) (d : Option Doubles) (p : Point)
+    → MatchOption d (holds b ≡ false) (λ e. (holds b ≡ true) × Holds e.lower b.lower × Holds e.upper b.upper)
+    → MatchOption d (p ≡ Blank) (λ e. p ≡ kind e.lower e.upper) → p ≡ cond (holds b) (kind (double b.lower) (double b.upper)) Blank
+point-of b kind None p blank is = rw blank is
+point-of b kind (Some e) p (held-both, lower, upper) is = rw (held-both, ← lower.is, ← upper.is) is
 
 abbrev pub noBracket : Bracket
 noBracket = record { lower = 0; upper = 0 }

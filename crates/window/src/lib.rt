@@ -19,30 +19,13 @@ pub fn doubles(b: Bracket) -> Option<Doubles>
     if LARGEST < b.lower || LARGEST < b.upper {
         return None;
     }
+    // By `as`, since std has no `From` from 64 bits to a double.
     let lower = b.lower as f64;
     let upper = b.upper as f64;
     Some(Doubles { lower, upper })
 }
 
-fn factor_point(b: Bracket) -> Point
-    ensures { result ≡ factorPoint b }
-{
-    match doubles(b) {
-        Some(ends) => Point::Factor(ends.lower, ends.upper),
-        None => Point::Blank,
-    }
-}
-
-fn money_point(b: Bracket) -> Point
-    ensures { result ≡ moneyPoint b }
-{
-    match doubles(b) {
-        Some(ends) => Point::Money(ends.lower, ends.upper),
-        None => Point::Blank,
-    }
-}
-
-// The money figures in the order of the points.
+// The money figures in the order of the points. Field by field, since C's struct has no list of its fields.
 fn in_order(f: Figures) -> [Bracket; 10]
     ensures { result ≡ figuresInOrder f }
 {
@@ -56,15 +39,19 @@ pub fn window_point(point: u64, factors: &[u64], figures: Figures) -> Point
 {
     match point {
         1..=120 => {
-            let at = 2 * (point as usize - 1);
-            if factors.len() < at + 2 {
+            let (brackets, _) = factors.as_chunks::<2>();
+            let Some(&[lower, upper]) = brackets.get(point as usize - 1) else {
                 return Point::Blank;
-            }
-            let lower = factors[at];
-            let upper = factors[at + 1];
-            factor_point(Bracket { lower, upper })
+            };
+            doubles(Bracket { lower, upper }).map_or(
+                Point::Blank,
+                |d| Point::Factor(d.lower, d.upper),
+            )
         }
-        121..=130 => money_point(in_order(figures)[point as usize - 121]),
+        121..=130 => doubles(in_order(figures)[point as usize - 121]).map_or(
+            Point::Blank,
+            |d| Point::Money(d.lower, d.upper),
+        ),
         _ => Point::Blank,
     }
 }

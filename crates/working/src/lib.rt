@@ -4,7 +4,7 @@
 
 mod lend;
 
-ghost use Rattle.std.specs.Prelude.{◌≡◌, ◌≤◌, ◌++◌, length, drop};
+ghost use Rattle.std.specs.Prelude.{◌≡◌, ◌≤◌, length};
 ghost use Rattle.arith.specs.Brackets.{bracket};
 ghost use Rattle.method.specs.Curve.{base, Move};
 ghost use Rattle.method.specs.Rounded as Rounded;
@@ -81,12 +81,12 @@ pub fn money_of(case: &Case) -> Valuation
     money_at(case, &sums, &adjusted)
 }
 
-/// Values a case: writes the entries 0 to 239 of both lent buffers, and answers the figures and the verdict.
-pub fn value_case(case: &Case, factors: &mut [u64], rates: &mut [i64]) -> Valuation
-    requires { CaseFits case.now × (240 ≤ length factors.old) × (240 ≤ length rates.old) }
+/// Values a case: writes its factors and its zero rates, lower and upper, term by term, and answers the figures and the verdict.
+pub fn value_case(case: &Case, factors: &mut [u64; 240], rates: &mut [i64; 240]) -> Valuation
+    requires { CaseFits case.now }
     ensures value { result ≡ moneyOf case.now }
-    ensures factors { factors.new ≡ factorsOn case.now base ++ drop 240 factors.old }
-    ensures rates { rates.new ≡ ratesOn case.now ++ drop 240 rates.old }
+    ensures factors { factors.new ≡ factorsOn case.now base }
+    ensures rates { rates.new ≡ ratesOn case.now }
 {
     let sums = sums_of(case);
     let adjusted = sums.map(CurveSums::factors);

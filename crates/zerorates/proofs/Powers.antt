@@ -2,7 +2,7 @@
 use Prim.Native.Nat.{ℕ, suc, ◌+◌, ◌*◌, ◌/◌, ◌%◌, ◌-◌, ◌^◌, ◌≤◌, ◌<◌}
 use mathlib.Core.Path.{◌≡◌, refl, sym, ap, subst, ◌∙◌}
 use native.Mathlib.Omega.{arith}
-use native.Mathlib.Nat.{le_trans, mul-le-mul, mul-le-mul_left, pow-zero, pow-suc, div-div-eq-div-mul, div-le_self}
+use native.Mathlib.Nat.{le_trans, mul-le-mul, mul-le-mul_left, pow-zero, pow-suc, div-div-eq-div-mul, div-le_self, one-le-pow}
 use lib.Pow.{pow-add}
 use Rattle.arith.specs.inner.Range.{Small, BothIn, Pairwise}
 use Rattle.arith.specs.Rounding.{End, low, high, divide}
@@ -16,7 +16,6 @@ use Rattle.arith.specs.declared.bracket.Bracket.{Bracket}
 use Rattle.theory.proofs.curve.Bracket.{Bounded}
 use Rattle.theory.proofs.curve.Steps.{prod, ends}
 use Rattle.theory.proofs.general.Lists.{every-le}
-use Rattle.theory.proofs.general.Powers.{pow_pos}
 use Rattle.zerorates.specs.inner.Powers.{Encloses, powerMost}
 use Rattle.zerorates.specs.inner.Ranges.{StepWithin}
 
@@ -40,7 +39,7 @@ module _ {x : Bracket} {t i m : ℕ} where
   enclosed f e k most = rw e (record { lower = (k low).is.le; upper = (k high).is.le; most = most })
 
   lower-most : Encloses x t i m → x.lower ≤ m
-  lower-most k = le_trans (ends (pow_pos (98000 + i) t (omega arith)) (bounded k low) (bounded k high)) k.most
+  lower-most k = le_trans (ends (one-le-pow t (98000 + i) (omega arith)) (bounded k low) (bounded k high)) k.most
 
 -- ---- products, in units of 2^-30
 abbrev product : Bracket → Bracket → End → ℕ

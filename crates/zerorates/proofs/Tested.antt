@@ -2,6 +2,7 @@
 -- Assumes nothing.
 use Prim.Native.Nat.{ℕ, ◌+◌, ◌*◌, ◌^◌, ◌≤◌, ◌<◌}
 use mathlib.Core.Path.{◌≡◌, refl}
+use native.Mathlib.Nat.{one-le-pow}
 use Rattle.std.specs.Ordering.{nat_cmp}
 use Rattle.std.specs.Cmp.{nat_cmp_is}
 use Rattle.std.specs.declared.cmp.Ordering.TheVariants.{Less, Greater}
@@ -17,7 +18,6 @@ use Rattle.arith.specs.Brackets.{bracket, end_of}
 use Rattle.arith.specs.declared.bracket.Bracket.{Bracket}
 use Rattle.theory.proofs.general.ByEnds.{end_is}
 use Rattle.theory.proofs.general.Lists.{every-le}
-use Rattle.theory.proofs.general.Powers.{pow_pos}
 use Rattle.theory.proofs.curve.Steps.{ends, scaled-in, scaled-ends, widthAfter}
 use Rattle.theory.proofs.curve.RateTests.{tested-small, tested-width}
 use Rattle.zerorates.specs.inner.Powers.{Encloses, powerMost}
@@ -49,7 +49,7 @@ near t = every-le widthAfter (λ _. 1000) 121 t refl
 module _ {x r : Bracket} {t i : ℕ} (w : StepWithin t i) (p : Encloses x t i (powerMost t))
     (is : r ≡ bracket (λ e. divide e (end_of x e * 5 ^ 12) (2 ^ 18))) where
   some : 0 < (98000 + i) ^ t
-  some = pow_pos (98000 + i) t (omega arith)
+  some = one-le-pow t (98000 + i) (omega arith)
 
   widest : tested high t i ≤ tested low t i + 1000
   widest = omega (arith, tested-width t i, near t (omega (arith, w.term)))

@@ -30,7 +30,8 @@ impl TermStep {
         x
     }
 
-    /// Bounds of both results, from bounds of the unrounded result, which lies between them. 10^12 ÷ 2^30 is 5^12 ÷ 2^18.
+    /// Bounds of both results, from bounds of the unrounded result, which lies between them. 10^12 ÷ 2^30 is 5^12 ÷ 2^18. One end
+    /// goes down and the other up by `WIDEST`: no operation of `Bracket` does that.
     pub fn result_bounds(self) -> Bracket
         ensures { Results result self.term self.step }
     {

@@ -1,4 +1,5 @@
 -- `next_length`: the four bytes that were read are a length.
+-- The check leaves each of these goals open without its answer.
 use Rattle.std.proofs.Common.{◌≡◌, ◌∙◌, List, ℕ, take, arith}
 use lib.Seq.{take_all}
 use Rattle.std.specs.Int.{from_be_bytes, w32}

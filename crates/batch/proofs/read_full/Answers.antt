@@ -1,4 +1,5 @@
 -- A turn puts what it has read behind what stands at the front.
+-- The check leaves each of these goals open without its answer.
 use Rattle.std.proofs.Common.{rules}
 use Rattle.batch.proofs.Reading.{consumes-more}
 use Rattle.batch.proofs.read_full.Goals as goal

@@ -1,5 +1,5 @@
 -- A curve as the code holds it, and the three curves of a case that the engine holds.
-use Rattle.std.specs.Prelude.{ℕ, zero, suc, ◌+◌, ◌*◌, ◌-◌, List, get_or, pos, ◌-ℤ◌}
+use Rattle.std.specs.Prelude.{ℕ, zero, suc, ◌+◌, ◌*◌, ◌-◌, get_or, pos, ◌-ℤ◌}
 use Rattle.model.specs.Constants.{stepsPerOne}
 use Rattle.model.specs.Numbers.{table}
 use Rattle.method.specs.Curve.{Curve, Move}

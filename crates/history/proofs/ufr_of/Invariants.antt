@@ -1,4 +1,4 @@
--- The months so far are right, and summed.
+-- After some turns that many months are right, and summed, and their sum is small.
 use Rattle.std.proofs.Common.{◌≡◌, ◌*◌, true}
 use Rattle.model.specs.Fields.{rightAll}
 use Rattle.monthsmodel.specs.Months.{month, total}
@@ -6,9 +6,9 @@ use Rattle.history.proofs.Means.{first}
 use Rattle.rolling.proofs.Sums.{Small}
 use Rattle.history.proofs.ufr_of.Given as goal
 
-abbrev pub invariant-loop-i : goal.invariant-loop-i
-invariant-loop-i l = record {
-  right : rightAll month (first l.history l.i) ≡ true;
-  sum : l.sum ≡ total (first l.history l.i);
-  small : Small (10000 * l.i) l.sum;
+abbrev pub invariant-loop-bytes : goal.invariant-loop-bytes
+invariant-loop-bytes l = record {
+  right : rightAll month (first l.history l.bytes-index) ≡ true;
+  sum : l.sum ≡ total (first l.history l.bytes-index);
+  small : Small (10000 * l.bytes-index) l.sum;
 }

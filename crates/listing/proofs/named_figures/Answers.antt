@@ -1,4 +1,5 @@
 -- `named_figures`: the names are those of the listing.
+-- The check leaves each of these goals open without its answer.
 use Rattle.std.proofs.Common.{◌≡◌, [], ◌∷◌}
 use mathlib.Core.List.{append_assoc}
 use Rattle.std.proofs.lemmas.List.{append-nil}

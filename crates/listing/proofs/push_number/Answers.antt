@@ -1,4 +1,5 @@
 -- `push_number`: a space, and the digits that itoa writes, which are those of the listing.
+-- The check leaves each of these goals open without its answer.
 use mathlib.Core.List.{append_assoc}
 use Rattle.model.specs.Numbers.{table}
 use Rattle.method.specs.Listing.{ascii}

@@ -1,4 +1,5 @@
 -- `write_listing`: the text goes to the front of the lent buffer, if it fits.
+-- The check leaves each of these goals open without its answer.
 use Rattle.listing.proofs.Texts.{short_length, short_kept, whole_length, whole_text}
 use Rattle.listing.proofs.write_listing.Goals as goal
 

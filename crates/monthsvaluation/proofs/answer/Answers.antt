@@ -1,9 +1,11 @@
 -- What is printed is the answer to the parts that were read, or nothing where the start index is not there.
+-- The check leaves each of these goals open without its answer.
 use Rattle.std.proofs.Common.{◌<◌, length, take, rules}
 use Rattle.std.specs.Io.KnownBytes.{IsAtEnd}
 use Rattle.batch.specs.Input.{LosesFront}
 use Rattle.monthsvaluation.specs.Answered.{PartRead}
-use Rattle.monthsvaluation.proofs.Answering.{on-mapped, no-start, answered}
+use Rattle.batch.proofs.Mapped.{on-mapped}
+use Rattle.monthsvaluation.proofs.Answering.{no-start, answered}
 use Rattle.monthsvaluation.proofs.answer.Goals as goal
 
 pub returns-then-branch-lt8-clause-answered : goal.returns-then-branch-lt8-clause-answered

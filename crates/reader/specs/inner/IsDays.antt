@@ -7,6 +7,6 @@ use Rattle.reader.specs.declared.days.Days.{Days}
 
 -- their sums, and their bytes, which stand behind the count
 pub record IsDays (w : ℕ) (file : Bor (List ℕ)) (at : ℕ) (v : Days) (ds : List (List ℤ)) : Type 0 where
-  pub sums : Sums w ds v.per_step v.sums
+  pub sums : Sums w ds v.summed.per_step v.summed.sums
   pub place : v.rates_at ≡ at + 1
   pub part : IsPart file v.rates (at + 1) (w * 60 * length ds)

@@ -1,6 +1,6 @@
 -- The sums of the rates over the days.
-use Rattle.std.specs.Prelude.{ℕ, zero, suc, ◌*◌, ◌≤◌, ◌<◌, ◌≡◌, Bool, List, [], length, get_or, ℤ, pos, neg_ℤ, ◌+ℤ◌, ◌-ℤ◌, ◌*ℤ◌}
-use Rattle.model.specs.Numbers.{number, table, twosComplement}
+use Rattle.std.specs.Prelude.{ℕ, zero, suc, ◌*◌, ◌<◌, ◌≡◌, Bool, List, length, get_or, ℤ, pos, neg_ℤ, ◌+ℤ◌, ◌-ℤ◌, ◌*ℤ◌}
+use Rattle.model.specs.Numbers.{table}
 use Rattle.model.specs.Constants.{stepsPerOne}
 use Rattle.model.specs.Case.{unitsPerStep, s}
 use Rattle.model.specs.Limits.{Between}
@@ -10,10 +10,6 @@ use Rattle.method.specs.Curve.{natural}
 -- none of the 60 sums is further from 0
 pub record Bounded (most : ℕ) (sums : List ℤ) : Type 0 where
   pub each : (t : ℕ) → t < 60 → Between (neg_ℤ (pos most)) (pos most) (get_or sums t (pos 0))
-
--- the rates that w bytes each are
-abbrev pub ratesIn : ℕ → List (List ℕ) → List ℤ
-ratesIn w chunks = table (λ t. twosComplement w (number (get_or chunks t []) 0 w)) 60
 
 -- each sum with the rate of its term
 abbrev pub added : List ℤ → List ℤ → List ℤ

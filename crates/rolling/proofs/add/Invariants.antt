@@ -1,5 +1,5 @@
 -- After t turns the rates of the first t terms are added.
-use Rattle.std.proofs.Common.{◌≡◌, ◌+ℤ◌, ◌++◌, drop, get_or, length, pos}
+use Rattle.std.proofs.Common.{◌≡◌, ◌+ℤ◌, ◌++◌, drop, get_or, pos}
 use Rattle.model.specs.Numbers.{table}
 use Rattle.rolling.proofs.add.Given as goal
 

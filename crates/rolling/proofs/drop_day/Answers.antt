@@ -1,5 +1,5 @@
--- `drop_day`: each refusal, and the window without its oldest day.
-use Rattle.std.proofs.Common.{◌≡◌, ◌∙◌, ◌<◌, ap, ap₂, arith, refl, sym}
+-- `drop_day`: each refusal, and the window without its oldest day. The check leaves each of these goals open without its answer.
+use Rattle.std.proofs.Common.{◌∙◌, ◌<◌, ap, arith, refl, sym}
 use Rattle.std.proofs.lemmas.Result.{err_from_is_err_and}
 use Rattle.rollingmodel.specs.Rolling.{slot, dayIn}
 use Rattle.rolling.proofs.Windows.{none-told, drop-27, drop-16, drop-0, window-small}
@@ -19,8 +19,8 @@ returns-in_err-slot c =
     let never : 0 < c.in_ok-place.place.count → ⊥ = λ l. told.1 (c.oldest.ensures.some.1 l) in
     rw (p.1, p.2, told.0) (drop-16 c.args.w.now place.0 (omega (arith, never, place.1)))
 
-pub subtract-requires-clause-small : goal.subtract-requires-clause-small
-subtract-requires-clause-small c = window-small c.args.w.now c.in_ok-place.ensures.ok.0
+pub subtract-requires : goal.subtract-requires
+subtract-requires c = window-small c.args.w.now c.in_ok-place.ensures.ok.0
 
 pub returns : goal.returns
 returns c =
@@ -29,4 +29,4 @@ returns c =
     let some = (rw c.in_ok-slot.ensures.ok_part at c.oldest.ensures.some).0 refl in
     let first = rw c.in_ok-slot.ensures.ok_part at c.oldest.ensures.slot in
     let next = c.slot.ensures.slot ∙ ap (λ k. slot 70 k 1) start in
-    drop-0 w right (omega (arith, some, count)) (c.day_in-oldest.ensures.day ∙ ap (dayIn w.rates) (first ∙ start)) c.subtract.ensures next
+    drop-0 w right (omega (arith, some, count)) (c.day_in-oldest.ensures ∙ ap (dayIn w.rates) (first ∙ start)) c.subtract.ensures next

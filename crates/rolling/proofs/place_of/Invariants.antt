@@ -1,4 +1,4 @@
--- After i turns of `place_of` the first i days are right, and summed.
+-- After i turns of `place_of` the first i days are right, and summed. The place is the one that the window tells.
 use Rattle.std.proofs.Common.{◌≡◌, true}
 use Rattle.model.specs.Fields.{rightAll}
 use Rattle.model.specs.Layout.{day}
@@ -8,6 +8,8 @@ use Rattle.rolling.proofs.place_of.Given as goal
 
 abbrev pub invariant-loop-i : goal.invariant-loop-i
 invariant-loop-i l = record {
+  count : l.place.count ≡ l.w.count;
+  start : l.place.start ≡ l.w.start;
   right : rightAll (day 2) (firstDays l.w l.i) ≡ true;
   sums : l.sums ≡ sumsOf (firstDays l.w l.i);
 }

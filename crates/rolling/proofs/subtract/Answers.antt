@@ -1,9 +1,8 @@
--- `subtract`: a rate is taken away, and at the end all are.
-use Rattle.std.proofs.Common.{FitsSigned, ℤ, ◌≡◌, ◌+ℤ◌, ◌≤ℤ◌, ◌∙◌, arith, get_or, neg_ℤ, pos, refl, rules, w16, w64}
-use Rattle.std.proofs.lemmas.Int.{ints, to_z-of_z}
+-- `subtract`: a rate is taken away. The check leaves each of these goals open without its answer.
+use Rattle.std.proofs.Common.{FitsSigned, arith, get_or, pos, refl, rules, w16}
 use Rattle.model.specs.Numbers.{table}
-use Rattle.theory.proofs.general.Lists.{table_filled, all-filled}
-use Rattle.rolling.proofs.Sums.{entry_kept}
+use Rattle.theory.proofs.general.Lists.{table_filled}
+use Rattle.rolling.proofs.Sums.{subtract-fits, subtract-is}
 use Rattle.rolling.proofs.subtract.Goals as goal
 
 pub loop-t-init : goal.loop-t-init
@@ -13,25 +12,12 @@ loop-t-init c = refl
 pub overflow_sub-sum : goal.overflow_sub-sum
 overflow_sub-sum c =
     let l = c.loop-t in
-    let kept = entry_kept _ c.args.sums.now l.sums l.t (omega arith) l.invariant in
-    let low = c.requires.small.low l.t (omega arith) in
-    let high = c.requires.small.high l.t (omega arith) in
-    let rate = get_or c.args.oldest.now l.t (pos 0) in
-    let fits : FitsSigned w16 rate = search rules in
-    omega (arith, ints)
+    let fits : FitsSigned w16 (get_or c.args.oldest.now l.t (pos 0)) = search rules in
+    subtract-fits _ l.t (omega arith) c.told-sums c.requires l.invariant fits c.from.ensures
 
 pub loop-t-preserved : goal.loop-t-preserved
 loop-t-preserved c =
     let l = c.loop-t in
-    let kept = entry_kept _ c.args.sums.now l.sums l.t (omega arith) l.invariant in
-    let low = c.requires.small.low l.t (omega arith) in
-    let high = c.requires.small.high l.t (omega arith) in
-    let rate = get_or c.args.oldest.now l.t (pos 0) in
-    let fits : FitsSigned w16 rate = search rules in
-    table_filled _ c.args.sums.now l.sums l.t _ (omega arith) (omega (arith, ints)) l.invariant
-
-pub returns : goal.returns
-returns c =
-    let l = c.loop-t in
-    let all : l.t ≡ 60 = omega arith in
-    all-filled c.args.sums.now l.sums (table _ l.t) l.t (omega arith) l.invariant ∙ rw all
+    let fits : FitsSigned w16 (get_or c.args.oldest.now l.t (pos 0)) = search rules in
+    let sum = subtract-is _ l.t (omega arith) c.told-sums c.requires l.invariant fits c.from.ensures in
+    table_filled _ c.args.sums.now l.sums l.t _ (omega arith) sum l.invariant

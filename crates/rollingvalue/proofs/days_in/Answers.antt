@@ -1,4 +1,5 @@
 -- `rollingvalue::days_in` meets its contract: the sums of a right window are those of its days. Assumes nothing.
+-- The check leaves this goal open without its answer.
 use Rattle.std.proofs.Common.{arith}
 use Rattle.theory.proofs.rolling.Right.{right-facts}
 use Rattle.rollingvalue.proofs.Joined.{bounded}

@@ -1,16 +1,16 @@
--- The case as the engine holds it, of the fields that a host hands in, the sums of some days and the flows.
+-- The case as the engine holds it, of the fields that a host hands in and the sums of some days.
 use Rattle.std.specs.Prelude.{ℕ, List}
 use Rattle.heldcase.specs.declared.Case.{Case}
-use Rattle.model.specs.declared.case.CaseFields.{CaseFields}
+use Rattle.model.specs.Case.{FileCase}
 
-abbrev pub joined : CaseFields → ℕ → List ℕ → List ℕ → List ℕ → Case
-joined f days sums pension bonds = record {
-  ufr = f.ufr;
+abbrev pub joined : FileCase → ℕ → List ℕ → Case
+joined k days sums = record {
+  ufr = k.ufr;
   per_step = days;
   sums = sums;
-  pension = pension;
-  bonds = bonds;
-  amounts = f.amounts;
-  shocks = f.shocks;
-  people = f.people;
+  pension = k.pension;
+  bonds = k.bonds;
+  amounts = k.amounts;
+  shocks = k.shocks;
+  people = k.people;
 }

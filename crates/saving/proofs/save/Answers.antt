@@ -1,27 +1,27 @@
--- `save`: a refusal of the case, one for want of room, and the bytes.
+-- `save`: a refusal of the case, one for want of room, and the bytes. The check leaves each of these goals open without its answer.
 use Rattle.std.proofs.Common.{sym}
 use Rattle.std.proofs.lemmas.Result.{err_from_is_err_and}
 use Rattle.rolling.proofs.Windows.{none-told}
-use Rattle.savingmodel.specs.Saving.{given}
+use Rattle.saving.specs.Said.{said}
 use Rattle.saving.proofs.Saves.{refused, room-refused, written}
 use Rattle.saving.proofs.save.Goals as goal
 
 pub returns-in_err-file-clause-value : goal.returns-in_err-file-clause-value
 returns-in_err-file-clause-value c =
     let a = c.args in
-    let k = given a.f.now a.rates.now a.pension.now a.bonds.now in
+    let k = said a.case.now in
     let p = err_from_is_err_and c.from_residual.result c.from_residual.ensures.1 in
     rw (p.1, p.2) (refused k a.out.now c.in_err-file.field-0.0 c.in_err-file.ensures.refusal).0
 
 pub returns-in_err-file-clause-buffer : goal.returns-in_err-file-clause-buffer
 returns-in_err-file-clause-buffer c =
     let a = c.args in
-    (refused (given a.f.now a.rates.now a.pension.now a.bonds.now) a.out.now c.in_err-file.field-0.0 c.in_err-file.ensures.refusal).1
+    (refused (said a.case.now) a.out.now c.in_err-file.field-0.0 c.in_err-file.ensures.refusal).1
 
 pub returns-in_err-left-clause-value : goal.returns-in_err-left-clause-value
 returns-in_err-left-clause-value c =
     let a = c.args in
-    let k = given a.f.now a.rates.now a.pension.now a.bonds.now in
+    let k = said a.case.now in
     let file = c.in_ok-file.ensures in
     let told = none-told c.room_after.result _ _ (sym c.in_err-left.ensures.value) in
     let short = rw c.in_err-left.ensures.ok_part at c.room_after.ensures in
@@ -31,7 +31,7 @@ returns-in_err-left-clause-value c =
 pub returns-in_err-left-clause-buffer : goal.returns-in_err-left-clause-buffer
 returns-in_err-left-clause-buffer c =
     let a = c.args in
-    let k = given a.f.now a.rates.now a.pension.now a.bonds.now in
+    let k = said a.case.now in
     let file = c.in_ok-file.ensures in
     let told = none-told c.room_after.result _ _ (sym c.in_err-left.ensures.value) in
     let short = rw c.in_err-left.ensures.ok_part at c.room_after.ensures in
@@ -40,7 +40,7 @@ returns-in_err-left-clause-buffer c =
 pub returns-clause-value : goal.returns-clause-value
 returns-clause-value c =
     let a = c.args in
-    let k = given a.f.now a.rates.now a.pension.now a.bonds.now in
+    let k = said a.case.now in
     let file = c.in_ok-file.ensures in
     let fits = rw c.in_ok-left.ensures.ok_part at c.room_after.ensures in
     (written k a.out.now file.refusal file.bytes fits c.write_front.ensures).0
@@ -48,7 +48,7 @@ returns-clause-value c =
 pub returns-clause-buffer : goal.returns-clause-buffer
 returns-clause-buffer c =
     let a = c.args in
-    let k = given a.f.now a.rates.now a.pension.now a.bonds.now in
+    let k = said a.case.now in
     let file = c.in_ok-file.ensures in
     let fits = rw c.in_ok-left.ensures.ok_part at c.room_after.ensures in
     (written k a.out.now file.refusal file.bytes fits c.write_front.ensures).1

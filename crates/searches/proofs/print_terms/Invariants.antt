@@ -2,5 +2,5 @@
 use Rattle.std.proofs.Common.{◌≤◌}
 use Rattle.searches.proofs.print_terms.Given as goal
 
-abbrev pub invariant-loop-t : goal.invariant-loop-t
-invariant-loop-t g l = l.guess ≤ 21998
+abbrev pub invariant-loop-i : goal.invariant-loop-i
+invariant-loop-i g l = l.guess ≤ 21998

@@ -8,12 +8,13 @@ use native.Mathlib.Nat.{pow-suc, add-suc, add-zero, div-div-eq-div-mul, div-eq_o
 use native.Mathlib.Omega.{arith}
 use borrow.Author.Tests.{eqb-true, eqb-false, not-true}
 use lib.Dec.{eqb, lit≤}
+use Rattle.std.specs.Cmp.{first_so, second_so}
 use Rattle.model.specs.Numbers.{every}
 use Rattle.model.specs.Case.{knownForm}
 use Rattle.model.specs.Layout.{Present, mapOf, stands, rateBytesIn, presentIn}
 use Rattle.model.specs.Refusals.{exactlyOne, bitsRight}
 use Rattle.theory.proofs.acceptance.Form.{by_form}
-use Rattle.theory.proofs.general.Lists.{and_first, and_second, every-at}
+use Rattle.theory.proofs.general.Lists.{every-at}
 
 -- where the n bits from bit i on do not stand and no bit above them does, no bit from i on does
 pub none_from : (m i n : ℕ) → every (λ j. not (stands (i + j) m)) n ≡ true → m / 2 ^ (i + n) ≡ 0 → m / 2 ^ i ≡ 0
@@ -24,8 +25,8 @@ none_from m i (suc n) h z =
     let q = m / 2 ^ (i + n) in
     let e : 2 ^ (i + n) * 2 ≡ 2 ^ (i + suc n) = rw (add-suc, pow-suc) in
     let c : q / 2 ≡ 0 = div-div-eq-div-mul m (2 ^ (i + n)) 2 ∙ ap (λ k. m / k) e ∙ z in
-    let b = eqb-false (q % 2) 1 (not-true (stands (i + n) m) (and_second front (not (stands (i + n) m)) h)) in
-    none_from m i n (and_first front (not (stands (i + n) m)) h) (half q c b)
+    let b = eqb-false (q % 2) 1 (not-true (stands (i + n) m) (second_so front (not (stands (i + n) m)) h)) in
+    none_from m i n (first_so front (not (stands (i + n) m)) h) (half q c b)
   where
     half : (q : ℕ) → q / 2 ≡ 0 → (q % 2 ≡ 1 → ⊥) → q ≡ 0
     half q e b = omega arith
@@ -36,8 +37,8 @@ one-days-field m h =
     let two = one && stands 2 m in
     let five = two && stands 5 m in
     let six = five && stands 6 m in
-    and_first one (stands 2 m)
-    (and_first two (stands 5 m) (and_first five (stands 6 m) (and_first six (every (λ j. not (stands (8 + j) m)) 8) h)))
+    first_so one (stands 2 m)
+    (first_so two (stands 5 m) (first_so five (stands 6 m) (first_so six (every (λ j. not (stands (8 + j) m)) 8) h)))
 
 -- a map below 256 whose bits are right is that of the fields it announces: computed of each
 test : ℕ → Bool
@@ -51,7 +52,7 @@ pub map-of-present : (m : ℕ) → m < 65536 → bitsRight m ≡ true → mapOf 
 unfolding test
 map-of-present m l h =
     let must = exactlyOne (stands 1 m) (stands 7 m) && stands 2 m && stands 5 m && stands 6 m in
-    let k = and_second must (every (λ j. not (stands (8 + j) m)) 8) h in
+    let k = second_so must (every (λ j. not (stands (8 + j) m)) 8) h in
     let z : m / 256 ≡ 0 = none_from m 8 8 k (div-eq_of_lt l) in
     let t = every-at test 256 m tested (omega arith) in
     sym (eqb-true m (mapOf (rateBytesIn m) (presentIn m)) (rw h at t))

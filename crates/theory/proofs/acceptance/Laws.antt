@@ -11,21 +11,23 @@ use native.Mathlib.Omega.{arith}
 use borrow.Author.Tests.{le-leb, leb-true, eqb-true, eq-eqb}
 use lib.Dec.{T, leb, eqb, lit<, lit≤}
 use lib.ListN.{length, get_or, drop, length-append}
+use Rattle.std.proofs.lemmas.Bool.{and_from}
+use Rattle.std.specs.Cmp.{first_so, second_so}
 use Rattle.model.specs.Numbers.{bytes_of, Bytes}
 use Rattle.model.specs.Fields.{Check, within, Fixed, number_of, pair_of, bytesAll, valueAll, rightAll, several, named}
 use Rattle.model.specs.Fields.{Field, field, counted, optional, ◌then◌}
 use Rattle.model.specs.Refusals.{first_of}
-use Rattle.theory.proofs.general.Lists.{◌also◌, and_first, and_second, and_both}
+use Rattle.theory.proofs.general.Lists.{◌also◌}
 use Rattle.theory.proofs.acceptance.Checks.{Hold, hold-append, hold-parts, numbered, numbered-append}
 use Rattle.theory.proofs.acceptance.Encoding.{length-bytes, number-written, number_read, byte-written, byte-read, behind, reached}
 use Rattle.theory.proofs.acceptance.Runs.{values_length}
 
 -- a test of a number, both ways
 within-true : (least most v : ℕ) → within least most v ≡ true → (least ≤ v) × (v ≤ most)
-within-true least most v h = search (leb-true, and_first, and_second)
+within-true least most v h = search (leb-true, first_so, second_so)
 
 within-test : (least most v : ℕ) → (least ≤ v) × (v ≤ most) → within least most v ≡ true
-within-test least most v h = and_both (leb least v) (leb v most) (le-leb least v h.0) (le-leb v most h.1)
+within-test least most v h = and_from (leb least v) (leb v most) (le-leb least v h.0) (le-leb v most h.1)
 
 -- ---- what has the same number of bytes whatever its value
 
@@ -56,7 +58,7 @@ pub pair-lawful : {A B : Type 0} {x : Fixed A} {y : Fixed B} {X : A → Type 0} 
 pair-lawful {x = x} {y = y} lx ly = record {
   long = λ v h. length-append (x.bytes v.0) (y.bytes v.1) ∙ rw (lx.long v.0 h.0, ly.long v.1 h.1);
   tested = λ v h. rw (lx.tested v.0 h.0, ly.tested v.1 h.1);
-  within = λ v h. search (lx.within, ly.within, and_first, and_second);
+  within = λ v h. search (lx.within, ly.within, first_so, second_so);
   written = λ file b at l.
       let e : at + (x.size + y.size) ≡ at + x.size + y.size = omega arith in
       rw (e, append_assoc, ly.written file b (at + x.size) (omega arith)) (lx.written file b at (omega arith));
@@ -82,7 +84,7 @@ module _ {A : Type 0} {x : Fixed A} {W : A → Type 0} (l : LawfulFixed x W) whe
 
   all-within : (vs : List A) → rightAll x vs ≡ true → WithinAll W vs
   all-within [] h = tt
-  all-within (v ∷ vs) h = search (l.within, all-within vs, and_first, and_second)
+  all-within (v ∷ vs) h = search (l.within, all-within vs, first_so, second_so)
 
   all-written : (file : List ℕ) → Bytes file → (at n : ℕ) → at + x.size * n ≤ length file
       → bytesAll x (valueAll x file at n) ++ drop (at + x.size * n) file ≡ drop at file
@@ -105,7 +107,7 @@ module _ {A : Type 0} {x : Fixed A} {W : A → Type 0} (l : LawfulFixed x W) whe
     tested = λ vs h. rw (eq-eqb (length vs) n h.0) (all_tested vs h.1);
     within = λ vs h.
         let counts = eqb (length vs) n in
-        (eqb-true (length vs) n (and_first counts (rightAll x vs) h), all-within vs (and_second counts (rightAll x vs) h));
+        (eqb-true (length vs) n (first_so counts (rightAll x vs) h), all-within vs (second_so counts (rightAll x vs) h));
     written = λ file b at. all-written file b at n;
     read = λ file at vs rest h e. ap (valueAll x file at) (sym h.0) ∙ all_read file at vs rest h.1 e;
   }

@@ -1,15 +1,15 @@
 -- A run of one kind, one value more at its end: its values are defined from the front, and a loop appends them one by one.
 use mathlib.Core.Path.{◌≡◌, refl, ap, ◌∙◌}
-use mathlib.Core.Bool.{Bool, true, false, ◌&&◌}
+use mathlib.Core.Bool.{Bool, true, false, ◌&&◌, and-true}
 use mathlib.Core.List.{List, [], ◌∷◌, ◌++◌}
 use Prim.Native.Nat.{ℕ, zero, suc, ◌+◌, ◌*◌, ◌<◌}
 use native.Mathlib.Nat.{not-suc-le-zero, le_of_suc-le-suc}
 use native.Mathlib.Omega.{arith}
 use lib.ListN.{length, get_or, take}
 use lib.Seq.{take-suc}
+use Rattle.std.specs.Cmp.{first_so, second_so}
 use Rattle.model.specs.Numbers.{table}
 use Rattle.model.specs.Fields.{Fixed, valueAll, rightAll}
-use Rattle.theory.proofs.general.Lists.{and-true, and_first, and_second}
 
 module _ {A : Type 0} (x : Fixed A) where
   pub right-more : (vs : List A) (v : A) → rightAll x (vs ++ (v ∷ [])) ≡ (rightAll x vs && x.right v)
@@ -27,8 +27,8 @@ module _ {A : Type 0} (x : Fixed A) where
   -- one of them
   pub right-at : (vs : List A) (i : ℕ) (d : A) → i < length vs → rightAll x vs ≡ true → x.right (get_or vs i d) ≡ true
   right-at [] i d l h = absurd (not-suc-le-zero l)
-  right-at (v ∷ vs) zero d l h = and_first (x.right v) (rightAll x vs) h
-  right-at (v ∷ vs) (suc i) d l h = right-at vs i d (le_of_suc-le-suc l) (and_second (x.right v) (rightAll x vs) h)
+  right-at (v ∷ vs) zero d l h = first_so (x.right v) (rightAll x vs) h
+  right-at (v ∷ vs) (suc i) d l h = right-at vs i d (le_of_suc-le-suc l) (second_so (x.right v) (rightAll x vs) h)
 
 module _ {A : Type 0} (x : Fixed A) (file : List ℕ) where
   pub values_length : (at n : ℕ) → length (valueAll x file at n) ≡ n

@@ -10,6 +10,7 @@ use lib.Dec.{T, eqb, lit<, lit≤}
 use lib.ListN.{length, get_or}
 use lib.IntN.{ℤ, pos, neg_ℤ}
 use lib.Signed.{le_z}
+use Rattle.std.specs.Cmp.{first_so, second_so}
 use Rattle.model.specs.Constants.{defaultUfr}
 use Rattle.model.specs.Numbers.{number, unsigned}
 use Rattle.model.specs.Case.{FileCase, knownForm, unitsPerStep, perStep}
@@ -19,7 +20,7 @@ use Rattle.model.specs.Layout.{day, days, rate, flow, amountsFrom, amountsInOrde
 use Rattle.model.specs.inner.Positions.{ufrField}
 use Rattle.model.specs.Layout.{peopleFrom, peopleInOrder, people, Present, Parts, layout, parts_of, Agrees}
 use Rattle.model.specs.Refusals.{forwardsRight}
-use Rattle.theory.proofs.general.Lists.{and_first, and_second, every-at, every-all}
+use Rattle.theory.proofs.general.Lists.{every-at, every-all}
 use Rattle.theory.proofs.acceptance.Encoding.{length-bytes, number_small, number-written, number_read, written-signed, read-signed}
 use Rattle.theory.proofs.acceptance.Form.{by_form}
 use Rattle.theory.proofs.acceptance.Laws.{LawfulFixed, fixed-as, number-lawful, pair-lawful, WithinAll, several-lawful, named-lawful}
@@ -30,8 +31,8 @@ use Rattle.theory.proofs.acceptance.Laws.{Limited, limited-as, field-limited, co
 
 between-true : {a b z : ℤ} → withinZ a b z ≡ true → Between a b z
 between-true {a} {b} {z} h = record {
-  least = record { le = rw (and_first (le_z a z) (le_z z b) h) tt };
-  most = record { le = rw (and_second (le_z a z) (le_z z b) h) tt };
+  least = record { le = rw (first_so (le_z a z) (le_z z b) h) tt };
+  most = record { le = rw (second_so (le_z a z) (le_z z b) h) tt };
 }
 
 between-test : {a b z : ℤ} → Between a b z → withinZ a b z ≡ true

@@ -6,7 +6,7 @@ use Prim.Native.Nat.{ℕ, zero, suc, ◌+◌, ◌-◌, ◌*◌, ◌^◌, ◌≤�
 use mathlib.Core.Path.{◌≡◌, refl, sym, ◌∙◌, ap}
 use mathlib.Core.Bool.{Bool, true, false, cond}
 use native.Mathlib.Omega.{arith}
-use native.Mathlib.Nat.{le_trans, mul-le-mul_left, pow-suc}
+use native.Mathlib.Nat.{le_trans, mul-le-mul_left, pow-suc, one-le-pow}
 use native.Mathlib.Decide.{dec_le}
 use borrow.Author.Tests.{le-leb, lt-leb, leb-true, leb-false}
 use lib.Dec.{leb, T, leb→le, le→leb, lit<, lit≤}
@@ -16,7 +16,6 @@ use Rattle.method.specs.Rounded.{stepAt, tested, lowerTest, upperTest, rateOf}
 use Rattle.method.specs.Brackets.{largest, smallest}
 use Rattle.searchmodel.specs.Bisection.{middle, leaves, halved, afterTests, rateTest, stepsLeft, isLeft, howMany, countLeft, mostLeft, ShortSearch}
 use Rattle.searchmodel.specs.declared.StepsLeft.{StepsLeft}
-use Rattle.theory.proofs.general.Powers.{pow_pos}
 use Rattle.theory.proofs.general.Search.{largest-found, smallest-found, largest-splits, smallest-splits}
 use Rattle.theory.proofs.curve.RateTests.{tested-anti}
 
@@ -100,7 +99,7 @@ few-left j p k = rw (count-is p k.order k.most) (go (dec_le (p.last + 1 - p.firs
     go (yes h) = h
     go (no h) =
         let most : 2 ^ j * mostLeft j ≤ 2 ^ j * (p.last - p.first) = mul-le-mul_left (2 ^ j) (omega (arith, k.order)) in
-        omega (arith, most, k.near, (divide-ceiling 22001 (2 ^ j) (pow_pos 2 j (omega arith))).0)
+        omega (arith, most, k.near, (divide-ceiling 22001 (2 ^ j) (one-le-pow j 2 (omega arith))).0)
 
 -- ---- the rate is among them
 

@@ -5,6 +5,7 @@
 use Prim.Native.Nat.{ℕ, zero, suc, ◌+◌, ◌*◌, ◌-◌, ◌≤◌, ◌<◌}
 use mathlib.Core.Path.{◌≡◌, refl, ap, sym, ◌∙◌, subst}
 use mathlib.Core.List.{List, [], ◌∷◌}
+use native.Mathlib.Numerals.{sub-one}
 use native.Mathlib.Omega.{arith}
 use native.Mathlib.Nat.{mul-le-mul, mul-le-mul_left, mul-pos}
 use mathlib.Core.Bool.{Bool, true, false, cond}
@@ -106,13 +107,10 @@ module _ (units : ℕ) (days : List (List ℤ)) (w : DaysWithin units days) wher
       → Diff (forward days (suc t)) (suc t * sum_of (suc t) + t * (100000 * (units * length days))) (suc t * (100000 * (units * length days)) + t * sum_of t)
   forward-is t h =
       subst (λ (i : ℕ). Diff (pos (suc t) *ℤ s days (suc t) -ℤ pos i *ℤ s days i) (suc t * sum_of (suc t) + t * (100000 * (units * length days))) (suc t * (100000 * (units * length days)) + t * sum_of t))
-      (sym (sub-one t))
+      (sym (sub-one (suc t)))
       (diff-minus (pos (suc t) *ℤ s days (suc t)) (pos t *ℤ s days t) (suc t * sum_of (suc t)) (suc t * (100000 * (units * length days))) (t * sum_of t) (t * (100000 * (units * length days)))
       (diff-times (suc t) (s days (suc t)) (sum_of (suc t)) (100000 * (units * length days)) (sum_is (suc t) h).0)
       (diff-times t (s days t) (sum_of t) (100000 * (units * length days)) (sum_is t (omega arith)).0))
-    where
-      sub-one : (t : ℕ) → suc t - 1 ≡ t
-      sub-one t = omega arith
 
   forward-least : (t : ℕ) → suc t ≤ 60 → t * sum_of t + 98000 * (units * length days) ≤ suc t * sum_of (suc t)
   forward-least t h =

@@ -2,10 +2,11 @@
 -- P(j) is at most 3 × j (`scaled-width`), because the limit of the forward rates keeps the quotient at most 1 + 2 ÷ 3j; the last factor
 -- P(j+1) ÷ N, at most 1.11, makes that at most 4 × j, and its two roundings add at most 1.
 -- Assumes nothing.
-use Prim.Native.Nat.{ℕ, suc, ◌+◌, ◌*◌, ◌-◌, ◌^◌, ◌≤◌, ◌<◌}
+use Prim.Native.Nat.{ℕ, suc, ◌+◌, ◌*◌, ◌^◌, ◌≤◌, ◌<◌}
 use mathlib.Core.Path.{◌≡◌}
+use native.Mathlib.Numerals.{sub-one}
 use native.Mathlib.Omega.{arith}
-use native.Mathlib.Nat.{mul-le-mul_left, mul-le-mul_right, pow-suc, mul-pos}
+use native.Mathlib.Nat.{mul-le-mul_left, mul-le-mul_right, pow-suc, mul-pos, one-le-pow}
 use Rattle.arith.specs.Rounding.{End, low, high, divide}
 use Rattle.method.specs.Fraction.{◌//◌, ◌*ᶠ◌, ◌÷ᶠ◌, ◌^ᶠ◌, ◌≈◌}
 use Rattle.method.specs.Curve.{Curve, P}
@@ -15,20 +16,17 @@ use Rattle.method.specs.Rounded as Rounded
 use Rattle.method.specs.Rounded.{scaled}
 use Rattle.method.specs.inner.CurveWithin.{CurveWithin}
 use Rattle.theory.proofs.curve.Bracket.{Bounded}
-use Rattle.theory.proofs.general.Powers.{pow_pos, forward}
+use Rattle.theory.proofs.general.Powers.{forward}
 use Rattle.theory.proofs.curve.Steps.{step, same, scaled-in, scaled-width, wider}
-
-sub-one : (j : ℕ) → suc j - 1 ≡ j
-sub-one j = omega arith
 
 pub G-suc : (c : Curve) (j : ℕ) → G c (suc j) ≡ (onePlusR c (suc j) ^ᶠ suc j) ÷ᶠ (onePlusR c j ^ᶠ j)
 unfolding G
-G-suc c j = rw (sub-one j)
+G-suc c j = rw (sub-one (suc j))
 
 pub growth-suc : (c : Curve) (e : End) (j : ℕ)
     → Rounded.growth c e (suc j) ≡ divide e (scaled e (P c (suc j)) (P c j) j * P c (suc j)) c.N
 unfolding Rounded.growth
-growth-suc c e j = rw (sub-one j)
+growth-suc c e j = rw (sub-one (suc j))
 
 -- (P ÷ P')^j × P ÷ N is G
 telescope : (p q n j : ℕ) → ((p // q) ^ᶠ j) *ᶠ (p // n) ≈ ((p // n) ^ᶠ suc j) ÷ᶠ ((q // n) ^ᶠ j)
@@ -46,7 +44,7 @@ growth-in c f e j h =
     let q : ℕ = P c j in
     let hq : 0 < q = P_pos c f j (omega arith) in
     rw (growth-suc c e j, G-suc c j)
-    (same ((onePlusR c (suc j) ^ᶠ suc j) ÷ᶠ (onePlusR c j ^ᶠ j)) (mul-pos (pow_pos q j hq) (N-pos c f)) (telescope p q c.N j)
+    (same ((onePlusR c (suc j) ^ᶠ suc j) ÷ᶠ (onePlusR c j ^ᶠ j)) (mul-pos (one-le-pow j q hq) (N-pos c f)) (telescope p q c.N j)
     (step p c.N (N-pos c f) (scaled-in e p q j hq)))
 
 pub growth-width : (c : Curve) → CurveWithin c → (j : ℕ) → suc j ≤ 60 → Rounded.growth c high (suc j) ≤ Rounded.growth c low (suc j) + (4 * j + 1)
@@ -68,6 +66,6 @@ growth-least c f j h =
 pub G-pos : (c : Curve) → CurveWithin c → (j : ℕ) → suc j ≤ 60 → (0 < (G c (suc j)).num) × (0 < (G c (suc j)).den)
 G-pos c f j h =
     rw (G-suc c j) (
-      mul-pos (pow_pos (P c (suc j)) (suc j) (P_pos c f (suc j) h)) (pow_pos c.N j (N-pos c f)),
-      mul-pos (pow_pos c.N (suc j) (N-pos c f)) (pow_pos (P c j) j (P_pos c f j (omega arith))),
+      mul-pos (one-le-pow (suc j) (P c (suc j)) (P_pos c f (suc j) h)) (one-le-pow j c.N (N-pos c f)),
+      mul-pos (one-le-pow (suc j) c.N (N-pos c f)) (one-le-pow j (P c j) (P_pos c f j (omega arith))),
     )

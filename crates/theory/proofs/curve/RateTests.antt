@@ -6,7 +6,7 @@
 use Prim.Native.Nat.{ℕ, zero, suc, ◌+◌, ◌*◌, ◌^◌, ◌≤◌, ◌<◌}
 use mathlib.Core.Path.{◌≡◌, refl}
 use native.Mathlib.Omega.{arith}
-use native.Mathlib.Nat.{mul-le-mul_left, mul-le-mul_right, le_of_mul-le-mul_right, le_trans}
+use native.Mathlib.Nat.{mul-le-mul_left, mul-le-mul_right, le_of_mul-le-mul_right, le_trans, one-le-pow}
 use Rattle.arith.specs.Rounding.{End, low, high, divide}
 use Rattle.method.specs.Curve.{weight, weights}
 use Rattle.model.specs.Constants.{unit, stepsPerOne}
@@ -14,7 +14,7 @@ use Rattle.method.specs.Rounded.{scaled, tested}
 use Rattle.model.specs.Numbers.{every}
 use Rattle.theory.proofs.curve.Steps.{widthAfter, scaled-wide, scaled-in, scaled-mono, scaled-ends}
 use Rattle.theory.proofs.general.Lists.{every-le}
-use Rattle.theory.proofs.general.Powers.{pow_pos, bernoulli}
+use Rattle.theory.proofs.general.Powers.{bernoulli}
 use Rattle.theory.proofs.curve.BaseCurve.{weighedBound, factorBound}
 
 -- a larger step gives no larger result
@@ -49,7 +49,7 @@ steps_apart t i =
     let f3 : y * (v + 1) ^ t ≤ x * v ^ t = le_trans f1 f2 in
     rw q
     (le_of_mul-le-mul_right {m = y * (v + t)} {n = v * x} {k = v ^ t}
-    (omega (arith, mul-le-mul_left y (bernoulli v t), mul-le-mul_left v f3)) (pow_pos v t (omega arith)))
+    (omega (arith, mul-le-mul_left y (bernoulli v t), mul-le-mul_left v f3)) (one-le-pow t v (omega arith)))
 
 -- ---- that is more than all the widths together, of every term from 1 to 120: even the smallest factor is large beside them
 sharp : (s : ℕ) → s < 120

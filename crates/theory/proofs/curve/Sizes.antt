@@ -5,7 +5,7 @@
 use Prim.Native.Nat.{ℕ, zero, suc, ◌+◌, ◌*◌, ◌^◌, ◌≤◌, ◌<◌}
 use mathlib.Core.Path.{refl, ap}
 use native.Mathlib.Omega.{arith}
-use native.Mathlib.Nat.{mul-le-mul_left, mul-le-mul_right, le_of_mul-le-mul_right, pow-suc, le_dest, le_trans, add-suc}
+use native.Mathlib.Nat.{mul-le-mul_left, mul-le-mul_right, le_of_mul-le-mul_right, pow-suc, le_dest, le_trans, add-suc, one-le-pow}
 use native.Mathlib.Decide.{dec_le}
 use Rattle.arith.specs.Rounding.{low, high, divide}
 use Rattle.arith.proofs.Rounding.{divide-le}
@@ -16,7 +16,7 @@ use Rattle.method.specs.Rounded.{scaled, ufrGrowth}
 use Rattle.model.specs.Numbers.{every}
 use Rattle.method.specs.inner.CurveWithin.{CurveWithin}
 use Rattle.theory.proofs.general.Lists.{every-le}
-use Rattle.theory.proofs.general.Powers.{pow_pos, backward}
+use Rattle.theory.proofs.general.Powers.{backward}
 use Rattle.theory.proofs.curve.Steps.{scaled-in, scaled-width}
 use Rattle.theory.proofs.curve.Growth.{growth-suc, P_pos, N-pos}
 use Rattle.theory.proofs.curve.Factor.{rounded-factor-first, rounded-factor-next, weighed-from-61}
@@ -39,7 +39,7 @@ years-low : (p q r i : ℕ) → 0 < q → r + 100 * (i * p) ≤ 100 * (suc i * q
 years-low p q r i hq h =
     let f : p ^ i * r ≤ 100 * (q ^ i * q) = rw (pow-suc q i) at (backward p q r i h) in
     le_of_mul-le-mul_right {m = scaled low p q i * r} {n = unit * (100 * q)} {k = q ^ i}
-    (omega (arith, mul-le-mul_right r (scaled-in low p q i hq).is.le, mul-le-mul_left unit f)) (pow_pos q i hq)
+    (omega (arith, mul-le-mul_right r (scaled-in low p q i hq).is.le, mul-le-mul_left unit f)) (one-le-pow i q hq)
 
 -- the growth over i years, i up to t - 1
 pub years-most : (c : Curve) → CurveWithin c → (j i : ℕ) → suc j ≤ 60 → i ≤ j → scaled high (P c (suc j)) (P c j) i ≤ 12 * 10 ^ 11

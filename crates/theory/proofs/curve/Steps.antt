@@ -6,7 +6,7 @@
 use Prim.Native.Nat.{ℕ, zero, suc, ◌+◌, ◌*◌, ◌-◌, ◌≤◌, ◌<◌}
 use mathlib.Core.Path.{◌≡◌, refl, ap}
 use native.Mathlib.Omega.{arith}
-use native.Mathlib.Nat.{mul-le-mul_left, mul-le-mul_right, le_of_mul-le-mul_right, lt_of_mul-lt-mul_right, pow-zero, pow-suc, le_dest, mul-sub, mul_comm}
+use native.Mathlib.Nat.{mul-le-mul_left, mul-le-mul_right, le_of_mul-le-mul_right, lt_of_mul-lt-mul_right, pow-zero, pow-suc, le_dest, mul-sub, mul_comm, one-le-pow}
 use native.Mathlib.Decide.{dec_le}
 use Rattle.arith.specs.Rounding.{End, low, high, other, divide}
 use Rattle.arith.proofs.Rounding.{divide-floor, divide-ceiling}
@@ -14,7 +14,6 @@ use Rattle.arith.proofs.Ends.{◌≤⟨◌⟩◌, ◌and◌, ◌less◌, ◌time
 use Rattle.method.specs.Fraction.{Fraction, ◌//◌, ◌+ᶠ◌, ◌∸ᶠ◌, ◌*ᶠ◌, ◌÷ᶠ◌, ◌^ᶠ◌, ◌≈◌}
 use Rattle.model.specs.Constants.{unit}
 use Rattle.method.specs.Rounded.{scaled}
-use Rattle.theory.proofs.general.Powers.{pow_pos}
 use Rattle.theory.proofs.curve.Bracket.{Bounded}
 
 -- × a ÷ b keeps the bracket
@@ -89,7 +88,7 @@ scaled-in e a b zero h = rw (pow-zero a, pow-zero b) (exactly (omega arith))
 scaled-in e a b (suc j) h = rw (pow-suc a j, pow-suc b j) (step a b h (scaled-in e a b j h))
 
 pub scaled-ends : (a b j : ℕ) → 0 < b → scaled low a b j ≤ scaled high a b j
-scaled-ends a b j h = ends (pow_pos b j h) (scaled-in low a b j h) (scaled-in high a b j h)
+scaled-ends a b j h = ends (one-le-pow j b h) (scaled-in low a b j h) (scaled-in high a b j h)
 
 -- j times × a smaller quotient is no larger
 pub scaled-order : {e : End} {b q : ℕ} (a p j : ℕ) → 0 < b → 0 < q → a * q ≤⟨ e ⟩ p * b → scaled e a b j ≤⟨ e ⟩ scaled e p q j

@@ -5,7 +5,7 @@
 use Prim.Native.Nat.{ℕ, zero, suc, ◌+◌, ◌*◌, ◌^◌, ◌≤◌, ◌<◌}
 use mathlib.Core.Path.{◌≡◌, refl, ap}
 use native.Mathlib.Omega.{arith}
-use native.Mathlib.Nat.{pow-zero, le_trans, mul-pos}
+use native.Mathlib.Nat.{pow-zero, le_trans, mul-pos, one-le-pow}
 use Rattle.arith.specs.Rounding.{End, low, high, divide}
 use Rattle.model.specs.Constants.{unit}
 use Rattle.method.specs.Fraction.{◌^ᶠ◌, ◌≈◌}
@@ -18,7 +18,6 @@ use Rattle.model.specs.Numbers.{every}
 use Rattle.method.specs.inner.CurveWithin.{CurveWithin}
 use Rattle.theory.proofs.curve.Bracket.{Bounded}
 use Rattle.theory.proofs.general.Lists.{every-le}
-use Rattle.theory.proofs.general.Powers.{pow_pos}
 use Rattle.theory.proofs.curve.Steps.{same, scaled-in, scaled-ends, scaled-mono, widthAfter, scaled-wide}
 use Rattle.theory.proofs.curve.Growth.{G-suc, G-pos, P_pos}
 
@@ -58,7 +57,7 @@ module _ (c : Curve) (w : CurveWithin c) where
   unadjusted-in e t h =
       let p : 0 < P c t = P_pos c w t h in
       rw (unadjusted-is c e t)
-      (same (Exact.unadjusted c t) (pow_pos (P c t) t p) (omega (arith, product-unadjusted c t)) (scaled-in e c.N (P c t) t p))
+      (same (Exact.unadjusted c t) (one-le-pow t (P c t) p) (omega (arith, product-unadjusted c t)) (scaled-in e c.N (P c t) t p))
 
   -- N ÷ P(t), i times: what the code multiplies by on the way
   pub years-bound : (t i : ℕ) → t ≤ 60 → scaled high c.N (P c t) i ≤ scaled high 100 98 i

@@ -1,6 +1,6 @@
 -- Laws of `every` and `table`, of tests that hold together, and of an array that a loop fills.
 use mathlib.Core.Path.{◌≡◌, refl, ap, ap₂, sym, ◌∙◌, subst}
-use mathlib.Core.Bool.{Bool, true, false, ◌&&◌}
+use mathlib.Core.Bool.{Bool, true, ◌&&◌}
 use mathlib.Core.Logic.{⊎_elim}
 use mathlib.Core.List.{List, [], ◌∷◌, ◌++◌, append-nil}
 use Prim.Native.Nat.{ℕ, zero, suc, ◌+◌, ◌≤◌, ◌<◌}
@@ -8,9 +8,11 @@ use native.Mathlib.Nat.{not-suc-le-zero, le_of_suc-le-suc, eq-or-lt_of_le, le_re
 use native.Mathlib.Numerals.{add-one}
 use native.Mathlib.Omega.{arith}
 use borrow.Author.Tests.{leb-true}
-use lib.Dec.{T, leb}
+use lib.Dec.{leb}
 use lib.ListN.{length, get_or, take, drop, set, length-append, length-drop, get_or-append}
 use lib.Seq.{take-suc, length-take-le, get_or-drop, get_or_at, ext_get_or, drop-cons, drop-length, append_snoc, set_at}
+use Rattle.std.proofs.lemmas.Bool.{and_from}
+use Rattle.std.specs.Cmp.{first_so, second_so}
 use Rattle.model.specs.Numbers.{every, table}
 
 -- a pair, written between its parts
@@ -18,32 +20,13 @@ infixr 2 ◌also◌
 pub ◌also◌ : {A B : Type 0} → A → B → A × B
 a also b = (a, b)
 
-pub and_first : (a b : Bool) → (a && b) ≡ true → a ≡ true
-and_first true b h = refl
-and_first false b h = h
-
-pub and_second : (a b : Bool) → (a && b) ≡ true → b ≡ true
-and_second true b h = h
-and_second false b h = absurd (subst T (sym h) tt)
-
-pub and_both : (a b : Bool) → a ≡ true → b ≡ true → (a && b) ≡ true
-and_both a b h k = rw h k
-
-pub and-false : (a b : Bool) → b ≡ false → (a && b) ≡ false
-and-false true b h = h
-and-false false b h = refl
-
-pub and-true : (a : Bool) → (a && true) ≡ a
-and-true true = refl
-and-true false = refl
-
 -- a test of each index below n holds of one of them, and conversely
 pub every-at : (test : ℕ → Bool) (n i : ℕ) → every test n ≡ true → i < n → test i ≡ true
 unfolding every
 every-at test zero i h l = absurd (not-suc-le-zero l)
 every-at test (suc n) i h l =
-    ⊎_elim (λ e. subst (λ (k : ℕ). test k ≡ true) (sym e) (and_second (every test n) (test n) h))
-    (λ k. every-at test n i (and_first (every test n) (test n) h) k)
+    ⊎_elim (λ e. subst (λ (k : ℕ). test k ≡ true) (sym e) (second_so (every test n) (test n) h))
+    (λ k. every-at test n i (first_so (every test n) (test n) h) k)
     (eq-or-lt_of_le (le_of_suc-le-suc l))
 
 -- an order of two numbers of each index below n, where it is computed of all of them
@@ -53,7 +36,7 @@ every-le f g n i h l = leb-true (f i) (g i) (every-at (λ j. leb (f j) (g j)) n 
 pub every-all : (test : ℕ → Bool) (n : ℕ) → ((i : ℕ) → i < n → test i ≡ true) → every test n ≡ true
 unfolding every
 every-all test zero h = refl
-every-all test (suc n) h = and_both (every test n) (test n) (every-all test n (λ i l. h i (omega arith))) (h n (le_refl (suc n)))
+every-all test (suc n) h = and_from (every test n) (test n) (every-all test n (λ i l. h i (omega arith))) (h n (le_refl (suc n)))
 
 -- tests of the same truth
 pub every-same : (f g : ℕ → Bool) (n : ℕ) → ((i : ℕ) → i < n → f i ≡ g i) → every f n ≡ every g n

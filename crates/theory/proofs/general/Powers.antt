@@ -1,13 +1,10 @@
 -- Inequalities of powers of natural numbers. All follow from one: the mean of n + 1 numbers, of which n are equal, is at least their
 -- geometric mean.
 -- Assumes nothing.
-use Prim.Native.Nat.{ℕ, zero, suc, ◌+◌, ◌*◌, ◌^◌, ◌≤◌, ◌<◌}
+use Prim.Native.Nat.{ℕ, zero, suc, ◌+◌, ◌*◌, ◌^◌, ◌≤◌}
 use native.Mathlib.Omega.{arith}
-use native.Mathlib.Nat.{mul-le-mul_left, mul-le-mul_right, pow-zero, pow-suc, le_dest, one-le-pow}
+use native.Mathlib.Nat.{mul-le-mul_left, mul-le-mul_right, pow-zero, pow-suc, le_dest}
 use native.Mathlib.Decide.{dec_le}
-
-pub pow_pos : (a j : ℕ) → 0 < a → 0 < a ^ j
-pow_pos a j h = one-le-pow j a h
 
 -- the mean of two squares is at least the product
 square : (a b : ℕ) → 2 * (a * b) ≤ a * a + b * b

@@ -4,6 +4,7 @@
 use Prim.Native.Nat.{ℕ, ◌+◌, ◌*◌, ◌^◌, ◌≤◌, max}
 use native.Mathlib.Omega.{arith}
 use native.Mathlib.Nat.{mul-le-mul, mul-le-mul_left, mul-le-mul_right, le_trans, le_refl}
+use Rattle.std.proofs.lemmas.Nat.{mul-le}
 use Rattle.arith.specs.Rounding.{End, low, high}
 use Rattle.arith.proofs.Rounding.{divide-le}
 use Rattle.arith.proofs.Root.{root-le}
@@ -24,10 +25,6 @@ use Rattle.theory.proofs.money.MoneyWidth.{share}
 pub factor-most : (c : Curve) → CurveWithin c → (e : End) (t : ℕ) → Rounded.factor c e t ≤ 22 * 10 ^ 11
 factor-most c f high t = factor-size c f t
 factor-most c f low t = le_trans (factor-ends c f t) (factor-size c f t)
-
--- a product of an amount and thousandths
-times-most : (a b x y : ℕ) → a ≤ x → b ≤ y → a * b ≤ x * y
-times-most a b x y h k = mul-le-mul h k
 
 -- the root of a sum of squares, with a correlation of at most 1, is at most the sum
 buffer-most : (e : End) (c a1 a2 a3 a4 a5 a6 : ℕ) → c ≤ 1000 → buffer e c a1 a2 a3 a4 a5 a6 ≤ a1 + a2 + a3 + a4 + a5 + a6
@@ -76,21 +73,21 @@ module _ (k : FileCase) (w : WithinLimits k) where
       (40 * 10 ^ 12) (omega arith)
       (omega (
         arith,
-        times-most a.mature x.mature_fall 100000000000 1000 w.amounts.mature w.shocks.matureFall,
-        times-most a.emerging x.emerging_fall 100000000000 1000 w.amounts.emerging w.shocks.emergingFall,
-        times-most a.private x.private_fall 100000000000 1000 w.amounts.private w.shocks.privateFall,
-        times-most a.property x.property_fall 100000000000 1000 w.amounts.property w.shocks.propertyFall,
+        mul-le a.mature x.mature_fall 100000000000 1000 w.amounts.mature w.shocks.matureFall,
+        mul-le a.emerging x.emerging_fall 100000000000 1000 w.amounts.emerging w.shocks.emergingFall,
+        mul-le a.private x.private_fall 100000000000 1000 w.amounts.private w.shocks.privateFall,
+        mul-le a.property x.property_fall 100000000000 1000 w.amounts.property w.shocks.propertyFall,
       ))
 
   pub S3-most : (e : End) → Rounded.S3 k e ≤ 10 * 10 ^ 12
   S3-most e =
       divide-le e (100 * (k.amounts.currency * k.shocks.currency_fall)) 1000 (10 * 10 ^ 12) (omega arith)
-      (omega (arith, times-most k.amounts.currency k.shocks.currency_fall 100000000000 1000 w.amounts.currency w.shocks.currencyFall))
+      (omega (arith, mul-le k.amounts.currency k.shocks.currency_fall 100000000000 1000 w.amounts.currency w.shocks.currencyFall))
 
   pub S4-most : (e : End) → Rounded.S4 k e ≤ 10 * 10 ^ 12
   S4-most e =
       divide-le e (100 * (k.amounts.commodities * k.shocks.commodities_fall)) 1000 (10 * 10 ^ 12) (omega arith)
-      (omega (arith, times-most k.amounts.commodities k.shocks.commodities_fall 100000000000 1000 w.amounts.commodities w.shocks.commoditiesFall))
+      (omega (arith, mul-le k.amounts.commodities k.shocks.commodities_fall 100000000000 1000 w.amounts.commodities w.shocks.commoditiesFall))
 
   pub S5-most : (e : End) → Rounded.S5 k e ≤ 50 * 10 ^ 12
   S5-most e =

@@ -9,16 +9,16 @@ use borrow.Author.Tests.{leb-true}
 use lib.Dec.{T, leb, eqb}
 use lib.ListN.{length}
 use lib.IntN.{ℤ, pos, negsuc, ◌*ℤ◌}
+use Rattle.std.specs.Cmp.{second_so}
 use Rattle.method.specs.Curve.{natural}
 use Rattle.model.specs.Fields.{withinZ}
 use Rattle.monthsmodel.specs.Months.{monthsOf, oldestFirst, total, hundreds, roundedUfr, historyChecks, ufrRefusal, ufrFound}
 use Rattle.theory.proofs.acceptance.Checks.{Hold, none-hold}
-use Rattle.theory.proofs.general.Lists.{and_second}
 use Rattle.theory.proofs.months.Rotated.{oldest-sum}
 
 -- an integer of 0 to 5,000
 whole : (z : ℤ) → withinZ (pos 0) (pos 5000) z ≡ true → (natural z ≤ 5000) × (pos (natural z) ≡ z)
-whole (pos n) h = (leb-true n 5000 (and_second (leb 0 n) (leb n 5000) h), refl)
+whole (pos n) h = (leb-true n 5000 (second_so (leb 0 n) (leb n 5000) h), refl)
 whole (negsuc n) h = absurd (subst T (sym h) tt)
 
 module _ (history : List ℕ) (start : ℕ) (none : ufrRefusal history start ≡ 0) where
@@ -27,7 +27,7 @@ module _ (history : List ℕ) (start : ℕ) (none : ufrRefusal history start ≡
   passed = none-hold (historyChecks history start) tt none
 
   pub start-within : start < 120
-  start-within = let l = leb-true start 119 (and_second (eqb (length history) 240) (leb start 119) passed.0) in omega arith
+  start-within = let l = leb-true start 119 (second_so (eqb (length history) 240) (leb start 119) passed.0) in omega arith
 
   pub found-most : ufrFound history ≤ 5000
   found-most = (whole (roundedUfr history) passed.1.1.0).0

@@ -9,6 +9,8 @@ use borrow.Author.Tests.{ltb-true, ltb-false}
 use lib.Dec.{ltb, lit<, lit≤}
 use lib.ListN.{length, drop, length-replicate, get_or-replicate, drop_of_length-le}
 use lib.IntN.{ℤ, pos}
+use Rattle.std.proofs.lemmas.Bool.{and_from}
+use Rattle.std.specs.Cmp.{second_so}
 use Rattle.model.specs.Numbers.{table}
 use Rattle.model.specs.Case.{s}
 use Rattle.model.specs.Fields.{rightAll}
@@ -17,7 +19,6 @@ use Rattle.model.specs.Refusals.{first_of}
 use Rattle.rollingmodel.specs.Rolling.{daysHeld, emptyWindow, addRefusal, dropRefusal, added, dropped, changed, addDay, dropDay}
 use Rattle.rollingmodel.specs.Rolling.{Change, add, dropOldest, change, changedBy, queue, queuedBy, HoldsAfter}
 use Rattle.rollingmodel.specs.declared.RollingWindow.{RollingWindow}
-use Rattle.theory.proofs.general.Lists.{and_second, and_both}
 use Rattle.theory.proofs.general.Ring.{slot-less}
 use Rattle.theory.proofs.acceptance.Runs.{right-more}
 use Rattle.theory.proofs.rolling.Held.{held-count, added-long, held-added, held-dropped}
@@ -33,7 +34,7 @@ added-right w new long r room good =
     record {
       count = omega arith;
       start = r.start;
-      days = ap (rightAll (day 2)) held ∙ right-more (day 2) (daysHeld w) new ∙ and_both (rightAll (day 2) (daysHeld w)) ((day 2).right new) r.days good;
+      days = ap (rightAll (day 2)) held ∙ right-more (day 2) (daysHeld w) new ∙ and_from (rightAll (day 2) (daysHeld w)) ((day 2).right new) r.days good;
       sums = λ t l. sums_at (daysHeld w ++ (new ∷ [])) t l ∙ ap (λ days. s days (suc t)) (sym held);
     }
 
@@ -48,7 +49,7 @@ dropped-right w r = record {
   where
     rest : (days : List (List ℤ)) → rightAll (day 2) days ≡ true → rightAll (day 2) (drop 1 days) ≡ true
     rest [] h = refl
-    rest (first ∷ days) h = and_second ((day 2).right first) (rightAll (day 2) days) h
+    rest (first ∷ days) h = second_so ((day 2).right first) (rightAll (day 2) days) h
 
 -- ---- a window that is right and holds these days
 

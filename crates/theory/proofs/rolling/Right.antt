@@ -10,26 +10,28 @@ use lib.Dec.{T, leb, ltb, eqb}
 use lib.ListN.{length, get_or}
 use lib.IntN.{ℤ, pos, negsuc}
 use lib.Signed.{le_z}
+use Rattle.std.proofs.lemmas.Bool.{and_from}
+use Rattle.std.specs.Cmp.{first_so, second_so}
 use Rattle.model.specs.Numbers.{every}
 use Rattle.model.specs.Case.{s}
 use Rattle.model.specs.Fields.{rightAll}
 use Rattle.model.specs.Layout.{dailyRate, day}
 use Rattle.rollingmodel.specs.Rolling.{daysHeld, sumsOf, equalZ, windowRight}
 use Rattle.rollingmodel.specs.declared.RollingWindow.{RollingWindow}
-use Rattle.theory.proofs.general.Lists.{and_first, and_second, and_both, every-at, every-all, getD-table}
+use Rattle.theory.proofs.general.Lists.{every-at, every-all, getD-table}
 
 -- ---- a test of two integers, both ways
 
 pub equal-true : (y z : ℤ) → equalZ y z ≡ true → y ≡ z
 equal-true (pos a) (pos b) h =
-    ap pos (le_antisymm (leb-true a b (and_first (leb a b) (leb b a) h)) (leb-true b a (and_second (leb a b) (leb b a) h)))
+    ap pos (le_antisymm (leb-true a b (first_so (leb a b) (leb b a) h)) (leb-true b a (second_so (leb a b) (leb b a) h)))
 equal-true (pos a) (negsuc b) h = absurd (subst T (sym h) tt)
 equal-true (negsuc a) (pos b) h = absurd (subst T (sym h) tt)
 equal-true (negsuc a) (negsuc b) h =
-    ap negsuc (le_antisymm (leb-true a b (and_second (leb b a) (leb a b) h)) (leb-true b a (and_first (leb b a) (leb a b) h)))
+    ap negsuc (le_antisymm (leb-true a b (second_so (leb b a) (leb a b) h)) (leb-true b a (first_so (leb b a) (leb a b) h)))
 
 pub equal-test : (y z : ℤ) → y ≡ z → equalZ y z ≡ true
-equal-test y z e = subst (λ x. equalZ y x ≡ true) e (and_both (le_z y y) (le_z y y) (self y) (self y))
+equal-test y z e = subst (λ x. equalZ y x ≡ true) e (and_from (le_z y y) (le_z y y) (self y) (self y))
   where
     self : (z : ℤ) → le_z z z ≡ true
     self (pos a) = le-leb a a (omega arith)
@@ -39,7 +41,7 @@ equal-test y z e = subst (λ x. equalZ y x ≡ true) e (and_both (le_z y y) (le_
 
 -- a day within the limits has 60 rates
 pub day-whole : (new : List ℤ) → (day 2).right new ≡ true → length new ≡ 60
-day-whole new h = eqb-true (length new) 60 (and_first (eqb (length new) 60) (rightAll (dailyRate 2) new) h)
+day-whole new h = eqb-true (length new) 60 (first_so (eqb (length new) 60) (rightAll (dailyRate 2) new) h)
 
 pub sums_at : (days : List (List ℤ)) (t : ℕ) → t < 60 → get_or (sumsOf days) t (pos 0) ≡ s days (suc t)
 unfolding sumsOf
@@ -70,14 +72,14 @@ module _ (w : RollingWindow) where
       let c = leb w.count 70 in
       let p = ltb w.start 70 in
       let d = rightAll (day 2) (daysHeld w) in
-      let front = and_first (c && p && d) sumsRight h in
-      let place = and_first (c && p) d front in
+      let front = first_so (c && p && d) sumsRight h in
+      let place = first_so (c && p) d front in
       record {
-        count = leb-true w.count 70 (and_first c p place);
-        start = ltb-true w.start 70 (and_second c p place);
-        days = and_second (c && p) d front;
+        count = leb-true w.count 70 (first_so c p place);
+        start = ltb-true w.start 70 (second_so c p place);
+        days = second_so (c && p) d front;
         sums = λ t l.
-            equal-true (stored t) (summed t) (every-at (λ i. equalZ (stored i) (summed i)) 60 t (and_second (c && p && d) sumsRight h) l);
+            equal-true (stored t) (summed t) (every-at (λ i. equalZ (stored i) (summed i)) 60 t (second_so (c && p && d) sumsRight h) l);
       }
 
   pub facts-right : Right w → windowRight w ≡ true

@@ -10,6 +10,8 @@ use borrow.Author.Tests.{le-leb, leb-true, ltb-true, ltb-false}
 use lib.Dec.{T, leb, ltb, lit<}
 use lib.ListN.{length, drop_of_length-le}
 use lib.IntN.{ℤ}
+use Rattle.std.proofs.lemmas.Bool.{and_from}
+use Rattle.std.specs.Cmp.{first_so, second_so}
 use Rattle.model.specs.Case.{FileCase, perStep, withDays}
 use Rattle.model.specs.Limits.{WithinLimits}
 use Rattle.model.specs.Fields.{Check}
@@ -20,7 +22,7 @@ use Rattle.method.specs.Buffers as Buffers
 use Rattle.method.specs.Buffers.{buffersCheck, factorEntries, rateEntries, written, answered, valuationOf, valuationRefusal}
 use Rattle.rollingmodel.specs.Rolling.{daysHeld, windowRight, windowRefusal, windowValuation, windowFactorsAfter, windowRatesAfter, ValuedAsFile}
 use Rattle.rollingmodel.specs.declared.RollingWindow.{RollingWindow}
-use Rattle.theory.proofs.general.Lists.{and_first, and_second, and_both, ◌also◌}
+use Rattle.theory.proofs.general.Lists.{◌also◌}
 use Rattle.theory.proofs.acceptance.Checks.{Hold, hold-parts, numbered-append, none-hold, hold-none, after_none}
 use Rattle.theory.proofs.acceptance.Within.{days-limited, PartsWithin, forwards-true, parts-limits, limits-parts}
 use Rattle.theory.proofs.acceptance.Acceptance.{case-read, no-days-refused}
@@ -42,7 +44,7 @@ module _ (w : RollingWindow) (k : FileCase) (right : windowRight w ≡ true) (ac
       let n = length (daysHeld w) in
       let least = le-leb 1 n (omega (arith, held-count w)) in
       let most = le-leb n 70 (omega (arith, held-count w, (right-facts w right).count)) in
-      let days = (days-limited 2 (lit< tt)).within (daysHeld w) (and_both (leb 1 n) (leb n 70) least most also (right-facts w right).days also tt) in
+      let days = (days-limited 2 (lit< tt)).within (daysHeld w) (and_from (leb 1 n) (leb n 70) least most also (right-facts w right).days also tt) in
       let ((ufr, (own, others)), later) = limits-parts p k (case-within k accepted) agrees in
       ((ufr, ((λ e. days, λ e. absurd (subst T e tt)), others)), (λ e. absurd (subst T (sym e) tt), λ e. refl))
 
@@ -127,10 +129,10 @@ module _ (w : RollingWindow) (k : FileCase) (factors rates : ℕ) (none : window
   is_right = passed.0
 
   pub long-factors : 240 ≤ factors
-  long-factors = leb-true 240 factors (and_first (leb 240 factors) (leb 240 rates) passed.1.0)
+  long-factors = leb-true 240 factors (first_so (leb 240 factors) (leb 240 rates) passed.1.0)
 
   pub long-rates : 240 ≤ rates
-  long-rates = leb-true 240 rates (and_second (leb 240 factors) (leb 240 rates) passed.1.0)
+  long-rates = leb-true 240 rates (second_so (leb 240 factors) (leb 240 rates) passed.1.0)
 
   pub within-limits : WithinLimits (withDays 2 (daysHeld w) k)
   unfolding caseRefusal

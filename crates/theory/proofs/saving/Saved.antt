@@ -9,6 +9,7 @@ use native.Mathlib.Omega.{arith}
 use borrow.Author.Tests.{eqb-true, ltb-true, ltb-false, le-leb, lt-leb, leb-true, leb-false, not-false}
 use lib.Dec.{T, leb, ltb, eqb, lit<}
 use lib.ListN.{length, get_or, length-append}
+use Rattle.std.specs.Cmp.{first_so, second_so}
 use Rattle.model.specs.Constants.{defaultUfr}
 use Rattle.model.specs.Numbers.{bytes_of}
 use Rattle.model.specs.Case.{FileCase, knownForm, perStep}
@@ -20,7 +21,7 @@ use Rattle.model.specs.Layout.{fileOf, case_of, Agrees, Keeps}
 use Rattle.model.specs.inner.Positions.{ufrField, daysField, pensionField, bondsField, amountsField}
 use Rattle.model.specs.Refusals.{first_of, refusal}
 use Rattle.savingmodel.specs.Saving.{allZero, needed, shortest, caseChecks, caseRefusal, saveRefusal}
-use Rattle.theory.proofs.general.Lists.{and_first, and_second, ◌also◌}
+use Rattle.theory.proofs.general.Lists.{◌also◌}
 use Rattle.theory.proofs.acceptance.Checks.{numbered, numbered-append, hold-append, hold-parts, none-hold, hold-none, after_none, after-some}
 use Rattle.theory.proofs.acceptance.Checks.{below-append, below-if, first_below}
 use Rattle.theory.proofs.acceptance.Encoding.{length-bytes}
@@ -31,8 +32,8 @@ use Rattle.theory.proofs.acceptance.Acceptance.{sixth, forwards-within, keeps-ac
 
 zero-at : (vs : List ℕ) → allZero vs ≡ true → (i : ℕ) → get_or vs i 0 ≡ 0
 zero-at [] h i = refl
-zero-at (v ∷ vs) h zero = eqb-true v 0 (and_first (eqb v 0) (allZero vs) h)
-zero-at (v ∷ vs) h (suc i) = zero-at vs (and_second (eqb v 0) (allZero vs) h) i
+zero-at (v ∷ vs) h zero = eqb-true v 0 (first_so (eqb v 0) (allZero vs) h)
+zero-at (v ∷ vs) h (suc i) = zero-at vs (second_so (eqb v 0) (allZero vs) h) i
 
 no-amounts : (vs : List ℕ) → allZero vs ≡ true → amountsFrom vs ≡ noAmounts
 no-amounts vs h =

@@ -1,5 +1,6 @@
 -- `doubles`: an end up to 2^53 becomes its double.
-use Rattle.std.proofs.Common.{◌≡◌, ◌^◌, ◌≤◌, arith}
+-- The check leaves each of these goals open without its answer.
+use Rattle.std.proofs.Common.{◌^◌, ◌≤◌, arith}
 use borrow.Author.Tests.{le-leb}
 use Rattle.window.proofs.Whole.{holds}
 use Rattle.window.proofs.doubles.Goals as goal

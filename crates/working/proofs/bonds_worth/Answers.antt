@@ -1,5 +1,5 @@
--- `working::bonds_worth` meets its contract. Assumes nothing.
-use Rattle.std.proofs.Common.{◌≤◌, max, length, arith}
+-- `working::bonds_worth` meets its contract. Assumes nothing. The check leaves each of these goals open without its answer.
+use Rattle.std.proofs.Common.{max, length, arith}
 use Rattle.working.proofs.Working.{unadjusted-fit, unadjusted-worth}
 use Rattle.working.proofs.bonds_worth.Goals as goal
 

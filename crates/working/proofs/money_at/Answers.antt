@@ -1,4 +1,4 @@
--- `working::money_at` meets its contract. Assumes nothing.
+-- `working::money_at` meets its contract. Assumes nothing. The check leaves each of these goals open without its answer.
 use Rattle.method.specs.Curve.{base, up, down}
 use Rattle.working.proofs.Working.{owed-fit, owed-is, bonds-fit, bonds-are, money-is}
 use Rattle.working.proofs.money_at.Goals as goal

@@ -1,4 +1,4 @@
--- `working::money_of` meets its contract. Assumes nothing.
+-- `working::money_of` meets its contract. Assumes nothing. The check leaves each of these goals open without its answer.
 use Rattle.working.proofs.Working.{sums-fit, adjusted-is, adjusted-by}
 use Rattle.working.proofs.money_of.Goals as goal
 

@@ -1,4 +1,4 @@
--- `working::sums_of` meets its contract. Assumes nothing.
+-- `working::sums_of` meets its contract. Assumes nothing. The check leaves each of these goals open without its answer.
 use Rattle.method.specs.Curve.{base, up, down}
 use Rattle.working.proofs.Working.{shift-within}
 use Rattle.working.proofs.sums_of.Goals as goal

@@ -1,33 +1,33 @@
--- `working::value_case` meets its contract. Assumes nothing.
+-- `working::value_case` meets its contract. Assumes nothing. The check leaves each of these goals open without its answer.
+use Rattle.std.proofs.Common.{◌≡◌}
 use Rattle.method.specs.Curve.{base}
+use Rattle.method.specs.Rounded as Rounded
+use Rattle.curves.specs.inner.ByTerm.{brackets}
+use Rattle.curves.specs.inner.Shifted.{curveHeld}
+use Rattle.working.specs.inner.Working.{adjustedBy}
 use Rattle.working.proofs.Working.{sums-fit, adjusted-is, adjusted-by, adjusted-on, base-within, factors-lent, rates-lent}
+use Rattle.working.proofs.value_case.Goals.{After-map-adjusted}
 use Rattle.working.proofs.value_case.Goals as goal
 
+-- the factors of the three curves, and those of the base curve
+of-curves : (c : After-map-adjusted) → c.map-adjusted.result ≡ adjustedBy c.sums_of-sums.result
+of-curves c = adjusted-is c.requires _ c.sums_of-sums.ensures _ (λ m. let r = c.map-adjusted.ensures m in adjusted-by _ _ r.shows _ r.says.met)
+
+of-base : (c : After-map-adjusted) → c.map-adjusted.result.base ≡ brackets (Rounded.factor (curveHeld c.args.case.now base)) 120
+of-base c = adjusted-on c.requires _ c.sums_of-sums.ensures _ (of-curves c) base
+
 pub map-adjusted-requires : goal.map-adjusted-requires
-map-adjusted-requires c m p is = sums-fit c.requires.0 _ c.sums_of-sums.ensures m p.now is
+map-adjusted-requires c m p is = sums-fit c.requires _ c.sums_of-sums.ensures m p.now is
 
 pub zero_rates-requires : goal.zero_rates-requires
-zero_rates-requires c =
-    let adjusted = adjusted-is c.requires.0 _ c.sums_of-sums.ensures c.map-adjusted.result
-    (λ m. let r = c.map-adjusted.ensures m in adjusted-by _ _ r.shows _ r.says.met) in
-    base-within c.args.case.now c.requires.0 _ (adjusted-on c.requires.0 _ c.sums_of-sums.ensures _ adjusted base)
+zero_rates-requires c = base-within c.args.case.now c.requires _ (of-base (goal.at.zero_rates-requires c).After-map-adjusted)
 
 pub money_at-requires : goal.money_at-requires
-money_at-requires c = (
-  c.requires.0,
-  c.sums_of-sums.ensures,
-  adjusted-is c.requires.0 _ c.sums_of-sums.ensures _
-      (λ m. let r = c.map-adjusted.ensures m in adjusted-by _ _ r.shows _ r.says.met),
-)
+money_at-requires c = (c.requires, c.sums_of-sums.ensures, of-curves (goal.at.money_at-requires c).After-map-adjusted)
 
 pub returns-clause-factors : goal.returns-clause-factors
-returns-clause-factors c =
-    let adjusted = adjusted-is c.requires.0 _ c.sums_of-sums.ensures c.map-adjusted.result
-    (λ m. let r = c.map-adjusted.ensures m in adjusted-by _ _ r.shows _ r.says.met) in
-    factors-lent c.args.case.now c.requires.0 _ (adjusted-on c.requires.0 _ c.sums_of-sums.ensures _ adjusted base) _ _ c.lend.ensures
+returns-clause-factors c = factors-lent c.args.case.now c.requires _ (of-base (goal.at.returns-clause-factors c).After-map-adjusted) _ c.lend.ensures
 
 pub returns-clause-rates : goal.returns-clause-rates
 returns-clause-rates c =
-    let adjusted = adjusted-is c.requires.0 _ c.sums_of-sums.ensures c.map-adjusted.result
-    (λ m. let r = c.map-adjusted.ensures m in adjusted-by _ _ r.shows _ r.says.met) in
-    rates-lent c.args.case.now c.requires.0 _ (adjusted-on c.requires.0 _ c.sums_of-sums.ensures _ adjusted base) _ c.zero_rates.ensures _ _ c.lend-2.ensures
+    rates-lent c.args.case.now c.requires _ (of-base (goal.at.returns-clause-rates c).After-map-adjusted) _ c.zero_rates.ensures _ c.lend-2.ensures

@@ -9,7 +9,7 @@ use mathlib.Core.Path.{◌≡◌, ap, sym, ◌∙◌}
 use mathlib.Core.List.{List}
 use native.Mathlib.Numerals.{add-one}
 use native.Mathlib.Omega.{arith}
-use native.Mathlib.Nat.{le_trans, mul-le-mul, div-le_self}
+use native.Mathlib.Nat.{le_trans, mul-le-mul, div-le_self, one-le-pow}
 use lib.Dec.{le→leb}
 use lib.ListN.{get_or}
 use lib.IntN.{ℤ}
@@ -20,7 +20,6 @@ use Rattle.model.specs.Constants.{unit, stepsPerOne}
 use Rattle.method.specs.Rounded.{stepAt, tested, rateOf}
 use Rattle.searchmodel.specs.Bisection.{afterTests, stepsLeft}
 use Rattle.searchmodel.specs.declared.StepsLeft.{StepsLeft}
-use Rattle.theory.proofs.general.Powers.{pow_pos}
 use Rattle.theory.proofs.curve.Steps.{scaled-in}
 use Rattle.theory.proofs.curve.RateTests.{tested-small}
 use Rattle.theory.proofs.curve.Bisection.{RateExists, short-search}
@@ -32,7 +31,7 @@ tested-some : (t i : ℕ) → 0 < tested high t i
 tested-some t i = go (tested high t i) (scaled-in high stepsPerOne (98000 + i) t (omega arith)).is.le
   where
     go : (n : ℕ) → unit * stepsPerOne ^ t ≤ n * (98000 + i) ^ t → 0 < n
-    go zero h = absurd (let z : ⊥ = omega (arith, pow_pos stepsPerOne t (omega arith)) in z)
+    go zero h = absurd (let z : ⊥ = omega (arith, one-le-pow t stepsPerOne (omega arith)) in z)
     go (suc n) h = omega arith
 
 module _ (factors : List Bracket) (t : ℕ) where

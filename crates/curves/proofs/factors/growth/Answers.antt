@@ -1,4 +1,4 @@
--- `curves::factors::growth` meets its contract. Assumes nothing.
+-- `curves::factors::growth` meets its contract. Assumes nothing. The check leaves each of these goals open without its answer.
 use Rattle.curves.proofs.YearLaws.{last-year-within}
 use Rattle.curves.proofs.factors.growth.Goals as goal
 

@@ -1,4 +1,4 @@
--- `curves::sums::shifted` meets its contract. Assumes nothing.
+-- `curves::sums::shifted` meets its contract. Assumes nothing. The check leaves each of these goals open without its answer.
 use Rattle.std.proofs.Common.{◌≡◌, ◌+◌, refl, ap, ◌∙◌, arith}
 use Rattle.std.proofs.Math.ListN.{length-set}
 use Rattle.model.specs.Numbers.{table}

@@ -1,4 +1,5 @@
 -- `curves::weights::weight_of` meets its contract: the array is the list of the definition. Assumes nothing.
+-- The check leaves each of these goals open without its answer.
 use Rattle.std.proofs.Common.{refl}
 use Rattle.method.specs.Curve.{weight, weights}
 use Rattle.curves.proofs.Weighing.{weight-of-most}

@@ -1,5 +1,6 @@
 -- `curves::years::take_years` meets its contract. It takes a year and calls itself at a year less, until no year is left. Assumes nothing.
-use Rattle.std.proofs.Common.{◌<◌, arith, rules}
+-- The check leaves each of these goals open without its answer.
+use Rattle.std.proofs.Common.{arith}
 use Rattle.curves.proofs.YearLaws.{none_taken, both-in, year-less, then-taken}
 use Rattle.curves.proofs.years.+take_years.Goals as goal
 

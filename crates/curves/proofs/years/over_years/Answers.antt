@@ -1,5 +1,5 @@
 -- `curves::years::over_years` meets its contract: all years are taken from 10^12, in one way or the other. Assumes nothing.
-use Rattle.std.proofs.Common.{arith, sym, subst}
+-- The check leaves each of these goals open without its answer.
 use Rattle.curves.proofs.YearLaws.{short-within, long-within, all-years}
 use Rattle.curves.proofs.years.over_years.Goals as goal
 

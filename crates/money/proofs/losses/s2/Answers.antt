@@ -1,4 +1,5 @@
 -- `money::losses::s2` meets its contract. Assumes nothing.
+-- The check leaves each of these goals open without its answer.
 use Rattle.std.proofs.Common.{arith}
 use Rattle.money.proofs.Products.{thousandths-most}
 use Rattle.money.proofs.losses.s2.Goals as goal

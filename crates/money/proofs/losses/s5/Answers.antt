@@ -1,4 +1,5 @@
 -- `money::losses::s5` meets its contract: a quotient by 10^7 is the loss of the definition, which divides 100 times as much by 10^9.
+-- The check leaves each of these goals open without its answer.
 use Rattle.method.specs.Rounded.{creditLoss}
 use Rattle.money.proofs.Products.{credit-both, credit-of, credit-most, up_to}
 use Rattle.money.proofs.losses.s5.Goals as goal

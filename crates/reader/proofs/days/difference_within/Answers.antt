@@ -1,4 +1,4 @@
--- `days::difference_within` meets its contract.
+-- `days::difference_within` meets its contract. The check leaves each of these goals open without its answer.
 use Rattle.reader.proofs.Forwards.{when-low, when-below}
 use Rattle.reader.proofs.days.difference_within.Goals as goal
 

@@ -1,70 +1,79 @@
--- `days::sum_days` meets its contract: a turn adds a day.
-use Rattle.std.proofs.Common.{◌≡◌, ◌∙◌, ◌+◌, ◌*◌, ◌≤◌, ◌<◌, [], ◌∷◌, length, refl, ap, sym, arith}
-use native.Mathlib.Nat.{mul-le-mul_left}
+-- `days::sum_days` meets its contract: a turn adds a day. The check leaves each of these goals open without its answer.
+-- Each goal stands at a place of its own, with names of its own, so what they share is told in each.
+use Rattle.std.proofs.Common.{◌≡◌, ◌∙◌, ◌+◌, ◌*◌, [], ◌∷◌, drop, length, refl, ap, sym, arith}
+use Rattle.std.proofs.lemmas.List.{length_push}
 use Rattle.model.specs.Fields.{valueAll, rightAll}
 use Rattle.model.specs.Layout.{dailyRate, day}
 use Rattle.model.specs.Refusals.{first_of}
-use Rattle.theory.proofs.acceptance.Form.{by_form}
 use Rattle.theory.proofs.acceptance.Runs.{values_length}
-use Rattle.reader.specs.inner.Sums.{Bounded, ratesIn, added, sumsOf}
-use Rattle.reader.proofs.DaySums.{sums-next, sums-room, day-rates, day-right, chunks-many, turn-part, turn-long, no-sums}
+use Rattle.reader.specs.inner.Sums.{added}
+use Rattle.reader.proofs.DaySums.{sums-next, sums-room, day-right, turn-rates, turn-left, turn-within, all-days, no-sums}
 use Rattle.reader.proofs.Runs.{check-held, check-failed, right-next, not-right}
 use Rattle.reader.proofs.Steps.{refused}
 use Rattle.reader.proofs.days.sum_days.Goals as goal
 
-pub loop-d-init : goal.loop-d-init
-loop-d-init g c = record { right = refl; held = sym no-sums }
-
-pub add_day-requires : goal.add_day-requires
-add_day-requires g c =
-    let w = g.row.W in
-    let l = c.loop-d in
-    let known = c.requires.form in
-    let many = c.as_chunks.ensures.front_len ∙ chunks-many w c.args.count c.args.rates.now known c.requires.whole in
-    let reach : 60 * l.d + 60 ≤ length c.as_chunks.result.0.now = omega (arith, many) in
-    let ds = valueAll (day w) c.args.rates.now 0 l.d in (
-      by_form (λ v. v * 1 < 9223372036854775808) w known (omega arith) (omega arith),
-      (
-        known,
-        (
-          turn-long c.as_chunks.result.0.now l.d reach,
-          rw l.invariant.held (sums-room w ds l.invariant.right (omega (arith, values_length (day w) c.args.rates.now 0 l.d))),
-        ),
-      ),
-    )
-
-pub loop-d-preserved : goal.loop-d-preserved
-loop-d-preserved g c =
-    let w = g.row.W in
-    let l = c.loop-d in
-    let chunks = c.as_chunks.result.0.now in
-    let rates = c.args.rates.now in
-    let known = c.requires.form in
-    let many = c.as_chunks.ensures.front_len ∙ chunks-many w c.args.count rates known c.requires.whole in
-    let read = ap (ratesIn w) (turn-part chunks l.d) ∙ day-rates w known chunks rates l.d c.as_chunks.ensures.front (omega (arith, many)) in
-    let h = c.in_ok-add_day.ensures in
+pub loop-day-init : goal.loop-day-init
+loop-day-init g c =
+    let chunks = c.chunks_exact-day-items.ensures in
+    let same = c.into_iter-day-iterator.ensures.into_iter_gives in
+    let none : 0 ≡ g.F.RateForm.WIDTH * 60 * 0 = omega arith in
     record {
-      right = right-next (day w) rates 0 l.d l.invariant.right (day-right w rates (0 + w * 60 * l.d) ∙ ap (rightAll (dailyRate w)) (sym read) ∙ check-held _ _ h.0);
-      held = h.1 ∙ ap (added l.sums) read ∙ ap (λ ss. added ss (valueAll (dailyRate w) rates (0 + w * 60 * l.d) 60)) l.invariant.held ∙ sums-next w rates l.d;
+      size = rw same (chunks.size ∙ ap (λ w. w * 60) c.WIDTH.ensures);
+      left = rw same chunks.rest ∙ ap (λ n. drop n c.args.rates.now) none;
+      within = omega arith;
+      right = refl;
+      held = sym no-sums;
     }
+
+pub add_day-requires-clause-room : goal.add_day-requires-clause-room
+add_day-requires-clause-room g c =
+    let w = g.F.RateForm.WIDTH in
+    let l = c.loop-day.invariant in
+    let rates = c.args.rates.now in
+    let d = length c.loop-day.yielded in
+    let (size, (is, long), remainder) = c.in-Some.ensures.steps in
+    let less = turn-within w rates _ _ d (sym l.left ∙ is) (long ∙ l.size) g.met.F.RateForm.known in
+    rw l.held (sums-room w (valueAll (day w) rates 0 d) l.right (omega (arith, less, c.requires, values_length (day w) rates 0 d)))
+
+pub loop-day-preserved : goal.loop-day-preserved
+loop-day-preserved g c =
+    let w = g.F.RateForm.WIDTH in
+    let l = c.loop-day.invariant in
+    let rates = c.args.rates.now in
+    let d = length c.loop-day.yielded in
+    let (size, (is, long), remainder) = c.in-Some.ensures.steps in
+    let here = sym l.left ∙ is in
+    let whole = long ∙ l.size in
+    let read = turn-rates w rates _ _ d here whole in
+    let h = c.in_ok-add_day.ensures in
+    rw (length_push c.loop-day.yielded c.in-Some.day) (record {
+      size = size ∙ l.size;
+      left = turn-left w rates _ _ d here whole;
+      within = omega (arith, turn-within w rates _ _ d here whole g.met.F.RateForm.known);
+      right = right-next (day w) rates 0 d l.right (day-right w rates (0 + w * 60 * d) ∙ ap (rightAll (dailyRate w)) (sym read) ∙ check-held _ _ h.0);
+      held = h.1 ∙ ap (added c.loop-day.sums) read ∙ ap (λ ss. added ss (valueAll (dailyRate w) rates (0 + w * 60 * d) 60)) l.held ∙ sums-next w rates d;
+    })
 
 pub returns-in_err-add_day : goal.returns-in_err-add_day
 returns-in_err-add_day g c =
-    let w = g.row.W in
-    let l = c.loop-d in
-    let chunks = c.as_chunks.result.0.now in
+    let w = g.F.RateForm.WIDTH in
+    let l = c.loop-day.invariant in
     let rates = c.args.rates.now in
-    let known = c.requires.form in
-    let many = c.as_chunks.ensures.front_len ∙ chunks-many w c.args.count rates known c.requires.whole in
-    let read = ap (ratesIn w) (turn-part chunks l.d) ∙ day-rates w known chunks rates l.d c.as_chunks.ensures.front (omega (arith, many)) in
+    let d = length c.loop-day.yielded in
+    let (size, (is, long), remainder) = c.in-Some.ensures.steps in
+    let here = sym l.left ∙ is in
+    let whole = long ∙ l.size in
+    let read = turn-rates w rates _ _ d here whole in
     let wrong = check-failed _ _ _ c.in_err-add_day.ensures in
-    let all = not-right (day w) rates 0 c.args.count l.d c.loop-d-test.true
-    (day-right w rates (0 + w * 60 * l.d) ∙ ap (rightAll (dailyRate w)) (sym read) ∙ wrong) in
+    let all = not-right (day w) rates 0 _ d (turn-within w rates _ _ d here whole g.met.F.RateForm.known)
+    (day-right w rates (0 + w * 60 * d) ∙ ap (rightAll (dailyRate w)) (sym read) ∙ wrong) in
     refused _ _ _ _ c.from_residual.ensures (c.in_err-add_day.ensures ∙ ap (λ b. first_of ((b, 5) ∷ [])) (wrong ∙ sym all))
 
 pub returns : goal.returns
 unfolding first_of
 returns g c =
-    let l = c.loop-d in
-    let all : l.d ≡ c.args.count = omega arith in
-    (ap (λ b. first_of ((b, 5) ∷ [])) (rw all at l.invariant.right), rw all at l.invariant.held)
+    let w = g.F.RateForm.WIDTH in
+    let l = c.loop-day.invariant in
+    let (size, (short, same), remainder) = c.in-None.ensures.steps in
+    let all = all-days w c.args.rates.now _ g.met.F.RateForm.known l.within (rw (← l.left, ← l.size) short) in
+    (ap (λ b. first_of ((b, 5) ∷ [])) (rw all at l.right), rw all at l.held)

@@ -1,12 +1,17 @@
--- After d turns of `sum_days` the first d days are summed, and their rates are within their limits.
-use Rattle.std.proofs.Common.{◌≡◌, true}
+-- After some turns of `sum_days` the days so far are summed, their rates are within their limits, and the bytes behind them are left.
+use Rattle.std.proofs.Common.{◌≡◌, ◌*◌, ◌/◌, ◌≤◌, drop, length, true}
 use Rattle.model.specs.Fields.{valueAll, rightAll}
 use Rattle.model.specs.Layout.{day}
 use Rattle.reader.specs.inner.Sums.{sumsOf}
 use Rattle.reader.proofs.days.sum_days.Given as goal
 
-abbrev pub invariant-loop-d : goal.invariant-loop-d
-invariant-loop-d g l = record {
-  right : rightAll (day g.row.W) (valueAll (day g.row.W) l.rates 0 l.d) ≡ true;
-  held : l.sums ≡ sumsOf (valueAll (day g.row.W) l.rates 0 l.d);
-}
+abbrev pub invariant-loop-day : goal.invariant-loop-day
+invariant-loop-day g l =
+    let w = g.F.RateForm.WIDTH in
+    let d = length l.yielded in record {
+      size : l.day-iterator.size ≡ w * 60;
+      left : l.day-iterator.rest.now ≡ drop (w * 60 * d) l.rates;
+      within : d ≤ length l.rates / (w * 60);
+      right : rightAll (day w) (valueAll (day w) l.rates 0 d) ≡ true;
+      held : l.sums ≡ sumsOf (valueAll (day w) l.rates 0 d);
+    }

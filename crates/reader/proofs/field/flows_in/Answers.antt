@@ -1,4 +1,4 @@
--- `field::flows_in` meets its contract: a turn reads one flow more.
+-- `field::flows_in` meets its contract: a turn reads one flow more. The check leaves each of these goals open without its answer.
 use Rattle.std.proofs.Common.{◌≡◌, ◌∙◌, ◌/◌, ◌++◌, [], ◌∷◌, leb, length, ap, sym, arith}
 use native.Mathlib.Numerals.{add-one}
 use Rattle.model.specs.Fields.{valueAll}
@@ -24,7 +24,7 @@ loop-chunk-preserved g c =
     let next = c.push.ensures ∙ ap (λ xs. xs ++ c.big_endian-flow.result ∷ []) l.invariant.held
     ∙ ap (λ v. valueAll flow file 0 l.chunk-index ++ v ∷ []) is ∙ sym (values-last flow file 0 l.chunk-index)
     ∙ ap (valueAll flow file 0) (sym (add-one l.chunk-index)) in
-    let right = check-held _ _ c.in_ok-check.ensures.0 in
+    let right = check-held _ _ c.in_ok-check.ensures.checked.0 in
     record {
       held = next;
       right = right-next flow file 0 l.chunk-index l.invariant.right (sym (at_most 100000000 _) ∙ ap (λ v. leb v 100000000) (sym is) ∙ right);
@@ -34,7 +34,7 @@ pub returns-in_err-check : goal.returns-in_err-check
 returns-in_err-check g c =
     let l = c.loop-chunk in
     let is = c.big_endian-flow.ensures.0 ∙ chunk-whole 4 _ c.args.bytes.now l.chunk-index [] c.as_chunks.ensures.front (omega arith) c.loop-chunk-test.true in
-    let wrong = check-failed _ _ _ c.in_err-check.ensures in
+    let wrong = check-failed _ _ _ c.in_err-check.ensures.checked in
     let all = not-right flow c.args.bytes.now 0 (length c.args.bytes.now / 4) l.chunk-index (omega arith)
     (sym (at_most 100000000 _) ∙ ap (λ v. leb v 100000000) (sym is) ∙ wrong) in
-    refused _ _ _ _ c.from_residual.ensures (c.in_err-check.ensures ∙ ap (λ b. first_of ((b, 8) ∷ [])) (wrong ∙ sym all))
+    refused _ _ _ _ c.from_residual.ensures (c.in_err-check.ensures.checked ∙ ap (λ b. first_of ((b, 8) ∷ [])) (wrong ∙ sym all))

@@ -1,49 +1,53 @@
 -- `field::read_days` meets its contract: the count and the length, and then each rate.
-use Rattle.std.proofs.Common.{◌≡◌, ◌∙◌, ◌*◌, ◌+◌, [], ◌∷◌, length, ap, refl, sym, arith}
+-- The check leaves each of these goals open without its answer.
+-- Each goal stands at a place of its own, with names of its own, so what they share is told in each.
+use Rattle.std.proofs.Common.{◌∙◌, ◌*◌, ◌+◌, ◌/◌, length, [], ◌∷◌, ap, refl, sym}
 use mathlib.Core.Path.{ap₂}
-use Rattle.model.specs.Case.{unitsPerStep}
 use Rattle.model.specs.Fields.{rightAll, valueAll}
 use Rattle.model.specs.Layout.{day}
 use Rattle.model.specs.Refusals.{first_of}
 use Rattle.theory.proofs.acceptance.Runs.{values_length}
 use Rattle.reader.specs.inner.Checks.{countChecks}
 use Rattle.reader.specs.inner.Sums.{sumsOf}
-use Rattle.reader.proofs.DaySums.{days-whole, sums-bounded, few-steps}
+use Rattle.reader.proofs.DaySums.{days-whole, whole-days, sums-bounded, few-steps, few-units}
 use Rattle.reader.proofs.Runs.{check-held}
 use Rattle.reader.proofs.Steps.{go, refused}
 use Rattle.reader.proofs.field.read_days.Goals as goal
 
-pub returns-in_err-sums : goal.returns-in_err-sums
-returns-in_err-sums g c =
-    let w = g.row.W in
+pub returns-in_err-sum_days : goal.returns-in_err-sum_days
+returns-in_err-sum_days g c =
+    let w = g.F.RateForm.WIDTH in
     let cursor = c.args.cursor.now in
-    let (none, (is, some, few, part, moved)) = c.in_ok-count.ensures in
-    let ds = days-whole w c.requires _ cursor.file.now (cursor.at + 1) _ part.bytes ∙ ap (valueAll (day w) _ _) is in
-    refused _ _ _ _ c.from_residual-in_err-sums.ensures
-    (go (countChecks 70 4 (w * 60) cursor.file.now cursor.at) _ tt none (c.in_err-sums.ensures ∙ ap (λ xs. first_of ((rightAll (day w) xs, 5) ∷ [])) ds))
+    let (none, (is, some, few, part, moved)) = rw c.WIDTH.ensures at c.in_ok-count.ensures in
+    let counted = whole-days w _ _ g.met.F.RateForm.known part.whole in
+    let ds = days-whole w _ cursor.file.now (cursor.at + 1) _ counted part.bytes ∙ ap (valueAll (day w) _ _) is in
+    refused _ _ _ _ c.from_residual-in_err-sum_days.ensures
+    (go (countChecks 70 4 (w * 60) cursor.file.now cursor.at) _ tt none (c.in_err-sum_days.ensures ∙ ap (λ xs. first_of ((rightAll (day w) xs, 5) ∷ [])) ds))
 
-pub invariant_of-result : goal.invariant_of-result
-invariant_of-result g c =
-    let w = g.row.W in
-    let (none, (is, some, few, part, moved)) = c.in_ok-count.ensures in
-    let (right, sums) = c.in_ok-sums.ensures in
-    let u = c.units_per_step.ensures in
-    let ds = valueAll (day w) c.in_ok-count.rates.now 0 c.in_ok-count.count in
+pub invariant_of-summed : goal.invariant_of-summed
+invariant_of-summed g c =
+    let w = g.F.RateForm.WIDTH in
+    let (none, (is, some, few, part, moved)) = rw c.WIDTH.ensures at c.in_ok-count.ensures in
+    let (right, sums) = c.in_ok-sum_days.ensures in
+    let u = c.UNITS_PER_STEP.ensures ∙ g.met.F.RateForm.units in
+    let counted = whole-days w _ _ g.met.F.RateForm.known part.whole in
+    let ds = valueAll (day w) c.in_ok-count.rates.now 0 (length c.in_ok-count.rates.now / (w * 60)) in
     record {
-      few = few-steps _ _ u.1 few;
+      few = few-steps _ _ (rw u (few-units w)) few;
       bounded = sums-bounded w _ ds _ (check-held _ _ right) sums
-          (ap₂ (λ a n. a * n) u.0 (sym (values_length (day w) c.in_ok-count.rates.now 0 c.in_ok-count.count)));
+          (ap₂ (λ a n. a * n) u (sym (values_length (day w) c.in_ok-count.rates.now 0 _ ∙ counted)));
     }
 
 pub returns : goal.returns
 returns g c =
-    let w = g.row.W in
+    let w = g.F.RateForm.WIDTH in
     let cursor = c.args.cursor.now in
-    let (none, (is, some, few, part, moved)) = c.in_ok-count.ensures in
-    let (right, sums) = c.in_ok-sums.ensures in
-    let u = c.units_per_step.ensures in
-    let ds = days-whole w c.requires _ cursor.file.now (cursor.at + 1) _ part.bytes ∙ ap (valueAll (day w) _ _) is in
+    let (none, (is, some, few, part, moved)) = rw c.WIDTH.ensures at c.in_ok-count.ensures in
+    let (right, sums) = c.in_ok-sum_days.ensures in
+    let u = c.UNITS_PER_STEP.ensures ∙ g.met.F.RateForm.units in
+    let counted = whole-days w _ _ g.met.F.RateForm.known part.whole in
+    let ds = days-whole w _ cursor.file.now (cursor.at + 1) _ counted part.bytes ∙ ap (valueAll (day w) _ _) is in
     let long = is ∙ sym (values_length (day w) cursor.file.now (cursor.at + 1) _) in (
       sym (go (countChecks 70 4 (w * 60) cursor.file.now cursor.at) _ tt none (sym right ∙ ap (λ xs. first_of ((rightAll (day w) xs, 5) ∷ [])) ds)),
-      (record { sums = record { step = ap₂ (λ a n. a * n) u.0 long; terms = sums ∙ ap sumsOf ds }; place = refl; part = rw (← long) part }, moved),
+      (record { sums = record { step = ap₂ (λ a n. a * n) u long; terms = sums ∙ ap sumsOf ds }; place = refl; part = rw (← long) part }, moved),
     )

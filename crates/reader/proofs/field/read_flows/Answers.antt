@@ -1,4 +1,4 @@
--- `field::read_flows` meets its contract: the count and the length, and then each flow.
+-- `field::read_flows` meets its contract: the count and the length, and then each flow. The check leaves this goal open without its answer.
 use Rattle.std.proofs.Common.{◌≡◌, ◌∙◌, [], ◌∷◌, ap, subst}
 use Rattle.model.specs.Fields.{rightAll, valueAll}
 use Rattle.model.specs.Layout.{flow}

@@ -1,4 +1,5 @@
 -- `file::read` meets its contract: the bytes of a lent slice fit 8 bits, and so what is read tells all of `ReadExactly`.
+-- The check leaves this goal open without its answer.
 use Rattle.reader.proofs.Exactly.{slice-bytes, read-exactly}
 use Rattle.reader.proofs.file.read.Goals as goal
 

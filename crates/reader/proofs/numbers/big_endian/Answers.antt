@@ -1,4 +1,4 @@
--- `numbers::big_endian` meets its contract: a byte more is a digit more.
+-- `numbers::big_endian` meets its contract: a byte more is a digit more. The check leaves each of these goals open without its answer.
 use Rattle.std.proofs.Common.{arith, sym}
 use Rattle.reader.proofs.Digits.{number-none, number-next, digit, digits-leave-room}
 use Rattle.reader.proofs.numbers.big_endian.Goals as goal

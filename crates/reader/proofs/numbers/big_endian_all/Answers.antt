@@ -1,6 +1,6 @@
 -- `numbers::big_endian_all` meets its contract: a turn writes the number of the next chunk.
-use Rattle.std.proofs.Common.{◌≡◌, ◌≤◌, ◌<◌, ◌∙◌, ◌+◌, ◌*◌, ◌/◌, ℕ, subst, ap, sym, refl, length, arith, replicate}
-use mathlib.Core.Path.{ap₂}
+-- The check leaves each of these goals open without its answer.
+use Rattle.std.proofs.Common.{◌≡◌, ◌<◌, ◌∙◌, ◌/◌, subst, ap, sym, refl, length, arith, replicate}
 use Rattle.model.specs.Numbers.{table, number}
 use Rattle.model.specs.Fields.{number_of}
 use Rattle.theory.proofs.general.Lists.{table_filled, all-filled}

@@ -1,35 +1,39 @@
--- `add_day`: a rate more, and at the end all are added.
-use Rattle.std.proofs.Common.{FitsSigned, ◌≡◌, ◌∙◌, arith, get_or, pos, refl, rules, w32}
-use Rattle.std.proofs.lemmas.Int.{ints}
+-- `add_day`: a rate more, and at the end all are looked at and added. The check leaves each of these goals open without its answer.
+use Rattle.std.proofs.Common.{FitsSigned, ◌≡◌, ◌∙◌, ◌&&◌, add-one, ap, arith, get_or, pos, refl, rules, sym, take, w32, ℕ}
+use Rattle.std.proofs.lemmas.Int.{ints, to_z-of_z}
+use mathlib.Core.Path.{ap₂}
+use Rattle.model.specs.Fields.{rightAll}
+use Rattle.model.specs.Layout.{dailyRate}
+use Rattle.theory.proofs.acceptance.Runs.{right-front}
 use Rattle.model.specs.Numbers.{table}
-use Rattle.theory.proofs.general.Lists.{table_filled, all-filled}
+use Rattle.theory.proofs.general.Lists.{table_filled}
 use Rattle.reader.proofs.DayRates.{entry_kept}
 use Rattle.saving.proofs.days.add_day.Goals as goal
 
 pub loop-t-init : goal.loop-t-init
 unfolding table
-loop-t-init c = refl
+loop-t-init g c = record { right = refl; sums = refl }
 
 pub overflow_add-sum : goal.overflow_add-sum
-overflow_add-sum c =
+overflow_add-sum g c =
     let l = c.loop-t in
-    let kept = entry_kept _ c.args.sums.now l.sums l.t (omega arith) l.invariant in
+    let kept = entry_kept _ c.args.sums.now l.sums l.t (omega arith) l.invariant.sums in
     let held = c.requires.each l.t (omega arith) in
     let rate = get_or c.args.rates.now l.t (pos 0) in
     let fits : FitsSigned w32 rate = search rules in
     omega (arith, ints, held.least, held.most)
 
 pub loop-t-preserved : goal.loop-t-preserved
-loop-t-preserved c =
+loop-t-preserved g c =
     let l = c.loop-t in
-    let kept = entry_kept _ c.args.sums.now l.sums l.t (omega arith) l.invariant in
+    let kept = entry_kept _ c.args.sums.now l.sums l.t (omega arith) l.invariant.sums in
     let held = c.requires.each l.t (omega arith) in
-    let rate = get_or c.args.rates.now l.t (pos 0) in
+    let x = dailyRate g.F.RateForm.WIDTH in
+    let rates = c.args.rates.now in
+    let rate = get_or rates l.t (pos 0) in
     let fits : FitsSigned w32 rate = search rules in
-    table_filled _ c.args.sums.now l.sums l.t _ (omega arith) (omega (arith, ints, held.least, held.most)) l.invariant
-
-pub returns : goal.returns
-returns c =
-    let l = c.loop-t in
-    let all : l.t ≡ 60 = omega arith in
-    all-filled c.args.sums.now l.sums (table _ l.t) l.t (omega arith) l.invariant ∙ rw all
+    let seen : c.is_rate-right.result ≡ x.right rate = rw (to_z-of_z w32 rate fits) at c.is_rate-right.ensures in
+    record {
+      right = ap₂ ◌&&◌ l.invariant.right seen ∙ sym (ap (λ (n : ℕ). rightAll x (take n rates)) (add-one l.t) ∙ right-front x rates l.t (pos 0) (omega arith));
+      sums = table_filled _ c.args.sums.now l.sums l.t _ (omega arith) (omega (arith, ints, held.least, held.most)) l.invariant.sums;
+    }

@@ -1,4 +1,5 @@
 -- `days_in`: the chunks of 60 rates are the days, and a list with some rates more has none.
+-- The check leaves each of these goals open without its answer.
 use Rattle.std.proofs.Common.{◌∙◌, length, sym}
 use borrow.Author.Tests.{eqb-true, eqb-false}
 use Rattle.saving.proofs.DaysOf.{all-days, no-days}

@@ -1,5 +1,5 @@
 -- After i turns the entries of the first i brackets are written.
-use Rattle.std.proofs.Common.{◌≡◌, ◌*◌, ◌++◌, length, take, drop}
+use Rattle.std.proofs.Common.{◌≡◌, ◌*◌, ◌++◌, take, drop}
 use Rattle.working.specs.inner.Entries.{entries}
 use Rattle.working.proofs.lend.lend.Given as goal
 

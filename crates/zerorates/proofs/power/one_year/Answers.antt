@@ -1,4 +1,4 @@
--- `zerorates::power::one_year` meets its contract. Assumes nothing.
+-- `zerorates::power::one_year` meets its contract. Assumes nothing. The check leaves each of these goals open without its answer.
 use Rattle.std.proofs.Common.{arith}
 use Rattle.zerorates.proofs.Powers.{year-most, one-year}
 use Rattle.zerorates.specs.inner.Powers.{powerMost}

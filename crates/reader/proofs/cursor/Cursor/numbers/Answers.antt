@@ -1,5 +1,5 @@
--- `Cursor::numbers` meets its contract: the part that is taken are the numbers.
-use Rattle.std.proofs.Common.{◌∙◌, ◌*◌}
+-- `Cursor::numbers` meets its contract: the part that is taken are the numbers. The check leaves this goal open without its answer.
+use Rattle.std.proofs.Common.{◌∙◌}
 use Rattle.reader.proofs.Digits.{values-whole}
 use Rattle.reader.proofs.cursor.Cursor.numbers.Goals as goal
 

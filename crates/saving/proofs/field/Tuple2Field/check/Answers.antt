@@ -1,4 +1,4 @@
--- `check` of a pair: the first refuses, or the second answers.
+-- `check` of a pair: the first refuses, or the second answers. The check leaves each of these goals open without its answer.
 use Rattle.std.proofs.Common.{◌∙◌, sym}
 use Rattle.std.proofs.lemmas.Result.{err_from_is_err_and}
 use Rattle.saving.proofs.Checked.{fails-first, holds-first}

@@ -1,4 +1,4 @@
--- `room_after` of a pair: both are within their limits.
+-- `room_after` of a pair: both are within their limits. The check leaves each of these goals open without its answer.
 use Rattle.saving.proofs.Checked.{both-hold}
 use Rattle.saving.proofs.field.Tuple2Field.room_after.Goals as goal
 

@@ -1,4 +1,5 @@
 -- `write` of a pair: both are within their limits, and one is written behind the other.
+-- The check leaves each of these goals open without its answer.
 use Rattle.saving.proofs.Checked.{both-hold}
 use Rattle.saving.proofs.Written.{then}
 use Rattle.saving.proofs.field.Tuple2Field.write.Goals as goal

@@ -1,4 +1,4 @@
--- `write` of the people: three numbers, one after another.
+-- `write` of the people: three numbers, one after another. The check leaves this goal open without its answer.
 use Rattle.saving.proofs.Written.{then}
 use Rattle.saving.proofs.fixed.PeopleField.write.Goals as goal
 

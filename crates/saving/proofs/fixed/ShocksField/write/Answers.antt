@@ -1,4 +1,5 @@
 -- `write` of the shocks: the ten of one limit, then the credit spread and the credit duration.
+-- The check leaves this goal open without its answer.
 use Rattle.std.proofs.Common.{◌∙◌, ap, sym}
 use Rattle.model.specs.Layout.{shocksInOrder}
 use Rattle.saving.specs.Wrote.{bytes_of_each}

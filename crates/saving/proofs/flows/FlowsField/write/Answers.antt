@@ -1,4 +1,4 @@
--- `write` of flows: the count, then the flows.
+-- `write` of flows: the count, then the flows. The check leaves this goal open without its answer.
 use Rattle.std.proofs.Common.{sym}
 use Rattle.saving.proofs.Bytes.{run_is}
 use Rattle.saving.proofs.Written.{then, as-text}

@@ -1,4 +1,4 @@
--- `number`: the last of its eight bytes.
+-- `number`: the last of its eight bytes. The check leaves this goal open without its answer.
 use Rattle.std.proofs.Common.{◌∙◌, List, ℕ, ap, drop, take, ◌-◌}
 use Rattle.saving.proofs.Bytes.{last-bytes}
 use Rattle.saving.proofs.Written.{as-text}

@@ -1,12 +1,9 @@
--- `numbers`: a number more.
+-- `numbers`: a number more. The check leaves each of these goals open without its answer.
 use Rattle.std.proofs.Common.{arith}
 use Rattle.model.specs.Fields.{number_of}
 use Rattle.theory.proofs.acceptance.Encoding.{length-bytes}
-use Rattle.saving.proofs.Written.{nothing, room-next, one-more}
+use Rattle.saving.proofs.Written.{room-next, one-more}
 use Rattle.saving.proofs.writer.Writer.numbers.Goals as goal
-
-pub loop-v-init : goal.loop-v-init
-loop-v-init c = nothing _
 
 pub number-requires-clause-room : goal.number-requires-clause-room
 number-requires-clause-room c =

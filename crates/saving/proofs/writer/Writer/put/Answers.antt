@@ -1,4 +1,4 @@
--- `put`: the text in the place of a part of the buffer is a run of stores.
+-- `put`: the text in the place of a part of the buffer is a run of stores. The check leaves this goal open without its answer.
 use Rattle.std.proofs.Common.{◌∙◌, ap, length, refl}
 use Rattle.std.proofs.Math.Seq.{length-sets}
 use Rattle.saving.proofs.Written.{copied}

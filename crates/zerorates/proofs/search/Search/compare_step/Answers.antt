@@ -1,4 +1,5 @@
 -- `zerorates::search::Search::compare_step` meets its contract. Assumes nothing.
+-- The check leaves each of these goals open without its answer.
 use Rattle.std.proofs.Common.{arith}
 use Rattle.zerorates.proofs.Tested.{compared-above, compared-below}
 use Rattle.zerorates.proofs.search.Search.compare_step.Goals as goal

@@ -1,4 +1,5 @@
 -- `zerorates::search::Search::steps_left` meets its contract. Assumes nothing.
+-- The check leaves each of these goals open without its answer.
 use Rattle.std.proofs.Common.{refl, add-one}
 use Rattle.searchmodel.specs.Bisection.{afterTests}
 use Rattle.zerorates.proofs.Left.{left-within}

@@ -1,4 +1,4 @@
--- `zerorates::step::TermStep::compare` meets its contract. Assumes nothing.
+-- `zerorates::step::TermStep::compare` meets its contract. Assumes nothing. The check leaves each of these goals open without its answer.
 use Rattle.std.proofs.Common.{arith}
 use Rattle.zerorates.proofs.Tested.{compared-above, compared-below}
 use Rattle.zerorates.proofs.step.TermStep.compare.Goals as goal

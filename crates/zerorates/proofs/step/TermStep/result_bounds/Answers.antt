@@ -1,4 +1,5 @@
 -- `zerorates::step::TermStep::result_bounds` meets its contract. Assumes nothing.
+-- The check leaves each of these goals open without its answer.
 use Rattle.std.proofs.Common.{arith}
 use Rattle.zerorates.proofs.Powers.{both-fit}
 use Rattle.zerorates.proofs.Tested.{lower-bound, upper-bound, upper-most}

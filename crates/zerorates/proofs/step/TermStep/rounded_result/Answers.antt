@@ -1,4 +1,5 @@
 -- `zerorates::step::TermStep::rounded_result` meets its contract. Assumes nothing.
+-- The check leaves each of these goals open without its answer.
 use Rattle.std.proofs.Common.{sym}
 use Rattle.zerorates.proofs.Tested.{tested-none, test_fits, test-more}
 use Rattle.zerorates.proofs.step.TermStep.rounded_result.Goals as goal

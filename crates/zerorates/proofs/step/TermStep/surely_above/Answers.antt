@@ -1,4 +1,5 @@
 -- `zerorates::step::TermStep::surely_above` meets its contract. Assumes nothing.
+-- The check leaves each of these goals open without its answer.
 use Rattle.zerorates.proofs.step.Sure.{above-until}
 use Rattle.zerorates.proofs.step.TermStep.surely_above.Goals as goal
 

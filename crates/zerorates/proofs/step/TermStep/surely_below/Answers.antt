@@ -1,4 +1,5 @@
 -- `zerorates::step::TermStep::surely_below` meets its contract. Assumes nothing.
+-- The check leaves each of these goals open without its answer.
 use Rattle.zerorates.proofs.step.Sure.{below-from}
 use Rattle.zerorates.proofs.step.TermStep.surely_below.Goals as goal
 

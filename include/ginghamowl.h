@@ -22,10 +22,10 @@
  *   - Nothing is asked of the CONTENT of what is lent, or handed in by value: any bytes, numbers and
  *     lengths are answered.
  *
- * Link libginghamowl.a or libginghamowl.so with any C or C++ program for x86-64 Linux; both need no
- * library but the C library. `hosts/build` makes them in hosts/target, and `hosts/install PREFIX` puts
- * them, this header and ginghamowl.pc (for pkg-config) below PREFIX. ginghamowl_words.h has the
- * refusals and the verdicts in words.
+ * Link libginghamowl.a or libginghamowl.so with any C or C++ program for Linux on an x86-64 processor of
+ * level v2 (an older one stops it with SIGILL); both need no library but the C library. `hosts/build`
+ * makes them in hosts/target, and `hosts/install PREFIX` puts them, this header and ginghamowl.pc (for
+ * pkg-config) below PREFIX. ginghamowl_words.h has the refusals and the verdicts in words.
  */
 #ifndef GINGHAMOWL_H
 #define GINGHAMOWL_H
@@ -39,13 +39,15 @@ extern "C" {
 
 /* ---------------------------------------------------------------- version */
 
-/* Of this header. Before 1.0 a new minor version may change what stands here; the shared library's
- * name has both numbers for that reason, libginghamowl.so.MAJOR.MINOR. */
+/* Of this header, and the kit that the engine of this version is proved with. Before 1.0 a new minor
+ * version may change what stands here; the shared library's name has both numbers for that reason,
+ * libginghamowl.so.MAJOR.MINOR. What is linked or loaded says by ginghamowl_version which it is. */
 /* hosts/words writes: version */
 #define GINGHAMOWL_VERSION "0.9.0"
 #define GINGHAMOWL_VERSION_MAJOR 0
 #define GINGHAMOWL_VERSION_MINOR 9
 #define GINGHAMOWL_VERSION_PATCH 0
+#define GINGHAMOWL_KIT "rattle-kit-13f"
 /* hosts/words: end of version */
 
 /* ---------------------------------------------------------------- sizes */
@@ -208,6 +210,13 @@ typedef struct {
     ginghamowl_figures figures;
 } ginghamowl_valuation;
 
+/* The version of what is linked or loaded, and the kit that it is proved with: a text, with zeros
+ * behind it to the end. (A type may not have the name of the function that gives it.) */
+typedef struct {
+    uint32_t major, minor, patch;
+    char kit[32];
+} ginghamowl_engine_version;
+
 /* `length` bytes of the file from `offset` on. */
 typedef struct {
     size_t offset;
@@ -305,6 +314,12 @@ typedef struct {
 } ginghamowl_ufr;
 
 /* ---------------------------------------------------------------- functions */
+
+/* The version of the engine that is linked or loaded, and the kit that it is proved with. A program that
+ * was compiled with another header than the library's own may take its structs for others: one that loads
+ * the library by itself should compare these numbers with GINGHAMOWL_VERSION_MAJOR, _MINOR and _PATCH
+ * ahead of all other calls. Libraries before 0.9.0 have no such function. */
+ginghamowl_engine_version ginghamowl_version(void);
 
 /* Values a case file. On acceptance the entries 0 to 239 of both buffers are written, lower and
  * upper, term by term: factors in units of 10^-12, zero rates in steps of 0.00001. Entries from 240

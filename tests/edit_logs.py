@@ -4,13 +4,14 @@ Command line: python3 tests/edit_logs.py [--kept] [--said FILE] [NAME | NAME/EDI
 
 `rt ci` and `rt must-fail` tell only the first line of a refusal. With --said, where FILE has what one of them said, that line is enough for
 an edit of which it shows all that the comment names. Any other edit is put into a copy of the crates, and what `rt check` says there is
-kept in target/must-fail/NAME/EDIT.log; with --kept, the logs that are there are looked at as they are. While this runs, its copies stand in
-target/, and `rt must-fail` in the same clone takes their crates, which have no edits, for the clone's own.
+kept in target/must-fail/NAME/EDIT.log; with --kept, the logs that are there are looked at as they are. The copies stand among the temporary
+files: in the checkout `rt ci` would refuse them, as sources that no check reads. Those of a call that was killed are removed by the next.
 
 An edit that is refused for another reason, because a proof no longer fits it, guards nothing. Ends with 1 if a log is missing, or if a
 statement or a fact of a function that is named has no error in it.
 """
 
+import glob
 import os
 import re
 import shutil
@@ -18,11 +19,13 @@ import subprocess
 import sys
 import tempfile
 from concurrent.futures import ThreadPoolExecutor
+from contextlib import contextmanager
 
 sys.path.insert(0, os.path.dirname(os.path.abspath(__file__)))
 from edits import EDITS, ROOT, edited, facts, functions_of, parts, place, read_text, refusing
 
 LOGS = os.path.join(ROOT, "target", "must-fail")
+COPIES = "ginghamowl-edits-"
 PART = 7  # so many edits share a copy of the crates
 NOTE = re.compile(r"note: \S+:\d+:\d+: it is not proved that .*? \(`([^`]+)`\)")
 TOLD = re.compile(r"fn (\S+): (.*)")
@@ -30,23 +33,41 @@ TOLD = re.compile(r"fn (\S+): (.*)")
 
 # ---------------------------------------------------------------- making the logs
 
-def copied(tree):
-    """A copy of the crates with what was proved of them. It shares the checked modules: a check replaces such a file, and never writes into one."""
-    def copy(source, target):
-        try:
-            if source.endswith(".oantt"):
-                return os.link(source, target)
-        except OSError:  # another file system
-            pass
-        return shutil.copy2(source, target)
-    shutil.copytree(os.path.join(ROOT, "crates"), os.path.join(tree, "crates"), copy_function=copy, ignore=shutil.ignore_patterns("must-fail"))
-    shutil.copy2(os.path.join(ROOT, "crates.txt"), tree)
+def lines_of(crates):
+    """The lines of crates.txt for crates and those below them, by their names."""
+    lines = [line.partition("#")[0] for line in read_text(os.path.join(ROOT, "crates.txt")).splitlines()]
+    lines = {line.split()[0].rstrip(":"): line for line in lines if line.strip()}
+    taken, left = set(), set(crates)
+    while left:
+        taken |= left
+        left = {word for name in left for word in lines[name].partition(":")[2].split() if word in lines} - taken
+    return {name: line for name, line in lines.items() if name in taken}
 
 
-def check(tree, crate):
-    """(exit status, what was said) of a check of a crate of a tree."""
-    ran = subprocess.run(["rt", "check"], cwd=os.path.join(tree, "crates", crate), stdin=subprocess.DEVNULL,
-                         stdout=subprocess.PIPE, stderr=subprocess.STDOUT, encoding="utf-8", errors="replace")
+@contextmanager
+def copy_of(*crates):
+    """A copy of crates and of those below them, without what was proved of them: rt begins with what a check of another copy has proved."""
+    with tempfile.TemporaryDirectory(prefix=f"{COPIES}{os.getpid()}-") as tree:
+        lines = lines_of(crates)
+        write(tree, {"crates.txt": "\n".join(lines.values()) + "\n"})
+        for name in lines:
+            source = os.path.join(ROOT, "crates", name)
+            shutil.copytree(source, os.path.join(tree, "crates", name),
+                            ignore=lambda folder, names, source=source: ("must-fail", "out") if folder == source else ())
+        yield tree
+
+
+def sweep():
+    """Removes the copies of calls that were killed."""
+    for copies in glob.glob(os.path.join(tempfile.gettempdir(), f"{COPIES}*-*")):
+        if not os.path.exists(f"/proc/{os.path.basename(copies).removeprefix(COPIES).partition('-')[0]}"):
+            shutil.rmtree(copies, ignore_errors=True)
+
+
+def run_rt(folder, *words):
+    """(exit status, what was said) of a call of rt."""
+    ran = subprocess.run(["rt", *words], cwd=folder, stdin=subprocess.DEVNULL, stdout=subprocess.PIPE, stderr=subprocess.STDOUT,
+                         encoding="utf-8", errors="replace")
     return ran.returncode, ran.stdout
 
 
@@ -62,34 +83,30 @@ def make_log(tree, path):
     folder, texts = os.path.join(tree, "crates", crate), edited(path)
     originals = {file: read_text(os.path.join(folder, file)) for file in texts}
     write(folder, texts)
-    said = check(tree, crate)[1]
+    said = run_rt(folder, "check")[1]
     write(folder, originals)
     os.makedirs(os.path.join(LOGS, crate), exist_ok=True)
     write(os.path.join(LOGS, crate), {f"{name}.log": said})
 
 
 def make_logs_of(paths):
-    """The logs of edits of one crate, in a copy of the crates beside the repository's own, so that files can be shared."""
-    os.makedirs(LOGS, exist_ok=True)
-    with tempfile.TemporaryDirectory(prefix="tree-", dir=LOGS) as tree:
-        copied(tree)
-        crate = place(paths[0])[0]
-        status, said = check(tree, crate)
-        if status:
-            return f"edit_logs: {crate} is not proved as it is, so its edits show nothing\n{said[-2000:]}"
+    """The logs of edits of one crate, in a copy of what a check of it reads."""
+    with copy_of(place(paths[0])[0]) as tree:
         for path in paths:
             make_log(tree, path)
 
 
 def make_logs(paths):
-    """The logs of all, a few edits of one crate at a time, on as many cores as there are."""
+    """The logs of all, a few edits of one crate at a time, on as many cores as there are. One copy of all their crates is checked first, as
+    they are: of a crate that is not proved so, an edit shows nothing. It stays to the end, so that the other checks begin with its work."""
     crates = sorted({place(path)[0] for path in paths})
     of_crates = [[path for path in paths if place(path)[0] == crate] for crate in crates]
     parts = [of_crate[at:at + PART] for of_crate in of_crates for at in range(0, len(of_crate), PART)]
-    with ThreadPoolExecutor(os.cpu_count()) as pool:
-        for wrong in pool.map(make_logs_of, parts):
-            if wrong:
-                sys.exit(wrong)
+    with copy_of(*crates) as whole, ThreadPoolExecutor(os.cpu_count()) as pool:
+        status, said = run_rt(whole, "all", "check", "--jobs", str(os.cpu_count()))
+        if status:
+            sys.exit(f"edit_logs: not proved as they are, so edits show nothing: {' '.join(crates)}\n{said[-2000:]}")
+        list(pool.map(make_logs_of, parts))
 
 
 # ---------------------------------------------------------------- reading them
@@ -173,7 +190,9 @@ def main(words):
     paths = chosen([word for word in words if word != "--kept"])
     rest = [path for path in paths if not shown(path, said)]
     if "--kept" not in words:
-        make_logs(rest)
+        sweep()
+        if rest:
+            make_logs(rest)
     wrong = 0
     for path in rest:
         crate, name = place(path)

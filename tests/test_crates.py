@@ -56,6 +56,13 @@ class Crates(unittest.TestCase):
             with self.subTest(crate=crate):
                 self.assertEqual(functions(crate), set())
 
+    def test_unit_tests_stand_where_nothing_depends_on_them(self):
+        """A crate with tests is proved twice, and a test that changes is to have no other crate proved again."""
+        paths = glob.glob(os.path.join(ROOT, "crates", "*", "src", "**", "*.rt"), recursive=True)
+        tested = {os.path.relpath(path, ROOT).split(os.sep)[1] for path in paths if "#[test]" in read_text(path)}
+        self.assertEqual(tested, {"trials", "valuation", "monthsvaluation"})
+        self.assertEqual([crate for _, crate, deps in LINES if tested & set(deps)], [])
+
     def test_nothing_depends_on_what_takes_long(self):
         long = set(mutants.APART["long"])
         self.assertEqual([crate for _, crate, deps in LINES if long & set(deps)], [])

@@ -4,8 +4,14 @@ a definition the computed statements, any other the facts of a function that no 
 import glob
 import os
 import re
+import shutil
+import signal
+import subprocess
 import sys
+import tempfile
+import time
 import unittest
+from pathlib import Path
 
 sys.path.insert(0, os.path.dirname(os.path.abspath(__file__)))
 import edit_logs
@@ -113,8 +119,89 @@ class Logs(unittest.TestCase):
         self.assertEqual([edit_logs.function_at(source, *at) for at in (("lib", 2), ("a/b", 4), ("a", 8), ("main", 11))],
                          ["Held::new", "a::b::Held::new", "a::last", "last"])
 
+    def test_the_function_behind_attributes(self):
+        """The prover's note of a function is at its first attribute, not at its head."""
+        source = "fn first() {\n}\n\n#[tactic(auto, using(a::b))]\n#[inline]\npub fn second() {\n}\n\nimpl Held {\n    #[must_use]\n    fn third() {\n    }\n}\n"
+        self.assertEqual([edit_logs.function_at(source, "m", line) for line in (1, 2, 4, 5, 6, 10, 11)],
+                         ["m::first", "m::first", "m::second", "m::second", "m::second", "m::Held::third", "m::Held::third"])
+
     def test_a_statement(self):
         self.assertEqual(self.silent("A slip. Refused by c5-factor and c6-factor."), ["c6-factor"])
+
+
+# Checks all of a copy, in which no edit may be, and a crate of a copy: refuses it where the edit is in, and waits before that, told to.
+RT = """#!/bin/sh
+if [ "$1 $2" = 'all check' ]; then
+  [ ! -e "$STAND_IN/unproved" ] || { echo 'rt: low NOT PROVED'; exit 1; }
+  grep -q 'old text' crates/a/src/lib.rt; exit
+fi
+[ ! -e "$STAND_IN/slow" ] || { : > "$STAND_IN/started"; sleep 600; }
+echo 'fn a::f: no proof: `search` did not prove `returns`'
+exit 1
+"""
+
+
+class Copies(unittest.TestCase):
+    """Where edit_logs.py puts its copies of the crates, by a checkout of one crate and a stand-in for rt."""
+
+    def setUp(self):
+        folder = tempfile.TemporaryDirectory()
+        self.addCleanup(folder.cleanup)
+        self.root, self.stand_in, self.temporary = (Path(folder.name, name) for name in ("checkout", "rt", "temporary"))
+        for name, text in {"crates.txt": "low:\na: low\nother: a\n", "crates/a/src/lib.rt": "old text", "crates/a/src/out/b.rt": "",
+                           "crates/a/out/kept.antt": "", "crates/low/src/lib.rt": "old text", "crates/other/src/lib.rt": "",
+                           "crates/a/must-fail/slip.edit": "# A slip: `returns` of f no longer holds.\nfile: src/lib.rt\nold: old\nnew: wrong\n"}.items():
+            (self.root / name).parent.mkdir(parents=True, exist_ok=True)
+            (self.root / name).write_text(text)
+        shutil.copytree(ROOT + "/tests", self.root / "tests", ignore=shutil.ignore_patterns("__pycache__", "test_*"))
+        for place in (self.stand_in, self.temporary):
+            place.mkdir()
+        (self.stand_in / "rt").write_text(RT)
+        (self.stand_in / "rt").chmod(0o755)
+        self.command = [sys.executable, self.root / "tests/edit_logs.py"]
+        self.how = {"env": os.environ | {"PATH": f"{self.stand_in}:{os.environ['PATH']}", "STAND_IN": str(self.stand_in),
+                                         "TMPDIR": str(self.temporary)}, "stdout": subprocess.PIPE, "text": True}
+
+    def sources_outside(self):
+        """The sources in the checkout that no crate has, which `rt ci` refuses."""
+        return [path for path in self.root.rglob("*") if path.suffix in (".rt", ".antt") and path.relative_to(self.root).parts[0] != "crates"]
+
+    def test_a_call_that_is_killed(self):
+        (self.stand_in / "slow").touch()
+        run = subprocess.Popen(self.command, **self.how, start_new_session=True)
+        try:
+            while not (self.stand_in / "started").exists():
+                time.sleep(0.01)
+            self.assertEqual(self.sources_outside(), [])
+        finally:
+            os.killpg(run.pid, signal.SIGKILL)
+            run.communicate()
+        self.assertEqual(self.sources_outside(), [])
+        trees = list(self.temporary.iterdir())
+        self.assertEqual(len(trees), 2)  # one of all crates, as they are, and one of the crate with its edit
+        for tree in trees:
+            copied = sorted(str(path.relative_to(tree)) for path in tree.rglob("*") if path.is_file())
+            self.assertEqual(copied, ["crates.txt", "crates/a/src/lib.rt", "crates/a/src/out/b.rt", "crates/low/src/lib.rt"])
+            self.assertEqual((tree / "crates.txt").read_text(), "low:\na: low\n")
+        self.assertEqual(sorted((tree / "crates/a/src/lib.rt").read_text() for tree in trees), ["old text", "wrong text"])
+        (self.stand_in / "slow").unlink()
+        run = subprocess.run(self.command, **self.how)
+        self.assertEqual((run.returncode, run.stdout), (0, "1 edits, 0 by their first line, 0 not refused as their comments say\n"))
+        self.assertEqual(list(self.temporary.iterdir()), [])
+
+    def test_a_crate_that_is_not_proved_as_it_is(self):
+        (self.stand_in / "unproved").touch()
+        run = subprocess.run(self.command, **self.how, stderr=subprocess.PIPE)
+        self.assertEqual((run.returncode, run.stdout), (1, ""))
+        self.assertTrue(run.stderr.startswith("edit_logs: not proved as they are, so edits show nothing: a\nrt: low NOT PROVED"), run.stderr)
+        self.assertEqual(list(self.temporary.iterdir()), [])
+
+    def test_copies_of_a_call_that_runs(self):
+        """They stay: only those of a process that is gone are removed."""
+        other = self.temporary / f"{edit_logs.COPIES}{os.getpid()}-x"
+        other.mkdir()
+        subprocess.run(self.command, **self.how)
+        self.assertTrue(other.is_dir())
 
 
 if __name__ == "__main__":

@@ -1,35 +1,50 @@
-"""hosts/build, hosts/install and bench/run beside stand-ins for rt, dpkg-query and apt-get, in a copy of what they read.
+"""hosts/build, hosts/install, the Rust crate and bench/run beside stand-ins for rt, the engine, dpkg-query and apt-get, in a copy of what
+they read.
 
-The stand-in for rt proves nothing: it compiles a few lines of C to an archive, and counts how often it was asked to.
+The stand-ins for rt and for the kit's rattle prove nothing: the first counts how often it was asked to, and the second compiles a few lines
+of C to an archive.
 """
 
 import os
 import shutil
 import subprocess
 import tempfile
+import tomllib
 import unittest
 from pathlib import Path
 
 ROOT = Path(__file__).resolve().parents[1]
+KIT = tomllib.loads((ROOT / "hosts/words.toml").read_text())["kit"]
 
+# `rt ci` is called at the top of a copy of the crates, and the kit's rattle in the copy's crates/host.
 RT = """#!/usr/bin/env bash
 set -eu
 case "$*" in
   version) cat "$STAND_IN/kit" ;; # fails where the file is gone
-  lib) # in crates/host
+  doc) echo "$STAND_IN/START-HERE.md" ;;
+  ci)
     echo call >>"$STAND_IN/calls"
     [ ! -e "$STAND_IN/slow" ] || sleep 1
-    [ ! -e "$STAND_IN/edit" ] || { rm "$STAND_IN/edit"; echo '/* edited */' >>engine.c; }
-    [ ! -e "$STAND_IN/broken" ] || { echo 'rt: host NOT PROVED'; exit 1; }
-    mkdir -p out
-    gcc -I../../include -fPIC -c -o out/host.o engine.c
-    ar rcs out/libhost.a out/host.o ;;
+    [ ! -e "$STAND_IN/edit" ] || { rm "$STAND_IN/edit"; echo '/* edited */' >>"$STAND_IN/../tree/crates/host/engine.c"; }
+    [ ! -e "$STAND_IN/broken" ] || { echo 'rt: host NOT PROVED'; echo '1 passed, 1 failed'; exit 1; }
+    echo '2 passed, 0 failed' ;;
   *) exit 2 ;;
 esac
 """
 
+VERDICT = "logic=proved functions=3 target=x86_64 sum=12ab native=nat,char,string logic-built=trusted libraries-built=trusted statements=trusted"
+RATTLE = """#!/usr/bin/env bash
+set -eu
+echo "$@" >"$STAND_IN/words"
+gcc -I"$STAND_IN/../tree/include" -fPIC -c -o out/host.o engine.c
+ar rcs "${@: -1}" out/host.o
+cat "$STAND_IN/verdict"
+"""
+
 ENGINE = """#include "ginghamowl.h"
 static const ginghamowl_valuation none;
+static const ginghamowl_engine_version own = {GINGHAMOWL_VERSION_MAJOR, GINGHAMOWL_VERSION_MINOR, GINGHAMOWL_VERSION_PATCH, GINGHAMOWL_KIT};
+ginghamowl_engine_version ginghamowl_version(void) { return own; }
 ginghamowl_valuation ginghamowl_value(const uint8_t *f, size_t n, uint64_t *a, size_t m, int64_t *b, size_t k)
 { (void)f; (void)n; (void)a; (void)m; (void)b; (void)k; return none; }
 uint8_t ginghamowl_refusal(const uint8_t *f, size_t n) { (void)f; (void)n; return 1; }
@@ -61,6 +76,13 @@ def executable(path, text):
     path.chmod(0o755)
 
 
+def copy_written(root):
+    """What hosts/words writes of the engine, which hosts/build asks for."""
+    for name in ("crates/host/src/version.rt", "crates/flat/specs/Version.antt"):
+        (root / name).parent.mkdir(parents=True, exist_ok=True)
+        shutil.copy(ROOT / name, root / name)
+
+
 class InACopy(unittest.TestCase):
     def setUp(self):
         folder = tempfile.TemporaryDirectory()
@@ -69,6 +91,9 @@ class InACopy(unittest.TestCase):
         self.stand_in.mkdir()
         self.environment = os.environ | {"PATH": f"{self.stand_in}:{os.environ['PATH']}", "STAND_IN": str(self.stand_in)}
         self.environment.pop("DESTDIR", None)
+        self.temporary = Path(folder.name, "temporary")
+        self.temporary.mkdir()
+        self.environment["TMPDIR"] = str(self.temporary)
 
     def call(self, *command, **more):
         return subprocess.run(command, cwd=self.root, env=self.environment | more, capture_output=True, text=True)
@@ -81,17 +106,25 @@ class Build(InACopy):
         generated = shutil.ignore_patterns("target", "__pycache__", "*.so")
         for name in ("hosts", "include", "tools"):
             shutil.copytree(ROOT / name, self.root / name, ignore=generated)
-        for name in ("VERSION", "crates.txt"):
-            shutil.copy(ROOT / name, self.root)
-        (self.root / "crates/host").mkdir(parents=True)
-        (self.root / "crates/host/engine.c").write_text(ENGINE)
+        shutil.copy(ROOT / "VERSION", self.root)
+        (self.root / "crates.txt").write_text("low:\nflat: low\nhost staticlib: low flat\nother: low\n")
+        copy_written(self.root)
+        for name in ("host", "low", "other"):
+            (self.root / "crates" / name).mkdir(parents=True, exist_ok=True)
+            (self.root / "crates" / name / "engine.c").write_text(ENGINE)
         (self.root / "hosts/c/test.c").write_text("int main(void) { return 0; }\n")  # compiled often, and never run
+        (self.stand_in / "bin").mkdir()
         executable(self.stand_in / "rt", RT)
-        (self.stand_in / "kit").write_text("a kit\n")
+        executable(self.stand_in / "bin/rattle", RATTLE)
+        self.of_kit(f"{KIT} logic 1")
+        (self.stand_in / "verdict").write_text(f"fn host::value: proved\n{VERDICT}\n")
         self.target = self.root / "hosts/target"
         self.soname = f"libginghamowl.so.{(ROOT / 'VERSION').read_text().rpartition('.')[0]}"
         self.outputs = [self.target / name for name in ("libginghamowl.a", self.soname, "libginghamowl.so", "example", "test")]
         self.outputs.append(self.root / "hosts/python/ginghamowl/libginghamowl.so")
+
+    def of_kit(self, line):
+        (self.stand_in / "kit").write_text(f"{line}\n")
 
     def build(self):
         return self.call("hosts/build")
@@ -102,6 +135,7 @@ class Build(InACopy):
         self.assertEqual(run.returncode, 0, run.stdout + run.stderr)
         self.assertEqual((self.stand_in / "calls").read_text().count("call"), times)
         self.assertEqual([path for path in self.outputs if not path.exists()], [])
+        self.assertEqual(list(self.temporary.iterdir()), [])
 
     def test_outputs(self):
         self.builds(1)
@@ -109,7 +143,7 @@ class Build(InACopy):
         dynamic = subprocess.run(["readelf", "-d", self.target / self.soname], capture_output=True, text=True, check=True).stdout
         self.assertIn(f"[{self.soname}]", dynamic)
         symbols = subprocess.run(["nm", "-D", "--defined-only", self.target / self.soname], capture_output=True, text=True).stdout
-        self.assertEqual(symbols.count(" T ginghamowl_"), 12)
+        self.assertEqual(symbols.count(" T ginghamowl_"), 13)
 
     def test_only_content_counts(self):
         self.builds(1)
@@ -121,11 +155,15 @@ class Build(InACopy):
         engine.write_text(ENGINE.replace("return 1", "return 2"))
         os.utime(engine, ns=(before.st_atime_ns, before.st_mtime_ns))
         self.builds(2)
-        (self.root / "crates/new").write_text("")
+        (self.root / "crates/low/new").write_text("")
         self.builds(3)
-        (self.root / "crates/new").rename(self.root / "crates/newer")
+        (self.root / "crates/low/new").rename(self.root / "crates/low/newer")
         self.builds(4)
-        (self.stand_in / "kit").write_text("another kit\n")
+        for name in ("low/out/kept", "host/must-fail/wrong.edit"):
+            (self.root / "crates" / name).parent.mkdir()
+            (self.root / "crates" / name).write_text("no part of the engine")
+            self.builds(4)
+        self.of_kit(f"{KIT} logic 2")
         self.builds(5)
         example = self.root / "hosts/c/example.c"
         example.write_text(example.read_text() + "\n")
@@ -147,10 +185,11 @@ class Build(InACopy):
         self.assertNotEqual(run.returncode, 0)
         self.assertEqual([path for path in self.outputs if os.path.lexists(path)], [])
         self.assertEqual(list(self.target.iterdir()), [])
+        self.assertEqual(list(self.temporary.iterdir()), [])
 
     def test_failed_builds(self):
         self.builds(1)
-        (self.root / "crates/new").write_text("")
+        (self.root / "crates/low/new").write_text("")
         (self.stand_in / "broken").write_text("")
         run = self.build()
         self.assert_nothing_left(run)
@@ -162,6 +201,24 @@ class Build(InACopy):
         self.assert_nothing_left(self.build())
         example.write_text(good)
         self.builds(4)
+
+    def test_what_is_compiled(self):
+        """The crate host over the libraries that were judged, and over the kit's."""
+        self.builds(1)
+        words = (self.stand_in / "words").read_text()
+        for part in ("--crate-type staticlib", "--extern low=../low/out/rlib/low.rlib", "-L dependency=../low/out/rlib",
+                     f"--extern std={self.stand_in}/rlibs/std.rlib"):
+            self.assertIn(f" {part} ", words)
+        for part in ("--incremental", "other"):
+            self.assertNotIn(part, words)
+
+    def test_an_archive_without_a_verdict(self):
+        for line in (f"{VERDICT} incremental=trusted", VERDICT.replace("sum=12ab", "sum=12ab hides=1"), VERDICT.replace("proved", "unproved"),
+                     VERDICT.replace(" statements=trusted", ""), f"{VERDICT}\nnot proved"):
+            (self.stand_in / "verdict").write_text(line + "\n")
+            run = self.build()
+            self.assert_nothing_left(run)
+            self.assertIn("the engine is not proved, so there is no archive", run.stderr)
 
     def test_an_edit_during_the_build(self):
         (self.stand_in / "edit").write_text("")
@@ -175,6 +232,17 @@ class Build(InACopy):
         (self.stand_in / "kit").unlink()
         self.assertNotEqual(self.build().returncode, 0)
 
+    def test_another_kit(self):
+        """What the library tells is the kit that it is built with. rt tells the kit first, and then more."""
+        for line in ("another-kit logic 1", f"{KIT}2 logic 1", f"x{KIT} logic 1", "", f"logic {KIT}"):
+            self.of_kit(line)
+            run = self.build()
+            self.assertEqual((run.returncode, run.stdout), (1, ""), line)
+            self.assertIn(f"the toolchain here is '{line}', and the library would say that it is proved with {KIT}: ", run.stderr)
+            self.assertFalse((self.stand_in / "calls").exists())
+        self.of_kit(KIT)
+        self.builds(1)
+
     def test_words_that_differ(self):
         (self.root / "VERSION").write_text("9.9.9\n")
         run = self.build()
@@ -185,9 +253,10 @@ class Build(InACopy):
         (self.stand_in / "slow").write_text("")
         both = [subprocess.Popen(["hosts/build"], cwd=self.root, env=self.environment, stdout=subprocess.PIPE,
                                  stderr=subprocess.PIPE, text=True) for _ in range(2)]
-        said = sorted(one.communicate()[0] for one in both)
+        said = sorted((one.communicate()[0] for one in both), key=len)
         self.assertEqual([one.returncode for one in both], [0, 0])
-        self.assertTrue(said[0].startswith("built ") and said[1] == "hosts/build: nothing has changed\n", said)
+        self.assertEqual(said[0], "hosts/build: nothing has changed\n")
+        self.assertTrue(said[1].startswith(f"{VERDICT}\nbuilt "), said)
         self.builds(1)
 
     def test_install(self):
@@ -247,6 +316,38 @@ class Build(InACopy):
             self.assertEqual((run.returncode, run.stdout), (2, ""), name)
             self.assertIn("pkg-config cannot hand it on", run.stderr)
         self.assertFalse((self.root / "p").exists())
+
+
+@unittest.skipUnless(shutil.which("gcc") and shutil.which("ar") and shutil.which("cargo"), "gcc or cargo is not installed")
+class RustCrate(InACopy):
+    """The example over an archive that another checkout may have made."""
+
+    def setUp(self):
+        super().setUp()
+        shutil.copytree(ROOT / "hosts/rust", self.root / "hosts/rust", ignore=shutil.ignore_patterns("target"))
+
+    def value(self, engine):
+        """The example on an empty file, over this engine."""
+        (self.root / "engine.c").write_text(engine)
+        self.assertEqual(self.call("gcc", f"-I{ROOT}/include", "-fPIC", "-c", "engine.c").returncode, 0)
+        self.assertEqual(self.call("ar", "rcs", "libginghamowl.a", "engine.o").returncode, 0)
+        return self.call("cargo", "run", "--offline", "--quiet", "--manifest-path", "hosts/rust/Cargo.toml", "--example", "value", "/dev/null",
+                         GINGHAMOWL_ARCHIVE=str(self.root), CARGO_TARGET_DIR=str(self.root / "target"))
+
+    def test_versions(self):
+        run = self.value(ENGINE)
+        self.assertEqual((run.returncode, "\nterm 120: factor 0 to 0 " in run.stdout), (0, True), run.stderr)
+        own = (ROOT / "VERSION").read_text().strip()
+        major, minor, patch = map(int, own.split("."))
+        for other in ((major + 1, minor, patch), (major, minor + 1, patch), (major, minor, patch + 1)):
+            run = self.value(ENGINE.replace("own = {", "own = {%d, %d, %d, GINGHAMOWL_KIT}, header = {" % other))
+            self.assertEqual((run.returncode, run.stdout), (101, ""), run.stderr)
+            told = ".".join(map(str, other))
+            self.assertIn(f"the engine's archive is of version {told}, and the crate ginghamowl is of version {own}; hosts/build makes ",
+                          run.stderr)
+        run = self.value(ENGINE.replace("ginghamowl_version(", "ginghamowl_another("))
+        self.assertEqual((run.returncode, run.stdout), (101, ""))
+        self.assertIn("ginghamowl_version", run.stderr)  # by the linker
 
 
 class Bench(InACopy):

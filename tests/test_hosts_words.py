@@ -19,7 +19,7 @@ from ginghamowl import _words
 
 VERSION = (ROOT / "VERSION").read_text().strip()
 TABLE = tomllib.loads((ROOT / "hosts/words.toml").read_text())
-REFUSALS, VERDICTS = TABLE["refusal"], TABLE["verdict"]
+REFUSALS, VERDICTS, KIT = TABLE["refusal"], TABLE["verdict"], TABLE["kit"]
 NO_REFUSAL, NO_VERDICT = "no refusal has this number", "no verdict has this number"
 
 
@@ -108,6 +108,30 @@ class Version(unittest.TestCase):
         numbers = constants(header, r"^#define GINGHAMOWL_VERSION_(\w+) (\d+)$")
         self.assertEqual(numbers, dict(zip(("MAJOR", "MINOR", "PATCH"), map(int, VERSION.split(".")))))
 
+    def test_engine(self):
+        """The code has the numbers and the kit as constants, the definition has them as numerals and a text."""
+        numbers = dict(zip(("MAJOR", "MINOR", "PATCH"), map(int, VERSION.split("."))))
+        code, definition = text("crates/host/src/version.rt"), text("crates/flat/specs/Version.antt")
+        self.assertEqual(constants(code, r"^pub const (\w+): u32 = (\d+);$"), numbers)
+        name, = re.findall(r'^pub const KIT: \[u8; 32\] = \*b"(.*)";$', code, re.MULTILINE)
+        self.assertEqual(name.replace(r"\0", "\0"), KIT.ljust(32, "\0"))
+        self.assertEqual(constants(definition, r"^  (\w+) = (\d+);$"), {name.lower(): number for name, number in numbers.items()})
+        self.assertEqual(re.findall(r'^  kit = padded 32 \(codes "(.*)"\);$', definition, re.MULTILINE), [KIT])
+
+    def test_kit(self):
+        """What the header says, and the pages that name the kit."""
+        self.assertEqual(re.findall(r'^#define GINGHAMOWL_KIT "(.*)"$', text("include/ginghamowl.h"), re.MULTILINE), [KIT])
+        for page in ("README.md", "docs/GUARANTEES.md"):
+            named = re.findall(r"\bkit `(\S+) logic ", text(page))
+            self.assertEqual(set(named), {KIT}, page)
+
+    def test_rust_asks_for_the_version(self):
+        """Every call of the engine in the Rust crate is one of a function that has been asked for."""
+        calls = "".join(text(f"hosts/rust/src/{name}.rs") for name in ("lib", "case", "months", "rolling"))
+        functions = re.findall(r"^    pub fn (ginghamowl_\w+)\(", text("hosts/rust/src/raw.rs"), re.MULTILINE)
+        self.assertEqual(set(re.findall(r"raw::checked\(raw::(\w+)\)\(", calls)), set(functions))
+        self.assertEqual(calls.count("raw::ginghamowl_"), len(functions))
+
     def test_rust(self):
         self.assertEqual(tomllib.loads(text("hosts/rust/Cargo.toml"))["package"]["version"], VERSION)
         locked = {package["name"]: package["version"] for package in tomllib.loads(text("hosts/rust/Cargo.lock"))["package"]}
@@ -132,7 +156,9 @@ class Version(unittest.TestCase):
 
 class Script(unittest.TestCase):
     FILES = ("VERSION", "hosts/words", "hosts/words.toml", "include/ginghamowl.h", "include/ginghamowl_words.h",
-             "hosts/rust/Cargo.toml", "hosts/rust/Cargo.lock", "hosts/rust/src/words.rs", "hosts/python/ginghamowl/_words.py")
+             "hosts/rust/Cargo.toml", "hosts/rust/Cargo.lock", "hosts/rust/src/words.rs", "hosts/python/ginghamowl/_words.py",
+             "crates/host/src/version.rt", "crates/flat/specs/Version.antt")
+    ENGINE = {"crates/host/src/version.rt", "crates/flat/specs/Version.antt"}
 
     def setUp(self):
         folder = tempfile.TemporaryDirectory()
@@ -153,11 +179,23 @@ class Script(unittest.TestCase):
     def test_another_version(self):
         (self.root / "VERSION").write_text("3.14.15\n")
         differing = {"include/ginghamowl.h", "hosts/rust/Cargo.toml", "hosts/rust/Cargo.lock", "hosts/python/ginghamowl/_words.py"}
-        self.assertEqual(self.run_words("--check"), (1, differing))
-        self.assertEqual(self.run_words(), (0, differing))
+        self.assertEqual(self.run_words("--check"), (1, differing | self.ENGINE))
+        self.assertEqual(self.run_words(), (0, differing | self.ENGINE))
         self.assertEqual(self.run_words("--check"), (0, set()))
         for path in differing:
             self.assertIn('"3.14.15"', (self.root / path).read_text())
+        for path in self.ENGINE:
+            self.assertEqual(re.findall(r"(?:: u32|major|minor|patch) = (\d+);", (self.root / path).read_text()), ["3", "14", "15"])
+
+    def test_another_kit(self):
+        table = self.root / "hosts/words.toml"
+        table.write_text(table.read_text().replace(f'kit = "{KIT}"', 'kit = "another-kit.2"'))
+        differing = {"include/ginghamowl.h"} | self.ENGINE
+        self.assertEqual(self.run_words(), (0, differing))
+        for path in differing:
+            self.assertRegex((self.root / path).read_text(), r'"another-kit\.2(\\0)*"')
+        run = subprocess.run([sys.executable, self.root / "hosts/words", "--kit"], capture_output=True, text=True)
+        self.assertEqual((run.returncode, run.stdout), (0, "another-kit.2\n"))
 
     def test_another_sentence(self):
         table = self.root / "hosts/words.toml"
@@ -182,6 +220,11 @@ class Script(unittest.TestCase):
         for wrong in ("café", "two\\nlines"):
             table.write_text(text("hosts/words.toml").replace("it must be 1 to 70", wrong))
             self.assertEqual(self.run_words("--check"), (1, set()))
+        for wrong in ("", "a kit", "kit\\u0000", "k" * 32, "k\u00efts"):
+            table.write_text(text("hosts/words.toml").replace(f'kit = "{KIT}"', f'kit = "{wrong}"'))
+            self.assertEqual(self.run_words("--check"), (1, set()), wrong)
+        table.write_text(text("hosts/words.toml").replace(f'kit = "{KIT}"', f'kit = "{"k" * 31}"'))
+        self.assertEqual(self.run_words("--check"), (1, {"include/ginghamowl.h"} | self.ENGINE))
         shutil.copy(ROOT / "hosts/words.toml", table)
         (self.root / "VERSION").write_text("1.0\n")
         self.assertEqual(self.run_words("--check"), (1, set()))

@@ -55,7 +55,10 @@ class Office(Checkout):
         self.text.write_text(text.replace(old, new))
 
     def pension(self, flows):
-        text, found = re.subn(r"pension = \[.*?\n\]", f"pension = {flows}", self.text.read_text(), flags=re.DOTALL)
+        self.flows("pension", flows)
+
+    def flows(self, name, flows):
+        text, found = re.subn(rf"{name} = \[.*?\n\]", f"{name} = {flows}", self.text.read_text(), flags=re.DOTALL)
         self.assertEqual(found, 1)
         self.text.write_text(text)
 
@@ -98,6 +101,18 @@ class Office(Checkout):
     def test_a_list_cut_short_and_padded(self):
         self.pension([*FUND.pension[:40], 0, 0])
         self.assertWarned(["fund.toml"], "was the list cut short?")
+
+    def test_a_list_that_begins_late(self):
+        """A row for the year that has just ended, or a cell of the first year that is empty: each flow is a year late, or two."""
+        self.pension([0, *FUND.pension])
+        run = self.assertWarned(["fund.toml"], "(term 2), above 25 % of the largest; does the list begin a year late, or more?")
+        self.assertLess(int(run.stdout.split()[1]), int(self.listing.split()[1]))
+        self.pension([0, 0, *FUND.pension])
+        self.assertWarned(["fund.toml"], "(term 3), above 25 % of the largest; does the list begin a year late, or more?")
+
+    def test_bonds_that_begin_late(self):
+        self.flows("bonds", [0, *FUND.bonds])
+        self.assertWarned(["fund.toml"], "(term 2), above 5 % of the largest; does the list begin a year late, or more?")
 
     def test_years_left_out(self):
         self.pension([*FUND.pension[:30], *FUND.pension[50:]])

@@ -58,6 +58,11 @@ def ended(last):
     return of(pension=[*[10 ** 6] * 9, last])
 
 
+def begun(name, first):
+    """A list that begins with 0, and then with this flow."""
+    return of(**{name: [0, first, *[10 ** 6] * 9]})
+
+
 def with_months(place, rate, months=(4_000,) * 120):
     """Months of which one is another."""
     return Looked(months=[rate if at == place else month for at, month in enumerate(months, 1)])
@@ -99,6 +104,8 @@ def edges():
         ("the largest flow of flows.pension beside its neighbours", "most"): (of(pension=[1, 4, 1]), of(pension=[100, 401, 100])),
         ("the smallest flow of flows.pension beside its neighbours", "least"): (of(pension=[4, 1, 4]), of(pension=[400, 99, 400])),
         ("the largest step between two flows of flows.pension", "most"): (of(pension=[7, 14]), of(pension=[101, 50])),
+        ("the first flow of flows.pension behind zeros", "most"): (begun("pension", 250_000), begun("pension", 250_001)),
+        ("the first flow of flows.bonds behind zeros", "most"): (begun("bonds", 50_000), begun("bonds", 50_001)),
         ("the last flow of flows.pension", "most"): (ended(50_000), ended(50_001)),
         ("the last flow of flows.pension less the one before it", "most"): (of(pension=[7, 7]), of(pension=[7, 8])),
         ("the largest flow of flows.bonds", "most"): (
@@ -280,9 +287,33 @@ class Meanings(unittest.TestCase):
     def test_zeros_at_the_ends(self):
         """A sheet of fixed length has them, and they hide no slip."""
         pension = list(FUND.pension)
-        self.silent(of(pension=[*pension, 0]), of(pension=[*pension, *[0] * 20]), of(pension=[0, 0, *pension]))
+        self.silent(of(pension=[*pension, 0]), of(pension=[*pension, *[0] * 20]), of(bonds=[*FUND.bonds, 0]))
+        self.assertEqual([warning[:44] for warning in warnings(of(pension=[0, 0, *pension]), About.CASE)],
+                         ["the first flow of flows.pension behind zeros"])
         for flows, said in (([*pension[:35], 0, 0], "was the list cut short?"), ([*pension, 95 * 10 ** 6, 0], "was a total put behind")):
             self.assertTrue([warning for warning in warnings(of(pension=flows), About.CASE) if said in warning])
+
+    def test_lists_that_begin_late(self):
+        """Zeros at the front hide a late list only where few flows follow, or a year without any; or where the first pensions are few."""
+        late = {name: RULE[f"the first flow of flows.{name} behind zeros"] for name in ("pension", "bonds")}
+        for name, rule in late.items():
+            held = list(getattr(FUND, name))
+            for zeros in (1, 2, 5):
+                self.assertIn(f"(term {zeros + 1}), above ", rule.warning(of(**{name: [*[0] * zeros, *held, 0]})))
+                self.assertIn(f"(term {zeros + 1}), above ", rule.warning(of(**{name: [*[0] * zeros, *held[:10]]})))
+                self.assertIsNone(rule.warning(of(**{name: [*[0] * zeros, *held[:9]]})))
+                self.assertIsNone(rule.warning(of(**{name: [*[0] * zeros, *held[:12], 0, *held[12:]]})))
+            self.assertIsNone(rule.measure(of(**{name: held})))
+            self.assertIsNone(rule.measure(of(**{name: [0, *held[:9], *[0] * 9]})))
+            self.assertIsNone(rule.measure(of(**{name: [0] * 20})))
+        self.assertIsNone(late["bonds"].measure(of(bonds=[])))
+        # Nobody has a pension yet: the first ones are few.
+        self.silent(of(pension=[0, 0, 0, *(240_000 * year for year in range(1, 51)), *(12_000_000 - 250_000 * year for year in range(1, 47))]))
+        # Coupons of 3 % of bonds that end every second year, and single bonds without coupons.
+        coupons = [10 ** 5 * (12 - year // 2) + 4 * 10 ** 6 * (year % 2) for year in range(1, 24)]
+        self.silent(of(bonds=coupons), of(bonds=[0, *[flow * (year % 3 > 0) for year, flow in enumerate(coupons)]]))
+        self.assertEqual([warning[:42] for warning in warnings(of(bonds=[0, *coupons]), About.CASE)],
+                         ["the first flow of flows.bonds behind zeros"])
 
     def test_flows_that_are_missing(self):
         """Years left out, or several flows in a row with a digit too few; steps between small flows say nothing."""

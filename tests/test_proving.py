@@ -14,34 +14,40 @@ import time
 import unittest
 from pathlib import Path
 
-from test_hosts_scripts import ENGINE, executable
+from test_hosts_scripts import ENGINE, KIT, VERDICT, copy_written, executable
 
 ROOT = Path(__file__).resolve().parents[1]
 SIGNALS = signal.SIGINT, signal.SIGTERM, signal.SIGHUP
+CRATES = "a:\nb:\nhost staticlib: a b\nvaluation: a\nmonthsvaluation: a\n"
 LONG = 60  # seconds; nothing here takes as long, but on a machine that is busy
 
-# It is called in the folder of a crate. A file `slow` has it start a prover and wait for it; `stubborn`, one that ignores SIGTERM. With
-# `steps` it looks a crate up and proves others, and waits until the test has read which.
+# It is called at the top of a copy of the crates. A file `slow` has it start a prover and wait for it; `stubborn`, one that ignores SIGTERM.
+# With `steps` it takes a crate over and proves others, and waits until the test has read which. `late` has the kit's rattle wait likewise.
 RT = """#!/bin/sh
-[ "$1" != version ] || { echo 'a kit'; exit; }
-name=${PWD##*/}
-mkdir -p out
+case "$*" in
+  version) cat "$STAND_IN/kit"; exit ;;
+  doc) echo "$STAND_IN/START-HERE.md"; exit ;;
+esac
 step() { turns=0; until [ -e "$STAND_IN/read $1" ] || [ $turns -gt 400 ]; do turns=$((turns + 1)); sleep 0.05; done; }
 if [ -e "$STAND_IN/steps" ]; then
-  echo 'rt: b: begins with what a check kept'
-  echo 'rt: chose --jobs 2 for a'; step a
-  [ "$1" = run ] || { echo "rt: chose --jobs 1 for $name"; step $name; }
+  echo 'rt: b is kept: an earlier run on this machine proved the same files over the same libraries'
+  echo 'rt: a proved'; step a
+  echo 'rt: host: another run on this machine is proving the same; waiting for it'; step host
+  echo 'rt: host proved'
 fi
-if [ -e "$STAND_IN/slow" ]; then
-  [ ! -e "$STAND_IN/stubborn" ] || trap '' TERM
-  sh -c ': > "$(mktemp)"; echo "$PPID $$" > "$STAND_IN/new"; mv "$STAND_IN/new" "$STAND_IN/started"; exec sleep 600' &
-  wait
-fi
-if [ "$1" = run ]; then
-  cp "$STAND_IN/program" out/$name
-else
-  gcc -I../../include -fPIC -c -o out/host.o engine.c && ar rcs out/libhost.a out/host.o
-fi
+[ ! -e "$STAND_IN/slow" ] || . "$STAND_IN/wait"
+for name in valuation monthsvaluation; do
+  [ ! -d crates/$name ] || { mkdir crates/$name/out && cp "$STAND_IN/program" crates/$name/out/$name; }
+done
+echo '3 passed, 0 failed'
+"""
+WAIT = """[ ! -e "$STAND_IN/stubborn" ] || trap '' TERM
+sh -c ': > "$(mktemp)"; echo "$PPID $$" > "$STAND_IN/new"; mv "$STAND_IN/new" "$STAND_IN/started"; exec sleep 600' &
+wait
+"""
+RATTLE = f"""#!/bin/sh
+[ ! -e "$STAND_IN/late" ] || . "$STAND_IN/wait"
+gcc -I"$STAND_IN/../checkout/include" -fPIC -c -o out/host.o engine.c && ar rcs out/libhost.a out/host.o && echo '{VERDICT}'
 """
 
 
@@ -85,16 +91,22 @@ class Checkout(unittest.TestCase):
         generated = shutil.ignore_patterns("target", "__pycache__", "*.so")
         for name in ("hosts", "include", "tools"):
             shutil.copytree(ROOT / name, self.root / name, ignore=generated)
-        for name in ("value", "VERSION", "crates.txt"):
+        for name in ("value", "VERSION"):
             shutil.copy(ROOT / name, self.root)
-        for name in ("host", "valuation", "monthsvaluation"):
+        (self.root / "crates.txt").write_text(CRATES)
+        for name in ("a", "b", "host", "valuation", "monthsvaluation"):
             (self.root / "crates" / name).mkdir(parents=True)
-        (self.root / "crates/host/engine.c").write_text(ENGINE)
+            (self.root / "crates" / name / "engine.c").write_text(ENGINE)
+        copy_written(self.root)
         (self.root / "hosts/c/test.c").write_text("int main(void) { return 0; }\n")
         (self.root / "a.case").write_bytes(b"")
         self.rt.mkdir()
         self.temporary.mkdir()
+        (self.rt / "bin").mkdir()
         executable(self.rt / "rt", RT)
+        executable(self.rt / "bin/rattle", RATTLE)
+        executable(self.rt / "wait", WAIT)
+        (self.rt / "kit").write_text(f"{KIT}\n")
         executable(self.rt / "program", "#!/bin/sh\ncat > /dev/null\necho 'R 1'\n")
         self.environment = os.environ | {"PATH": f"{self.rt}:{os.environ['PATH']}", "STAND_IN": str(self.rt),
                                          "TMPDIR": str(self.temporary)}
@@ -116,9 +128,9 @@ class Checkout(unittest.TestCase):
         self.addCleanup(end_group, run.pid)
         return run
 
-    def start_slow(self, command):
-        """A call that has come as far as its prover, and the process numbers of rt and of the prover."""
-        self.order("slow")
+    def start_slow(self, command, word="slow"):
+        """A call that has come as far as its prover, and the process numbers of rt, or of the kit's rattle, and of the prover."""
+        self.order(word)
         (self.rt / "started").unlink(missing_ok=True)
         run = self.start(command)
         wait_until((self.rt / "started").exists)
@@ -137,8 +149,8 @@ class Checkout(unittest.TestCase):
 
 
 class Interrupts(Checkout):
-    def interrupt(self, command, number, send):
-        run, started = self.start_slow(command)
+    def interrupt(self, command, number, send, word="slow"):
+        run, started = self.start_slow(command, word)
         send(run.pid, number)
         out, said = run.communicate(timeout=LONG)
         self.assertEqual((run.returncode, out), (-number, ""), said)
@@ -168,6 +180,13 @@ class Interrupts(Checkout):
     def test_build(self):
         self.each(self.build)
         (self.rt / "slow").unlink()
+        self.assertEqual(self.call(self.build).returncode, 0)
+
+    def test_build_while_it_compiles(self):
+        for number in SIGNALS:
+            with self.subTest(number=number):
+                self.interrupt(self.build, number, os.kill, "late")
+        (self.rt / "late").unlink()
         self.assertEqual(self.call(self.build).returncode, 0)
 
     def test_a_prover_that_ignores_the_signal(self):
@@ -221,22 +240,22 @@ class Waiting(Checkout):
             self.assertEqual((run.communicate(timeout=LONG)[1], run.returncode), (said, status))
             self.assertFalse(self.holder.exists())
             (self.root / "crates/host/new").write_text(said)
-            (self.root / "crates.txt").write_text("other\n")
+            (self.root / "crates.txt").write_text(f"# other\n{CRATES}")
             free = self.call(command)
             self.assertEqual((free.stderr, free.returncode), (said, status))
 
 
 class Progress(Checkout):
     def test_build(self):
-        """The crates that are being proved are named, the one of the archive too. One that is only looked up is not."""
+        """Each crate that was proved is named, with how many have passed; one that is taken over counts. So is one that another run proves."""
         self.order("steps")
         run = self.start(self.build)
-        for crate in ("a", "host"):
-            self.assertEqual(next_line(run), f"hosts/build: proving {crate}\n")
+        for crate, line in (("a", "proved a, 2 of 3 crates"), ("host", "waiting for another run of rt on this machine, which proves host")):
+            self.assertEqual(next_line(run), f"hosts/build: {line}\n")
             self.order(f"read {crate}")
         out, said = run.communicate(timeout=LONG)
-        self.assertEqual((run.returncode, said), (0, ""))
-        self.assertTrue(out.startswith("built "), out)
+        self.assertEqual((run.returncode, said), (0, "hosts/build: proved host, 3 of 3 crates\n"))
+        self.assertTrue(out.startswith(f"{VERDICT}\nbuilt "), out)
 
 
 if __name__ == "__main__":

@@ -44,25 +44,32 @@ def in_four_bytes(data):
     return casetext.write(replace(case, rate_bytes=4, days=[[100 * rate for rate in day] for day in case.days]))
 
 
-# It is called for each program, in the folder of its crate. Counts the calls for the first, and hands out the files `program` and
-# `months`. A file `edit` has the first call change a source once; `edits`, `slow` and `fails` have one change one, wait or fail for as
-# long as they are there.
+# It is called as `rt ci`, in a copy of the crates. Counts the calls, and hands out the files `program` and `months`. A file `edit` has the
+# first call change a source of the checkout once; `edits`, `slow`, `fails` and `lacks` have one change one, wait, fail, or end well with a
+# last line that is no verdict, for as long as they are there.
 RT = """#!/bin/sh
-name=${PWD##*/}
-case "$*:$name" in
-  run:valuation) file=program ;;
-  run:monthsvaluation) file=months ;;
-  *) exit 2 ;;
-esac
-if [ $name = valuation ]; then
-  echo call >> "$STAND_IN/calls"
-  [ ! -e "$STAND_IN/slow" ] || { echo 'rt: chose --jobs 2 for a'; sleep 0.7; }
-  [ ! -e "$STAND_IN/edit" ] || { rm -f "$STAND_IN/edit"; echo '// edited' >> ../a/src/lib.rt; }
-  [ ! -e "$STAND_IN/edits" ] || echo '// edited' >> ../a/src/lib.rt
-fi
-mkdir -p out && cp "$STAND_IN/$file" out/$name || exit 2
-[ ! -e "$STAND_IN/fails" ] || { echo 'rt: a NOT PROVED'; exit 1; }
+[ "$*" = ci ] || exit 2
+echo call >> "$STAND_IN/calls"
+find . -type f | sort > "$STAND_IN/copied"
+source=$STAND_IN/../checkout/crates/a/src/lib.rt
+[ ! -e "$STAND_IN/edit" ] || { rm -f "$STAND_IN/edit"; echo '// edited' >> "$source"; }
+[ ! -e "$STAND_IN/edits" ] || echo '// edited' >> "$source"
+echo 'rt: a is kept: an earlier run on this machine proved the same files over the same libraries'
+[ ! -e "$STAND_IN/slow" ] || {
+  echo 'rt: valuation: another run on this machine is proving the same; waiting for it'
+  echo 'rt: valuation proved'
+  sleep 0.7
+}
+mkdir crates/valuation/out crates/monthsvaluation/out
+cp "$STAND_IN/program" crates/valuation/out/valuation && cp "$STAND_IN/months" crates/monthsvaluation/out/monthsvaluation || exit 2
+[ ! -e "$STAND_IN/fails" ] || { echo 'rt: a NOT PROVED'; echo '2 passed, 1 failed'; exit 1; }
+[ ! -e "$STAND_IN/lacks" ] || { echo '3 passed, 0 failed (of some crates: not the gate)'; exit; }
+echo '3 passed, 0 failed'
 """
+SOURCES = ("crates/a/src/lib.rt", "crates/a/src/out/inner.rt", "crates/a/specs/S.antt", "crates/a/proofs/P.antt", "crates/a/proofs/f/Proof.antt",
+           "crates/a/proofs/m/f/Proof.antt", "crates/a/proofs/m/T/f/Proof.antt", "crates/valuation/src/main.rt", "crates/valuation/stdin",
+           "crates/valuation/stdout", "crates/monthsvaluation/src/main.rt")
+CRATES = "# what the programs read\na:\nvaluation: a std\nmonthsvaluation: a\n\nother: a valuation\n"
 
 
 class Checkout(unittest.TestCase):
@@ -79,11 +86,11 @@ class Checkout(unittest.TestCase):
             shutil.copy(ROOT / name, self.root / name)
         for name in ("tools", "hosts/python/ginghamowl"):
             shutil.copytree(ROOT / name, self.root / name, ignore=shutil.ignore_patterns("__pycache__", "*.so"))
-        for name in ("crates.txt", "crates/a/src/lib.rt", "crates/a/specs/S.antt", "crates/a/proofs/P.antt",
-                     "crates/a/proofs/f/Proof.antt", "crates/a/proofs/m/f/Proof.antt", "crates/a/proofs/m/T/f/Proof.antt",
-                     "crates/valuation/src/main.rt", "crates/valuation/stdin", "crates/valuation/stdout",
-                     "crates/monthsvaluation/src/main.rt"):
+        self.list_crates("")
+        for name in SOURCES:
             self.write(name, name)
+        for name in ("crates/other/src/lib.rt", "crates/a/must-fail/wrong.edit", "crates/a/out/kept", "crates/valuation/out/valuation"):
+            self.write(name, "no part of the check")
         self.rt.mkdir()
         (self.rt / "rt").write_text(RT)
         (self.rt / "rt").chmod(0o755)
@@ -96,6 +103,9 @@ class Checkout(unittest.TestCase):
         path = self.root / name
         path.parent.mkdir(parents=True, exist_ok=True)
         path.write_text(text)
+
+    def list_crates(self, comment):
+        self.write("crates.txt", f"# {comment}\n{CRATES}")
 
     def program(self, script, name="program"):
         (self.rt / name).write_text(script)
@@ -137,12 +147,29 @@ class Proved(Checkout):
 
     def test_a_failed_check(self):
         self.order("fails")
-        for _ in range(2):  # the program that failed lies in its crate the second time
+        for _ in range(2):
             self.assertNoAnswer(self.value(self.c1), "rt: a NOT PROVED")
-            self.assertTrue((self.root / "crates/valuation/out/valuation").exists())
             self.assertNoAnswer(self.value("--json", self.c1), "the program is not proved")
         self.order("fails", False)
         self.assertAnswers(self.value(self.c1), 5)
+
+    def test_a_run_that_is_no_verdict(self):
+        self.order("lacks")
+        self.assertNoAnswer(self.value(self.c1), "the program is not proved")
+        self.order("lacks", False)
+        self.assertAnswers(self.value(self.c1), 2)
+
+    def test_what_rt_judges(self):
+        """A copy of the programs' crates and of those below them, without what other runs left and without must-fail edits; it does not stay."""
+        temporary = self.folder / "temporary"
+        temporary.mkdir()
+        for word in ("fails", "lacks", "slow"):  # the last ends well
+            self.order(word)
+            run = self.value(self.c1, env=self.environment() | {"TMPDIR": str(temporary)})
+            self.order(word, False)
+            self.assertEqual(run.returncode, 0 if word == "slow" else 2, run.stderr)
+            self.assertEqual((self.rt / "copied").read_text().split(), sorted(f"./{name}" for name in ("crates.txt", *SOURCES)))
+            self.assertEqual(list(temporary.iterdir()), [])
 
     def test_a_failed_check_after_a_good_one(self):
         self.assertAnswers(self.value(self.c1), 1)
@@ -155,31 +182,34 @@ class Proved(Checkout):
 
     def test_edits_of_every_kind(self):
         self.assertAnswers(self.value(self.c1), 1)
-        files = [path for path in self.root.rglob("*") if path.is_file() and "crates" in path.name + str(path.parent) and "out" not in path.parts]
-        self.assertEqual(len(files), 11)
-        for count, path in enumerate(files, 2):
+        for count, name in enumerate(SOURCES, 2):
+            path = self.root / name
             path.write_text(path.read_text()[::-1])  # as long as before
             os.utime(path, (946_684_800, 946_684_800))  # and older than the program
             self.assertAnswers(self.value(self.c1), count)
         path.unlink()
         self.assertAnswers(self.value(self.c1), count + 1)
-        self.write("crates/a/must-fail/wrong.edit", "no part of the check")
-        self.assertAnswers(self.value(self.c1), count + 1)
+        self.list_crates("another comment")
+        self.assertAnswers(self.value(self.c1), count + 2)
+
+    def test_edits_of_what_no_program_reads(self):
+        self.assertAnswers(self.value(self.c1), 1)
+        for name in ("crates/other/src/lib.rt", "crates/a/must-fail/wrong.edit", "crates/a/out/kept", "crates/valuation/out/valuation"):
+            self.write(name, "edited")
+            self.assertAnswers(self.value(self.c1), 1)
 
     def test_an_edited_program(self):
         self.assertAnswers(self.value(self.c1), 1)
         for count, name in enumerate(("valuation", "monthsvaluation"), 2):
             (self.root / "target/value" / name).write_text("#!/bin/sh\necho 'R 1'\n")
             self.assertAnswers(self.value(self.c1), count)
-        (self.root / "crates/valuation/out/valuation").write_text("#!/bin/sh\necho 'R 1'\n")  # nothing runs this one
-        self.assertAnswers(self.value(self.c1), 3)
 
     def test_an_edit_during_the_check(self):
         self.order("edit")
         run = self.value(self.c1)
         self.assertAnswers(run, 2)
         self.assertIn(b"the sources changed while they were proved", run.stderr)
-        self.write("crates.txt", "other")
+        self.list_crates("other")
         self.order("edits")
         self.assertNoAnswer(self.value(self.c1), "the sources changed while they were proved")
 
@@ -196,7 +226,7 @@ class Proved(Checkout):
         """A pipe is not drained by a program whose answer is then thrown away."""
         self.value(self.c1)
         for count, words in enumerate((("/dev/stdin",), ("-",), ("--csv", "-")), 2):
-            self.write("crates.txt", f"edit {count}")
+            self.list_crates(f"edit {count}")
             run = self.value(*words, input=C1)
             self.assertEqual((run.returncode, self.calls()), (0, count), run.stderr)
             self.assertIn(b"110000000", run.stdout)
@@ -217,11 +247,12 @@ class Proved(Checkout):
         self.assertAnswers(self.value(self.c1), 2)
 
     def test_progress(self):
-        """While one waits, the crate that is being proved is named, once; a crate that is only looked up is not."""
+        """While one waits, each crate is named once it is proved, and one that another run proves; a crate that is only looked up is not."""
         self.order("slow")
         run = self.value(self.c1)
         self.assertAnswers(run, 1)
-        self.assertEqual(unwarned(run)[1:], ["value: proving a"])
+        self.assertEqual(unwarned(run)[1:], ["value: waiting for another run of rt on this machine, which proves valuation",
+                                             "value: proved valuation, 2 of 3 crates"])
 
     def test_first_calls_at_once(self):
         self.order("slow")
@@ -355,7 +386,7 @@ class Statuses(Checkout):
     def test_a_program_that_breaks_off(self):
         for script in ("echo 'L 1 1'", "printf 'R'", "exit 3", "echo 'R 3'; exit 3", "kill -9 $$", "printf 'L 1 1\nV VRIJ'", "echo 'X'"):
             self.program(f"#!/bin/sh\ncat > /dev/null\n{script}\n")
-            self.write("crates.txt", script)
+            self.list_crates(repr(script))
             self.assertEqual(self.value("--json", self.c1).returncode, 2, script)
             self.assertNoAnswer(self.value(self.c1), "the program gave no whole listing")
 
@@ -438,11 +469,36 @@ class Several(Checkout):
             self.assertEqual({key: (int(row[key + "_lower"]), int(row[key + "_upper"])) for key in figures}, figures)
             self.assertEqual((row["refusal"], row["verdict"]), ("", verdict))
 
+    def test_csv_of_a_dutch_spreadsheet(self):
+        """The same rows with semicolons between the cells; a cell that has one in it, as a refusal's sentence, stands in quotes."""
+        plain = self.run_all("--csv").stdout
+        for same in ("--csv=,", "--cs"):
+            self.assertEqual(self.run_all(same).stdout, plain)
+        dutch = self.run_all("--csv=;").stdout.decode()
+        header = dutch.splitlines()[0]
+        self.assertEqual((header.count(","), header.split(";")), (0, plain.decode().splitlines()[0].split(",")))
+        rows = list(csv.DictReader(io.StringIO(dutch), delimiter=";"))
+        self.assertEqual(rows, list(csv.DictReader(io.StringIO(plain.decode()))))
+        self.assertTrue(any(";" in row["refusal_sentence"] for row in rows))
+        for words, mark in ((("--csv=;", "--csv"), ","), (("--csv", "--csv=;"), ";"), (("--csv=,", "--csv=;"), ";")):
+            self.assertEqual(self.run_all(*words).stdout.decode()[4], mark, words)
+
+    def test_csv_of_other_marks(self):
+        """Only these two, and a file may have such a name."""
+        for mark in ("", "x", ";;", "\t", "|", "; "):
+            run = self.value(f"--csv={mark}", self.c1)
+            self.assertEqual((run.returncode, run.stdout), (2, b""), mark)
+            self.assertIn(f"--csv={mark}: what stands between the cells is , or ;".encode(), run.stderr)
+        self.assertIn(b"'--csv=;'", self.value("--csv=").stderr)  # what is left of --csv=; where a shell has ended the call at the mark
+        shutil.copy(self.c1, self.folder / "--csv=;")
+        self.assertEqual(self.value("--", "--csv=;", cwd=self.folder).stdout, C1_LISTING)
+        self.assertTrue(self.value("--csv=;", "--", "--csv=;", cwd=self.folder).stdout.splitlines()[1].startswith(b'"--csv=;";'))
+        self.assertIn(b"not allowed with", self.value("--json", "--csv=;", self.c1).stderr)
 
     def test_what_is_handed_in(self):
         """The first bytes of a file, which decide; the longest that can be accepted is whole among them."""
         self.program('#!/bin/sh\ncat > "$STAND_IN/input"; echo "R 1"\n')
-        self.write("crates.txt", "another program")
+        self.list_crates("another program")
         largest = in_four_bytes((ROOT / "cases/largest.case").read_bytes())
         self.assertEqual(len(largest), 17_623)
         for data in (largest, bytes(17_624), bytes(17_625), bytes(40_000)):
@@ -576,7 +632,7 @@ class Months(Checkout):
     def test_what_is_handed_in(self):
         """The first bytes of both files, which decide, each behind its length, and then the start index."""
         self.program('#!/bin/sh\ncat > "$STAND_IN/input"; echo "R 1"\n', "months")
-        self.write("crates.txt", "another program")
+        self.list_crates("another program")
         files = {"short.case": b"ab", "long.case": bytes(17_700)}, {"short.months": b"", "long.months": bytes(300)}
         for name, data in (files[0] | files[1]).items():
             (self.folder / name).write_bytes(data)
@@ -641,6 +697,8 @@ class Months(Checkout):
             self.assertEqual(row["months_sha256"], hashlib.sha256(self.history.read_bytes()).hexdigest())
         self.assertEqual([row["verdict"] for row in rows], [self.listing().splitlines()[-1][2:].decode(),
                                                             self.listing(self.fund).splitlines()[-1][2:].decode()])
+        run = self.with_months("--csv=;", "c1.case", "fund.case", start=119)
+        self.assertEqual(list(csv.DictReader(io.StringIO(run.stdout.decode()), delimiter=";")), rows)
 
     def test_without_months(self):
         """Nothing is said of months where none are asked for."""
@@ -686,10 +744,10 @@ class Months(Checkout):
         for printed in ("", whole, "UFR 3900\n", "UFR 3900\nR 1\n", "R 1\nR 1\n", f"UFR\n{whole}", f"UFR 3900\n{whole[:-1]}",
                         f"UFR 3900\nUFR 3900\n{whole}", f"UFR -100\n{whole}"):
             self.program(f"#!/bin/sh\ncat > /dev/null\nprintf '{printed}'\n", "months")
-            self.write("crates.txt", printed)
+            self.list_crates(repr(printed))
             self.assertNoAnswer(self.with_months("c1.case"), "the program gave no whole listing")
         self.program(f"#!/bin/sh\ncat > /dev/null\nprintf 'UFR 3900\n{whole}'\n", "months")
-        self.write("crates.txt", "whole")
+        self.list_crates("whole")
         self.assertEqual(self.with_months("c1.case").stdout.decode(), whole)
 
 

@@ -1,16 +1,17 @@
 # The programs that value case files, and whether they are proved. Sourced, with $root the folder of the repository.
 #
-# target/value has copies of programs that `rt run` has built, which builds only what it has proved, the names of these copies and of
-# all that the check read (files), and their checksums (proved). Dates play no part: where a file has other contents, the programs are
-# not proved. Any call may read these; only one that holds the lock writes them, the checksums last, so that a check that fails or
-# breaks off leaves none.
+# target/value has the programs that a passed `rt ci` has built, of a copy of their crates and of those below (tools/proving.sh), the names
+# of these programs and of all that it read (files), and their checksums (proved). Dates play no part: where a file has other contents, the
+# programs are not proved. Any call may read these; only one that holds the lock writes them, the checksums last, so that a check that
+# fails or breaks off leaves none.
 kept=$root/target/value
 programs='valuation monthsvaluation' # the second takes the UFR from a history of months
 
-# The names of all that the check may read, from the root on, behind links too; out/ of a crate has what rt makes. A name in a crate has
-# no blank in it.
+# The names of all that rt reads of the programs' crates and of those below, from the root on, behind links too; out/ of a crate has what rt
+# makes, and must-fail/ what no program hangs on. A name in a crate has no blank in it.
 sources() {
-  (cd "$root" && find -L crates.txt crates -path 'crates/*/out' -prune -o -type f ! -path '*/must-fail/*' -print | LC_ALL=C sort)
+  (cd "$root" && find -L crates.txt $(names_of $programs | sed 's,^,crates/,') \
+    -regex 'crates/[^/]*/\(out\|must-fail\)' -prune -o -type f -print | LC_ALL=C sort)
 }
 
 # Checksum, length and name of each file that standard input names.
@@ -27,17 +28,25 @@ is_proved() {
 check_once() {
   rm -f "$kept/proved"
   before=$(sources | checksums)
-  for name in $programs; do
-    if ! run_rt value "$kept/log" "$name" run; then # on no input
-      tail -n 20 "$kept/log" >&2
-      echo 'value: the program is not proved, so there is no answer (target/value/log has all that rt said)' >&2
-      return 2
-    fi
-    cp "$root/crates/$name/out/$name" "$kept/$name.new" && mv "$kept/$name.new" "$kept/$name" || return 2
-  done
+  if ! judge value "$kept/log" $programs; then
+    tail -n 20 "$kept/log" >&2
+    echo 'value: the program is not proved, so there is no answer (target/value/log has all that rt said)' >&2
+    remove_temporary
+    return 2
+  fi
+  take_programs
+  taken=$?
+  remove_temporary
+  [ $taken -eq 0 ] || return 2
   [ "$(sources | checksums)" = "$before" ] || return 1
   printf '%s\n' "$(printf 'target/value/%s\n' $programs | checksums)" "$before" > "$kept/new" || return 2
   cut -d ' ' -f 3 "$kept/new" > "$kept/files" && mv "$kept/new" "$kept/proved" || return 2
+}
+
+take_programs() {
+  for name in $programs; do
+    cp "$judged/crates/$name/out/$name" "$kept/$name.new" && mv "$kept/$name.new" "$kept/$name" || return
+  done
 }
 
 # Proves and builds the programs, as often as the sources change meanwhile, but no more than three times.

@@ -1,5 +1,5 @@
-# What ./value and hosts/build share: one lock, rt in a process group of its own, and what is said meanwhile. Sourced, with $root the
-# folder of the repository; sh and bash.
+# What ./value and hosts/build share: one lock, rt's verdict on crates, by an rt in a process group of its own, and what is said
+# meanwhile. Sourced, with $root the folder of the repository; sh and bash.
 #
 # The lock is on crates.txt, which the caller has open as 9 and which each process that it starts keeps open. target/proving has the
 # name and the process number of the one that holds it, for those that wait: $told_process, where the caller's shell is only a part.
@@ -80,19 +80,6 @@ heed_interrupts() {
   done
 }
 
-# Says which crate is being proved, as long as the process runs: rt's log names each crate when its check begins, and none that it only
-# looks up.
-show_progress() { # NAME LOG PID
-  said=0 # so many crates
-  while kill -0 "$3" 2> /dev/null; do
-    for crate in $(sed -n 's/^rt: chose --jobs [0-9]* for //p' "$2" | tail -n "+$((said + 1))"); do
-      said=$((said + 1))
-      echo "$1: proving $crate" >&2
-    done
-    sleep 0.2 || :
-  done
-}
-
 # A prover that is ended leaves its temporary files behind, so they have a folder of their own.
 make_temporary() {
   temporary=$(mktemp -d) && chmod 711 "$temporary" # rt runs programs as nobody where it runs as root: nobody must get through
@@ -103,17 +90,88 @@ remove_temporary() {
   temporary=
 }
 
-# Runs rt in a crate's folder to its end, with what it says in a file. Its group is its own, so that an interrupt can end the provers too.
-run_rt() { # NAME LOG CRATE WORD..
-  make_temporary || return
+# The lines of crates.txt for some crates and all below them.
+lines_of() { # CRATE..
+  awk -v named="$*" '
+    { sub(/#.*/, "") }
+    split($0, half, ":") == 2 { split(half[1], word); name[++count] = word[1]; line[count] = $0; below[count] = half[2] }
+    END {
+      left = split(named, todo)
+      while (left) {
+        crate = todo[left--]
+        for (i = 1; i <= count; i++) if (name[i] == crate && !taken[i]++) {
+          uses = split(below[i], used)
+          for (j = 1; j <= uses; j++) todo[++left] = used[j]
+        }
+      }
+      for (i = 1; i <= count; i++) if (taken[i]) print line[i]
+    }' "$root/crates.txt"
+}
+
+names_of() { # the same crates, by their names
+  lines_of "$@" | sed 's/[ :].*//'
+}
+
+# Copies crates and those below them to a folder, as a repository of their own. Must-fail edits stay out: they try contracts, and no
+# program hangs on them.
+copy_crates() { # FOLDER CRATE..
+  to=$1
+  shift
+  mkdir -p "$to/.git" && lines_of "$@" > "$to/crates.txt" || return
+  for crate in $(names_of "$@"); do
+    mkdir -p "$to/crates/$crate" || return
+    for part in "$root/crates/$crate"/*; do
+      case ${part##*/} in
+        out | must-fail) ;;
+        *) cp -RL "$part" "$to/crates/$crate" || return ;;
+      esac
+    done
+  done
+}
+
+# Starts a command in a folder, with all that it says in a file. Its group is its own, so that an interrupt can end the provers too; it keeps
+# the lock for as long as it runs.
+start() { # FOLDER FILE COMMAND..
+  (cd "$1" && shift 2 && TMPDIR=$temporary exec setsid "$@") > "$2" 2>&1 < /dev/null &
+}
+
+# Has rt judge crates and those below them as it judges a repository, by `rt ci`: each is proved from nothing, unless such a run has proved
+# it on this machine, of the same files over the same libraries. It does so in a copy, $judged, with what it built, which stays until
+# remove_temporary. So it waits for no other rt in this checkout, and nothing that other runs left here is taken over.
+judge() { # NAME LOG CRATE..
   caller=$1
   log=$2
-  crate_folder=$root/crates/$3
-  shift 3
-  : > "$log" || return
-  (cd "$crate_folder" && TMPDIR=$temporary exec setsid rt "$@") > "$log" 2>&1 < /dev/null & # it keeps the lock for as long as it runs
-  show_progress "$caller" "$log" $!
+  shift 2
+  make_temporary && : > "$log" || return
+  judged=$temporary/judged
+  copy_crates "$judged" "$@" || return
+  start "$judged" "$log" rt ci
+  show_progress "$caller" "$log" "$(names_of "$@" | wc -l)" $!
   wait_for_it
-  remove_temporary
-  return $ended
+  [ $ended -eq 0 ] && tail -n 1 "$log" | grep -Eqx '[0-9]+ passed, 0 failed'
+}
+
+# Says which crates have been proved, as long as the process runs, and where rt waits for another run of its own.
+show_progress() { # NAME LOG COUNT PID
+  told=0 # so many lines
+  passed=0 # so many crates
+  while kill -0 "$4" 2> /dev/null; do
+    show_new "$1" "$2" "$3"
+    sleep 0.2 || :
+  done
+  show_new "$1" "$2" "$3"
+}
+
+show_new() { # NAME LOG COUNT
+  for word in $(sed -n -E -e 's/^rt: ([a-z0-9_]+) proved$/proved:\1/p' -e 's/^rt: ([a-z0-9_]+) is kept: .*/kept:\1/p' \
+    -e 's/^rt: ([a-z0-9_]+): another run on this machine is proving the same.*/waits:\1/p' "$2" | tail -n "+$((told + 1))"); do
+    told=$((told + 1))
+    case $word in
+      waits:*) echo "$1: waiting for another run of rt on this machine, which proves ${word#*:}" >&2 ;;
+      *) passed=$((passed + 1)) ;;
+    esac
+    case $word in
+      proved:*) echo "$1: proved ${word#*:}, $passed of $3 crates" >&2 ;;
+    esac
+  done
 }

@@ -16,6 +16,8 @@ _Static_assert(offsetof(ginghamowl_figures, s) == 144, "S is the last");
 _Static_assert(sizeof(ginghamowl_valuation) == 168, "two bytes, padded to 8, and the figures");
 _Static_assert(offsetof(ginghamowl_valuation, verdict) == 1, "the verdict behind the refusal");
 _Static_assert(offsetof(ginghamowl_valuation, figures) == 8, "the figures behind both");
+_Static_assert(sizeof(ginghamowl_engine_version) == 44, "three numbers of 4 bytes and 32 bytes");
+_Static_assert(offsetof(ginghamowl_engine_version, kit) == 12, "the kit behind the numbers");
 _Static_assert(sizeof(ginghamowl_part) == 16, "two sizes");
 _Static_assert(sizeof(ginghamowl_point) == 24, "a byte, padded to 8, and two doubles");
 _Static_assert(sizeof(ginghamowl_amounts) == 64, "eight amounts");
@@ -207,6 +209,22 @@ static int is_c1_curve(const uint64_t *factors, const int64_t *rates)
 }
 
 /* ---------------------------------------------------------------- tests */
+
+/* The library's own is that of the header, and its kit is a text with nothing but zeros behind it. */
+static void test_version(void)
+{
+    ginghamowl_engine_version told = ginghamowl_version();
+    char kit[sizeof told.kit] = GINGHAMOWL_KIT;
+    char text[64];
+
+    snprintf(text, sizeof text, "%u.%u.%u", (unsigned)told.major, (unsigned)told.minor, (unsigned)told.patch);
+    CHECK(strcmp(text, GINGHAMOWL_VERSION) == 0);
+    CHECK(told.major == GINGHAMOWL_VERSION_MAJOR);
+    CHECK(told.minor == GINGHAMOWL_VERSION_MINOR);
+    CHECK(told.patch == GINGHAMOWL_VERSION_PATCH);
+    CHECK(told.kit[0] != 0 && told.kit[sizeof told.kit - 1] == 0);
+    CHECK(memcmp(told.kit, kit, sizeof kit) == 0);
+}
 
 /* One call with buffers of these lengths: the answer, and what the buffers hold. */
 static void value_into(const uint8_t *file, size_t length, uint8_t refusal, size_t factors_length, size_t rates_length)
@@ -2180,6 +2198,7 @@ static void test_form(uint64_t rate_bytes)
 
 int main(void)
 {
+    test_version();
     test_lengths();
     test_refused_changes();
     test_refusals();

@@ -14,6 +14,7 @@ from .answer import FIGURES, Answer, History, Report
 ROOT = Path(__file__).resolve().parents[2]
 VERSION = (ROOT / "VERSION").read_text("ascii").strip()
 BETWEEN = " | "  # the warnings, and the sheets, in a cell of CSV
+MARKS = ",", ";"  # between the cells of CSV; the first where nothing is said
 VALUED = ["ufr", "ufr_from", "rate_bytes", "days", "first_day", "last_day", "pension_flows", "pension_sum", "bond_flows", "bond_sum",
           "assets_sum"]
 
@@ -65,10 +66,10 @@ def as_json(report: Report) -> str:
     return json.dumps({"version": VERSION, "unit": "cents", **months, "valuations": rows}, indent=2, ensure_ascii=True) + "\n"
 
 
-def as_csv(report: Report) -> str:
-    """A line for each file, figures in cents; what a file does not have is empty."""
+def as_csv(report: Report, mark: str = MARKS[0]) -> str:
+    """A line for each file, figures in cents; what a file does not have is empty. A cell that has the mark in it stands in quotes."""
     out = io.StringIO()
-    writer = csv.DictWriter(out, list(csv_row(Answer(""), report.history)), lineterminator="\n")
+    writer = csv.DictWriter(out, list(csv_row(Answer(""), report.history)), delimiter=mark, lineterminator="\n")
     writer.writeheader()
     writer.writerows(csv_row(answer, report.history) for answer in report.answers)
     return out.getvalue()

@@ -6,6 +6,7 @@ mod buffers;
 mod reading;
 mod row;
 
+use batch::Stopped;
 use refusal::Refusal;
 use std::io;
 use std::io::{BufWriter, Write};
@@ -16,9 +17,12 @@ fn print_answers<W: Write>(out: &mut W, file: &[u8]) -> io::Result<()> {
     buffers::print_buffers(out, file)
 }
 
-// Ends with 1 where an answer cannot be written. The output is buffered, since a write for each number would take most of a run's time.
+// Ends with 1 where an answer cannot be written, and with 0 where the input cannot be read. The output is buffered, since a write for each
+// number would take most of a run's time.
 fn main(rt: HostRuntime) -> io::Result<()> {
     let mut out = BufWriter::new(rt.alloc(), rt.stdout())?;
-    batch::for_each(&mut rt.stdin(), |file| print_answers(&mut out, file))?;
-    out.flush()
+    match batch::for_each(&mut rt.stdin(), |file| print_answers(&mut out, file)) {
+        Ok(()) | Err(Stopped::Read(_)) => out.flush(),
+        Err(Stopped::Write(error)) => Err(error),
+    }
 }

@@ -9,6 +9,10 @@ pub record LosesFront (before after : Option (List ℕ)) (buf : List ℕ) (count
   pub within : count ≤ length buf
   pub lost : Consumes before after (take count buf)
 
+-- the reader has lost so many bytes
+abbrev pub LosesCount : Option (List ℕ) → Option (List ℕ) → ℕ → Type 0
+LosesCount before after count = (bytes : List ℕ) × (length bytes ≡ count) × Consumes before after bytes
+
 -- the reader has lost four bytes, and they are the length, the highest first
 pub record LengthRead (before after : Option (List ℕ)) (n : ℕ) : Type 0 where
   pub head : List ℕ

@@ -2,9 +2,12 @@
 // highest first.
 #![tactic(auto)]
 
-ghost use Rattle.std.specs.Prelude.{◌<◌, ◌≤◌, ◌≡◌, IfErr, IfOk, length, drop};
+ghost use Rattle.std.specs.Prelude.{◌<◌, ◌≤◌, ◌≡◌, IfErr, IfOk, Ok, Err, OnOk, length, drop};
+ghost use Rattle.std.specs.Fn.{CalledAt};
 ghost use Rattle.std.specs.Io.KnownBytes.{IsAtEnd};
-ghost use Rattle.batch.specs.Input.{LosesFront, LengthGiven, FileGiven};
+ghost use Rattle.batch.specs.Files.{Visited};
+ghost use Rattle.batch.specs.Input.{LosesFront, LosesCount, LengthGiven, FileGiven};
+ghost use Rattle.batch.specs.declared.Stopped.TheVariants.{Write};
 
 use std::io;
 use std::io::Read;
@@ -51,7 +54,8 @@ pub fn read_full<R: Read>(input: &mut R, buf: &mut [u8]) -> Result<usize, Cut>
 
 /// The length before the next file; none at the end of the input, where fewer than its four bytes are left.
 pub fn next_length<R: Read>(input: &mut R) -> Result<Option<usize>, Cut>
-    ensures { IfOk result (LengthGiven (R.remaining input.old) (R.remaining input.new)) }
+    ensures length { IfOk result (LengthGiven (R.remaining input.old) (R.remaining input.new)) }
+    ensures failed { IfErr result (λ cut. (cut.count ≤ 4) × LosesCount (R.remaining input.old) (R.remaining input.new) cut.count) }
 {
     let mut head = [0u8; 4];
     let n = read_full(input, &mut head)?;
@@ -81,25 +85,26 @@ pub fn read_file<R: Read>(
     Ok(Some(count))
 }
 
-/// Calls `visit` with each file in turn; of a file that the input cuts short, with what there is. It ends well where the input does, a
-/// read fails or a file has more than 100,000 bytes. An error is one of `visit`, after which no file is read.
+/// Calls `visit` with each file in turn; of a file that the input cuts short, with what there is. It ends well where the input does, or a
+/// file has more than 100,000 bytes. After an error, of a read or of `visit`, no file is read.
 pub fn for_each<R: Read, F: FnMut(&[u8]) -> io::Result<()>>(
     input: &mut R,
     mut visit: F,
-) -> io::Result<()>
+) -> Result<(), Stopped>
     requires { F.IsAlwaysCallable visit }
-    ensures { IfErr result (λ error. (state : F) × (file : _) × F.post state file (Err error)) }
+    ensures visited { OnOk result (Visited (λ f file g. CalledAt F.FnMut f file (Ok tt) g) visit (R.remaining input.old)) }
+    ensures stopped { IfErr result (λ stopped. (error : _) → stopped ≡ Write error → (state : F) × (file : _) × F.post state file (Err error)) }
 {
     let mut buf = [0u8; MOST_BYTES];
     // A proved loop has to end, and nothing says that the input does. No run uses up the turns.
     for _ in 0..u64::MAX {
-        let Ok(Some(wanted)) = next_length(input) else {
-            break;
+        let Some(wanted) = next_length(input).map_err(Stopped::Read)? else {
+            return Ok(());
         };
-        let Ok(Some(count)) = read_file(input, wanted, &mut buf) else {
-            break;
+        let Some(count) = read_file(input, wanted, &mut buf).map_err(Stopped::Read)? else {
+            return Ok(());
         };
-        visit(&buf[..count])?;
+        visit(&buf[..count]).map_err(Stopped::Write)?;
     }
     Ok(())
 }

@@ -43,6 +43,17 @@ pub struct HostUfr {
     pub ufr: u64,
 }
 
+// The version of the engine, and the kit that it is proved with: its name in ASCII and zeros behind it, at least one, so that C reads it
+// as a text.
+#[repr(C)]
+#[derive(Clone, Copy)]
+pub struct HostVersion {
+    pub major: u32,
+    pub minor: u32,
+    pub patch: u32,
+    pub kit: [u8; 32],
+}
+
 impl From<Result<Valuation, Refusal>> for HostValuation {
     ghost use Rattle.flat.specs.Flat.{hostValuation};
     ghost use Rattle.refusal.specs.Numbered.{answer_of};

@@ -11,11 +11,12 @@ ghost use Rattle.method.specs.Window.{windowPoint};
 ghost use Rattle.method.specs.Listing.{listingAfter, listingLength};
 ghost use Rattle.savingmodel.specs.Saving.{given, saveAnswer, savedAfter};
 ghost use Rattle.flat.specs.Flat.{hostValuation, hostPoint, valuationFrom, hostSaved, hostUfr};
+ghost use Rattle.flat.specs.Version.{engine_version};
 ghost use Rattle.ratesplace.specs.Part.{hostPart};
 ghost use Rattle.refusal.specs.Numbered.{refused_by};
 
 use engine::value;
-use flat::{HostPoint, HostSaved, HostUfr, HostValuation};
+use flat::{HostPoint, HostSaved, HostUfr, HostValuation, HostVersion};
 use history::ufr_of;
 use listing::write_listing;
 use model::case::CaseFields;
@@ -31,6 +32,8 @@ use saving::given::GivenCase;
 use saving::save;
 use window::window_point;
 
+mod version;
+
 // The number of a refusal, and 0 where there is none.
 fn number_of(answer: Result<(), Refusal>) -> u8
     ensures { result ≡ refused_by answer }
@@ -38,6 +41,19 @@ fn number_of(answer: Result<(), Refusal>) -> u8
     match answer {
         Ok(()) => 0,
         Err(refusal) => refusal.number(),
+    }
+}
+
+// The version of the engine, and the kit that it is proved with: by these a host sees at run time what it has linked or loaded.
+#[unsafe(no_mangle)]
+pub extern "C" fn ginghamowl_version() -> HostVersion
+    ensures { result ≡ engine_version }
+{
+    HostVersion {
+        major: version::MAJOR,
+        minor: version::MINOR,
+        patch: version::PATCH,
+        kit: version::KIT,
     }
 }
 

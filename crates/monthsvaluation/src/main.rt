@@ -85,3 +85,6 @@ fn main(rt: HostRuntime) -> io::Result<()> {
         Err(Stopped::Write(error)) => Err(error),
     }
 }
+
+#[cfg(test)]
+mod tests;

@@ -7,6 +7,7 @@ ghost use Rattle.std.specs.Prelude.{IfOk, ◌≤◌};
 
 use arith::bracket::Bracket;
 use arith::end::{High, Low};
+use batch::Stopped;
 use std::io;
 use std::io::{BufWriter, Write};
 use zerorates::known::{LAST_GUESS, known_near};
@@ -68,9 +69,11 @@ fn print_searches<W: Write>(out: &mut W, file: &[u8]) -> io::Result<()> {
     }
 }
 
-// Ends with 1 where a row cannot be written.
+// Ends with 1 where a row cannot be written, and with 0 where the input cannot be read.
 fn main(rt: HostRuntime) -> io::Result<()> {
     let mut out = BufWriter::new(rt.alloc(), rt.stdout())?;
-    batch::for_each(&mut rt.stdin(), |file| print_searches(&mut out, file))?;
-    out.flush()
+    match batch::for_each(&mut rt.stdin(), |file| print_searches(&mut out, file)) {
+        Ok(()) | Err(Stopped::Read(_)) => out.flush(),
+        Err(Stopped::Write(error)) => Err(error),
+    }
 }

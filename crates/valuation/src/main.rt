@@ -33,3 +33,6 @@ fn main(rt: HostRuntime) -> io::Result<()> {
         Err(Stopped::Write(error)) => Err(error),
     }
 }
+
+#[cfg(test)]
+mod tests;

@@ -16,7 +16,8 @@ what each figure means. Saving a case is request One of document 02, a rolling w
 from a history of months its request Five, zero rates in four bytes its request Six. The numbers and the saved bytes come from
 the proved engine, through the shared library libginghamowl.so, which `hosts/build` puts beside this file and a wheel contains;
 the environment variable GINGHAMOWL_LIBRARY may name another place. The first call loads it, and raises LibraryError where that
-fails. Nothing but the standard library is needed.
+fails or the library is of another version than this package. kit() says with which kit the engine is proved. Nothing but the standard
+library is needed.
 """
 
 from . import _given
@@ -33,7 +34,12 @@ from ._words import VERSION as __version__
 
 __all__ = ["FILE_BYTES", "HISTORY_BYTES", "HISTORY_MONTHS", "SENTENCES", "TERMS", "WINDOW_BYTES", "WINDOW_DAYS", "Amounts",
            "Bracket", "Case", "DaysForm", "Figures", "History", "Kind", "LibraryError", "People", "Point", "Refused", "RollingWindow",
-           "Shocks", "Valuation", "Verdict", "__version__", "rates_part", "refusal", "value", "warnings_of"]
+           "Shocks", "Valuation", "Verdict", "__version__", "kit", "rates_part", "refusal", "value", "warnings_of"]
+
+
+def kit() -> str:
+    """The kit of the toolchain that the engine is proved with, as the library tells it."""
+    return _c.engine().version().kit.decode("ascii")
 
 
 def value(data: bytes) -> Valuation:

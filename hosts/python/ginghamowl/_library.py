@@ -1,13 +1,16 @@
 """include/ginghamowl.h for ctypes: the structs, the functions, and where the shared library is.
 
-The library is loaded at the first call and not at the import, so that a program can say in its own words that it is missing.
+The library is loaded at the first call and not at the import, so that a program can say in its own words that it is missing. It must
+be of the version that this package is of: the structs of another may be others.
 """
 
 import os
-from ctypes import CDLL, POINTER, Structure, c_char_p, c_double, c_int16, c_int32, c_int64, c_size_t, c_uint8, c_uint64
+from ctypes import CDLL, POINTER, Structure, c_char, c_char_p, c_double, c_int16, c_int32, c_int64, c_size_t, c_uint8, c_uint32, c_uint64
 from functools import cache
 from pathlib import Path
 from typing import Any, NamedTuple
+
+from ._words import VERSION
 
 #: The longest accepted file has so many bytes. Of a longer one, the first FILE_BYTES + 1 decide the refusal.
 FILE_BYTES = 17623
@@ -30,7 +33,11 @@ LISTING_BYTES = 512
 
 
 class LibraryError(ImportError):
-    """The engine's shared library can't be loaded; the text says why."""
+    """The engine's shared library can't be loaded, or is of another version than this package; the text says why."""
+
+
+class HostVersion(Structure):
+    _fields_ = [("major", c_uint32), ("minor", c_uint32), ("patch", c_uint32), ("kit", c_char * 32)]
 
 
 class HostBracket(Structure):
@@ -95,6 +102,7 @@ class HostUfr(Structure):
 class Engine(NamedTuple):
     """The functions of ginghamowl.h, without the name's beginning."""
 
+    version: Any
     value: Any
     refusal: Any
     rates_part: Any
@@ -117,6 +125,7 @@ _OUT = POINTER(c_uint8), c_size_t
 _CASE = HostCaseFields, POINTER(c_int32), c_size_t, *_FLOWS, *_FLOWS
 
 _RESULT_AND_ARGUMENTS: dict[str, tuple[Any, ...]] = {
+    "version": (HostVersion,),
     "value": (HostValuation, *_FILE, *_FACTORS, *_RATES),
     "refusal": (c_uint8, *_FILE),
     "rates_part": (HostPart, *_FILE),
@@ -138,10 +147,29 @@ def engine() -> Engine:
     path = os.environ.get("GINGHAMOWL_LIBRARY") or Path(__file__).with_name("libginghamowl.so")
     try:
         library = CDLL(str(path))
+    except OSError as error:
+        raise _no_engine(error) from error
+    if told := _other_version(library):
+        raise _no_engine(f"{path} {told}, and this package is of version {VERSION}")
+    try:
         return Engine(**{name: _function(library, name) for name in Engine._fields})
-    except (OSError, AttributeError) as error:  # no library, or one without these functions
-        raise LibraryError(f"the engine's shared library can't be loaded ({error}); "
-                           "hosts/build makes it, and GINGHAMOWL_LIBRARY may name another place") from error
+    except AttributeError as error:
+        raise _no_engine(error) from error
+
+
+def _no_engine(why: Exception | str) -> LibraryError:
+    return LibraryError(f"the engine's shared library can't be loaded ({why}); hosts/build makes it, of this package's version, "
+                        "and GINGHAMOWL_LIBRARY may name another place")
+
+
+def _other_version(library: CDLL) -> str | None:
+    """What a library says that is not of this package's version; None of one that is."""
+    try:
+        told = _function(library, "version")()
+    except AttributeError:
+        return "tells no version, as those before 0.9.0 do"
+    version = f"{told.major}.{told.minor}.{told.patch}"
+    return None if version == VERSION else f"is of version {version}"
 
 
 def _function(library: CDLL, name: str) -> Any:

@@ -128,6 +128,15 @@ def between_zeros(flows: Sequence[int]) -> Sequence[int]:
     return flows[held[0]:held[-1] + 1] if held else ()
 
 
+def first_behind_zeros(flows: Sequence[int]) -> At | None:
+    """The first flow that is not 0 to the largest, where the list begins with 0. A list of few flows may begin anywhere, and so may one
+    that has a year without any further on: single bonds pay so, and neither pensions nor coupons do."""
+    held = between_zeros(flows)
+    if flows[0] or len(held) < 10 or 0 in held:
+        return None
+    return At(Fraction(held[0], max(held)), f" (term {flows.index(held[0]) + 1})")
+
+
 def last_to_largest(flows: Sequence[int]) -> Fraction | None:
     """The last flow to the largest. A list of few flows may end anywhere."""
     held = between_zeros(flows)

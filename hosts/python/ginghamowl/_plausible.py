@@ -137,6 +137,7 @@ CUT_SLIP = "did a spreadsheet cut off the decimals?"
 CELL_SLIP = "is a digit or a decimal mark wrong?"
 VENDOR_SLIP = "did a vendor deliver zeros or another curve, or is a decimal mark wrong?"
 TWICE_SLIP = "was the list pasted twice?"
+LATE_SLIP = "does the list begin a year late, or more?"
 EQUITIES = "mature", "emerging", "private_equity", "property"  # whose losses are S2, which the correlation is with
 HALF = Fraction(1, 2)  # of the rates; where nothing is cut off, nine of ten have a last decimal
 SMALL = Fraction(1, 2_000)  # of all assets: an amount below it hardly matters, unless it is a slip
@@ -192,11 +193,17 @@ RULES = [
              times("the flow beside it"), FACTOR_SLIP, (Fraction(1, 4), None)),
     of_flows("pension", "the largest step between two flows of {}", measures.largest_step, times("the other"),
              "are flows missing between them, or digits?", (None, 2)),
+    # A fund without pensioners begins with few pensions, and one that has some with more than this, in the first year.
+    of_flows("pension", "the first flow of {} behind zeros", measures.first_behind_zeros, percent_of("the largest"), LATE_SLIP,
+             (None, Fraction(1, 4))),
     of_flows("pension", "the last flow of {}", measures.last_to_largest, percent_of("the largest"), "was the list cut short?",
              (None, Fraction(1, 20))),
     of_flows("pension", "the last flow of {} less the one before it", measures.last_step, euros,
              "was a total put behind the flows?", (None, 0)),
     of_flows("pension", "the longest run of flows that stands twice in {}", measures.stands_twice, flows, TWICE_SLIP, (None, 3)),
+    # Coupons alone may be a small part of a year in which a bond ends.
+    of_flows("bonds", "the first flow of {} behind zeros", measures.first_behind_zeros, percent_of("the largest"), LATE_SLIP,
+             (None, Fraction(1, 20))),
     of_flows("bonds", "the longest run of flows that stands twice in {}", measures.stands_twice, flows, TWICE_SLIP, (None, 5)),
     of_flows("bonds", "the largest flow of {}", measures.largest_of_many, percent_of("their sum"), FACTOR_SLIP,
              (None, Fraction(1, 4))),

@@ -169,7 +169,7 @@ impl Case {
         // SAFETY: the pointers and lengths are those of slices that live through the call; the one that is written is
         // borrowed alone.
         let saved = unsafe {
-            raw::ginghamowl_save(
+            raw::checked(raw::ginghamowl_save)(
                 self.fields(),
                 rates.as_ptr(),
                 rates.len(),

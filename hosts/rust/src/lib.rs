@@ -4,7 +4,8 @@
 //! means and what each refusal is. "Document 02" has the requests that came later; saving a case is its request One, a
 //! rolling window of days its request Two, the UFR from a history of months its request Five, and zero rates in four
 //! bytes its request Six. This crate wraps the functions of `include/ginghamowl.h`; it is safe to call with any bytes and
-//! numbers, and depends on nothing but the standard library and the engine's archive.
+//! numbers, and depends on nothing but the standard library and the engine's archive. The archive must be of this crate's
+//! version: the first call of the engine panics where it is of another.
 //!
 //! ```
 //! match ginghamowl::value(b"") {
@@ -138,6 +139,13 @@ pub enum Point {
     Blank,
 }
 
+/// The kit of the toolchain that the engine is proved with, as the archive tells it.
+pub fn kit() -> String {
+    // SAFETY: the call takes nothing.
+    let kit = unsafe { raw::checked(raw::ginghamowl_version)() }.kit;
+    kit.into_iter().take_while(|&byte| byte != 0).map(char::from).collect()
+}
+
 /// The valuation of a case file.
 pub fn value(file: &[u8]) -> Result<Valuation, Refusal> {
     let mut factors = [0; ENTRIES];
@@ -152,7 +160,7 @@ pub fn value_into(file: &[u8], factors: &mut [u64], rates: &mut [i64]) -> Result
     // SAFETY: the pointers and lengths are those of slices that live through the call; the two that are written are
     // borrowed alone.
     let answer = unsafe {
-        raw::ginghamowl_value(
+        raw::checked(raw::ginghamowl_value)(
             file.as_ptr(),
             file.len(),
             factors.as_mut_ptr(),
@@ -167,14 +175,14 @@ pub fn value_into(file: &[u8], factors: &mut [u64], rates: &mut [i64]) -> Result
 /// Why a file is refused, without valuing it; `None` where it is accepted. Never `Refusal::Buffer`.
 pub fn refusal(file: &[u8]) -> Option<Refusal> {
     // SAFETY: the pointer and the length are those of a slice.
-    Refusal::numbered(unsafe { raw::ginghamowl_refusal(file.as_ptr(), file.len()) })
+    Refusal::numbered(unsafe { raw::checked(raw::ginghamowl_refusal)(file.as_ptr(), file.len()) })
 }
 
 /// The part of the file that holds the zero rates, 120 bytes for each day, or 240 where a rate has four, which
 /// [`Case::read`] says (`days_form`); empty where the file is refused.
 pub fn rates_part(file: &[u8]) -> &[u8] {
     // SAFETY: the pointer and the length are those of a slice.
-    let part = unsafe { raw::ginghamowl_rates_part(file.as_ptr(), file.len()) };
+    let part = unsafe { raw::checked(raw::ginghamowl_rates_part)(file.as_ptr(), file.len()) };
     &file[part.offset..part.offset + part.length]
 }
 
@@ -183,7 +191,9 @@ pub fn rates_part(file: &[u8]) -> &[u8] {
 /// where an end is above 2^53: after a valuation neither occurs.
 pub fn window_point(point: u64, factors: &[u64], figures: &Figures) -> Point {
     // SAFETY: the pointer and the length are those of a slice.
-    let shown = unsafe { raw::ginghamowl_window_point(point, factors.as_ptr(), factors.len(), (*figures).into()) };
+    let shown = unsafe {
+        raw::checked(raw::ginghamowl_window_point)(point, factors.as_ptr(), factors.len(), (*figures).into())
+    };
     match shown.kind {
         1 => Point::Factor(shown.lower, shown.upper),
         2 => Point::Money(shown.lower, shown.upper),
@@ -195,7 +205,7 @@ pub fn window_point(point: u64, factors: &[u64], figures: &Figures) -> Point {
 pub fn listing(answer: Result<Judged, Refusal>) -> String {
     let mut out = [0; raw::LISTING_BYTES];
     // SAFETY: the pointer and the length are those of an array that only this call has.
-    let length = unsafe { raw::ginghamowl_listing(answer.into(), out.as_mut_ptr(), out.len()) };
+    let length = unsafe { raw::checked(raw::ginghamowl_listing)(answer.into(), out.as_mut_ptr(), out.len()) };
     out[..length].iter().map(|&byte| char::from(byte)).collect()
 }
 

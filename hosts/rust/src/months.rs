@@ -74,7 +74,7 @@ impl History {
     /// limits (`Refusal::Month`), and a UFR outside 0 to 5,000 (`Refusal::MonthsUfr`).
     pub fn ufr(&self) -> Result<u64, Refusal> {
         // SAFETY: the pointer and the length are those of a slice that lives through the call.
-        let found = unsafe { raw::ginghamowl_ufr_of(self.bytes.as_ptr(), self.bytes.len(), self.start) };
+        let found = unsafe { raw::checked(raw::ginghamowl_ufr_of)(self.bytes.as_ptr(), self.bytes.len(), self.start) };
         match Refusal::numbered(found.refusal) {
             Some(refusal) => Err(refusal),
             None => Ok(found.ufr),
@@ -96,7 +96,7 @@ impl History {
         // SAFETY: the pointers and lengths are those of slices that live through the call; the two that are written are
         // borrowed alone.
         let answer = unsafe {
-            raw::ginghamowl_value_with_months(
+            raw::checked(raw::ginghamowl_value_with_months)(
                 file.as_ptr(),
                 file.len(),
                 self.bytes.as_ptr(),

@@ -1,7 +1,16 @@
 //! include/ginghamowl.h for Rust.
-use crate::{Amounts, Bracket, Figures, Judged, People, Refusal, RollingWindow, Shocks, Verdict, DAY_RATES};
+use crate::{Amounts, Bracket, Figures, Judged, People, Refusal, RollingWindow, Shocks, Verdict, DAY_RATES, VERSION};
+use std::sync::OnceLock;
 
 pub const LISTING_BYTES: usize = 512;
+
+#[repr(C)]
+pub struct HostVersion {
+    pub major: u32,
+    pub minor: u32,
+    pub patch: u32,
+    pub kit: [u8; 32],
+}
 
 #[derive(Clone, Copy, Default)]
 #[repr(C)]
@@ -81,6 +90,7 @@ pub struct HostUfr {
 }
 
 extern "C" {
+    pub fn ginghamowl_version() -> HostVersion;
     pub fn ginghamowl_value(
         file: *const u8,
         file_length: usize,
@@ -138,6 +148,26 @@ extern "C" {
         rates: *mut i64,
         rates_length: usize,
     ) -> HostValuation;
+}
+
+/// A function of the engine. The first call panics where the archive is of another version than this crate, since its
+/// structs may then be others, so every call of the engine is written `checked(function)(..)`.
+pub fn checked<F>(function: F) -> F {
+    static OF_THIS_VERSION: OnceLock<()> = OnceLock::new();
+    // SAFETY: the call takes nothing.
+    OF_THIS_VERSION.get_or_init(|| unsafe { ginghamowl_version() }.require(VERSION));
+    function
+}
+
+impl HostVersion {
+    fn require(&self, version: &str) {
+        let told = format!("{}.{}.{}", self.major, self.minor, self.patch);
+        assert!(
+            told == version,
+            "the engine's archive is of version {told}, and the crate ginghamowl is of version {version}; hosts/build \
+             makes the archive of the crate's version, and GINGHAMOWL_ARCHIVE may name another folder"
+        );
+    }
 }
 
 impl From<HostBracket> for Bracket<u64> {
@@ -203,5 +233,36 @@ impl From<HostValuation> for Result<Judged, Refusal> {
             Some(refusal) => Err(refusal),
             None => Ok(Judged { figures: answer.figures.into(), verdict: Verdict::numbered(answer.verdict) }),
         }
+    }
+}
+
+#[cfg(test)]
+mod tests {
+    use super::*;
+
+    fn told(major: u32, minor: u32, patch: u32) -> HostVersion {
+        HostVersion { major, minor, patch, kit: [0; 32] }
+    }
+
+    #[test]
+    fn an_archive_of_this_version() {
+        told(3, 14, 15).require("3.14.15");
+        assert_eq!(checked(5), 5);
+    }
+
+    #[test]
+    #[should_panic(
+        expected = "is of version 3.14.15, and the crate ginghamowl is of version 3.14.16; hosts/build makes"
+    )]
+    fn another_patch() {
+        told(3, 14, 15).require("3.14.16");
+    }
+
+    #[test]
+    #[should_panic(
+        expected = "is of version 31.4.15, and the crate ginghamowl is of version 3.14.15; hosts/build makes"
+    )]
+    fn another_minor() {
+        told(31, 4, 15).require("3.14.15");
     }
 }

@@ -34,7 +34,7 @@ impl RollingWindow {
     /// The window that holds no day.
     pub fn new() -> RollingWindow {
         // SAFETY: the call takes nothing.
-        unsafe { raw::ginghamowl_rolling_empty() }
+        unsafe { raw::checked(raw::ginghamowl_rolling_empty)() }
     }
 
     /// The window of these bytes, whatever they are. Of what a file has, `bytes[..].try_into()` makes the array, or says
@@ -54,7 +54,9 @@ impl RollingWindow {
     /// damaged window, one of 70 days (`RollingFull`), and a rate out of limits (`Rate`).
     pub fn add(&mut self, day: &[i32; DAY_RATES]) -> Result<(), Refusal> {
         // SAFETY: all is handed in by value.
-        self.become_changed(unsafe { raw::ginghamowl_rolling_add(self.clone(), raw::HostDay { rates: *day }) })
+        self.become_changed(unsafe {
+            raw::checked(raw::ginghamowl_rolling_add)(self.clone(), raw::HostDay { rates: *day })
+        })
     }
 
     /// Drops the oldest day. Refused are a damaged window, then an empty one (`RollingEmpty`).
@@ -100,7 +102,7 @@ impl RollingWindow {
         // SAFETY: the pointers and lengths are those of slices that live through the call; the two that are written are
         // borrowed alone.
         let answer = unsafe {
-            raw::ginghamowl_rolling_value(
+            raw::checked(raw::ginghamowl_rolling_value)(
                 self.clone(),
                 case.fields(),
                 case_rates.as_ptr(),
@@ -121,7 +123,7 @@ impl RollingWindow {
     /// What dropping the oldest day gives. Of all refusals, damage comes first.
     fn dropped(&self) -> raw::HostChangedWindow {
         // SAFETY: the window is handed in by value.
-        unsafe { raw::ginghamowl_rolling_drop(self.clone()) }
+        unsafe { raw::checked(raw::ginghamowl_rolling_drop)(self.clone()) }
     }
 
     fn become_changed(&mut self, changed: raw::HostChangedWindow) -> Result<(), Refusal> {

@@ -2,9 +2,9 @@
 //! tests/reference.py.
 use common::in_four_bytes;
 use ginghamowl::{
-    listing, rates_part, refusal, refusal_sentence, value, value_into, verdict_word, window_point, Amounts, Bracket,
-    Case, DaysForm, FormError, Judged, People, Point, Refusal, Shocks, Verdict, DAY_RATES, ENTRIES, FILE_BYTES,
-    VERSION,
+    kit, listing, rates_part, refusal, refusal_sentence, value, value_into, verdict_word, window_point, Amounts,
+    Bracket, Case, DaysForm, FormError, Judged, People, Point, Refusal, Shocks, Verdict, DAY_RATES, ENTRIES,
+    FILE_BYTES, VERSION,
 };
 use std::error::Error;
 use std::fs;
@@ -469,6 +469,8 @@ fn saving_into_buffers() {
 fn words_and_version() {
     let repository = PathBuf::from(env!("CARGO_MANIFEST_DIR")).join("../..");
     assert_eq!(VERSION, fs::read_to_string(repository.join("VERSION")).unwrap().trim());
+    let words = fs::read_to_string(repository.join("hosts/words.toml")).unwrap();
+    assert!(words.contains(&format!("\nkit = \"{}\"\n", kit())));
     assert_eq!(
         (refusal_sentence(0), refusal_sentence(20)),
         ("no refusal has this number", "no refusal has this number")

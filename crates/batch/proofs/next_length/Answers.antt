@@ -10,8 +10,8 @@ four-bytes : (bytes : List ℕ) → from_be_bytes w32 bytes ≡ number bytes 0 4
 unfolding number
 four-bytes bytes = omega arith
 
-pub returns : goal.returns
-returns g c =
+pub returns-clause-length : goal.returns-clause-length
+returns-clause-length g c =
     let head = c.read_full.new.buf in
     let n = c.in_ok-n.n in
     let read = c.in_ok-n.ensures.bytes in

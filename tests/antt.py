@@ -80,8 +80,8 @@ def list_term(values, term=str):
 
 
 def given_term(case):
-    """A case as it is handed in. `fields_of`, `amountsOf` and `shocksOf` take the numbers in order."""
-    amounts, shocks = (f"{name}Of {' '.join(map(str, values))}" if any(values) else f"no{name.capitalize()}"
+    """A case as it is handed in. `fields_of`, `amounts_of` and `shocks_of` take the numbers in order."""
+    amounts, shocks = (f"{name}_of {' '.join(map(str, values))}" if any(values) else f"no_{name}"
                        for name, values in (("amounts", case.amounts.values()), ("shocks", case.shocks.values())))
     fields = f"fields_of {case.rate_bytes} {case.ufr} {argument(amounts)} {argument(shocks)} {case.heads} {case.pension_age} {case.mean_age}"
     lists = list_term(case.rates, integer), list_term(case.pension), list_term(case.bonds)
@@ -103,9 +103,9 @@ def ring_term(rates, names):
 
 
 def window_term(window, names):
-    """A rolling window; `windowOf` takes its numbers in order. names: of days, as tuples."""
+    """A rolling window; `window_of` takes its numbers in order. names: of days, as tuples."""
     rates, sums = argument(ring_term(window.rates, names)), argument(day_or_name(window.sums, names))
-    return f"windowOf {window.count} {window.start} {rates} {sums}"
+    return f"window_of {window.count} {window.start} {rates} {sums}"
 
 
 def record(fields, indent="  "):
@@ -123,7 +123,7 @@ def case_term(case):
     """The case as a record, a field by its name."""
     deep = "    "
     days = "\n      ∷ ".join([day_term(day) for day in case.days] + ["[]"])
-    return record([("rateBytes", case.rate_bytes), ("ufr", case.ufr), ("days", days), ("pension", long_list(case.pension, 12, "      ")),
+    return record([("rate_bytes", case.rate_bytes), ("ufr", case.ufr), ("days", days), ("pension", long_list(case.pension, 12, "      ")),
                    ("bonds", long_list(case.bonds, 12, "      ")),
                    ("amounts", record([(a, case.amounts[a]) for a in AMOUNTS], deep)),
                    ("shocks", record([(x, case.shocks[x]) for x in SHOCKS], deep)),

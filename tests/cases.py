@@ -158,14 +158,10 @@ def table(examples):
 
 
 def with_months(fund):
-    """fund.months and fund-months.txt, of the history in fund-months.csv and the file of the fund; and both for the program with months, as
-    its input and, with the UFR found above, its output."""
+    """fund.months and fund-months.txt, of the history in fund-months.csv and the file of the fund."""
     rates = casetext.months.from_csv((FOLDER / "fund-months.csv").read_bytes()).rates
     history = casetext.months.write(rates, START)
-    listing = months.listing(fund, history, START)
-    return {"cases/fund.months": history, "cases/fund-months.txt": listing,
-            "crates/monthsvaluation/stdin": programs.framed_months(fund, history, START),
-            "crates/monthsvaluation/stdout": b"UFR %d\n" % months.ufr_of(history, START).ufr + listing}
+    return {"cases/fund.months": history, "cases/fund-months.txt": months.listing(fund, history, START)}
 
 
 def wanted():
@@ -181,7 +177,7 @@ def wanted():
     files |= {f"cases/{one.name}.case": one.data for one in examples}
     files |= with_months(files["cases/fund.case"])
     c1_file = files["cases/c1.case"], files["cases/c1.txt"]
-    return files | dict(zip(("crates/valuation/stdin", "crates/valuation/stdout"), c1_file))
+    return files | dict(zip(("crates/ginghamowl/stdin", "crates/ginghamowl/stdout"), c1_file))
 
 
 def main(check):

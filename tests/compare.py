@@ -180,14 +180,22 @@ def compare_exact_bonds(comparison, rng, cases):
 
 # ---------------------------------------------------------------- the programs
 
-def printed(name, **standard_input):
-    """What a program prints."""
-    return subprocess.run([programs.program(name)], capture_output=True, check=True, **standard_input).stdout
+def run(*words, **standard_input):
+    """The status of the program, and what it prints."""
+    ended = subprocess.run([programs.program("ginghamowl"), *words], stdout=subprocess.PIPE, stderr=subprocess.DEVNULL, **standard_input)
+    return ended.returncode, ended.stdout
+
+
+def expected(listing):
+    return int(listing.startswith(b"R")), listing
+
+
+NO_ANSWER = 2, b""
 
 
 def in_pieces(data):
     """The listing of a file that arrives in pieces through a pipe."""
-    with subprocess.Popen([programs.program("valuation")], stdin=subprocess.PIPE, stdout=subprocess.PIPE) as run:
+    with subprocess.Popen([programs.program("ginghamowl")], stdin=subprocess.PIPE, stdout=subprocess.PIPE) as run:
         for at in range(0, len(data), 37):
             run.stdin.write(data[at:at + 37])
             run.stdin.flush()
@@ -195,12 +203,12 @@ def in_pieces(data):
         return run.stdout.read()
 
 
-def failing(name):
-    """What a program prints of an input whose reading fails: a folder."""
+def failing(*words):
+    """A run on an input whose reading fails: a folder."""
     with tempfile.TemporaryDirectory() as folder:
         descriptor = os.open(folder, os.O_RDONLY)
         try:
-            return printed(name, stdin=descriptor)
+            return run(*words, stdin=descriptor)
         finally:
             os.close(descriptor)
 
@@ -209,30 +217,33 @@ def compare_program(comparison, rng, quick):
     batch = files.damaged_once(files.all_fields()) + [*files.long_files(rng)]
     for rate_bytes in UNITS:
         batch += files.random_files(rng, 10 if quick else 50, rate_bytes) + [encode(files.full_case(rng, rate_bytes), True, True, True)]
-    comparison.same("the program", batch, (printed("valuation", input=data) for data in batch), map(reference.listing, batch))
+    comparison.same("the program", batch, (run(input=data) for data in batch), map(expected, map(reference.listing, batch)))
     few = batch[-5:]
     comparison.same("the program, in pieces", few, map(in_pieces, few), map(reference.listing, few))
-    comparison.same("the program, a failing read", [b""], [failing("valuation")], [b""])
+    comparison.same("the program, a failing read", [b""], [failing()], [NO_ANSWER])
 
 
-def with_months(call):
-    """What the program with months reads and prints of a file, a history and its start index."""
-    listing, found = months.listing(call.file, call.history, call.start), months.ufr_of(call.history, call.start)
-    first = b"" if listing.startswith(b"R") else b"UFR %d\n" % found.ufr
-    return programs.framed_months(call.file, call.history, call.start), first + listing
+def with_history(call, folder):
+    """The program's run on a file with a history, which stands in a file, and its start index."""
+    history = os.path.join(folder, "history")
+    with open(history, "wb") as file:
+        file.write(call.history)
+    return run("--months", history, "--start", str(call.start), input=call.file)
 
 
 def compare_months_program(comparison, rng, quick):
-    """Each fault alone and right calls; and inputs that end early, or have a length that no file or history needs: nothing is printed."""
+    """Each fault alone and right calls; and a file or a history that is longer than any, and one that cannot be read."""
     base, full, *four = histories.bases()
     calls = [base, full, *four, *histories.one_fault(full), *histories.every_ufr(rng, [base.file, four[0].file])]
-    data, expected = map(list, zip(*map(with_months, rng.sample(calls, 40) if quick else calls)))
-    whole = programs.framed_months(full.file, full.history, full.start)
-    long = [programs.framed_months(bytes(files.LONGEST[4] + 2), full.history, 0), programs.framed_months(full.file, bytes(242), 0)]
-    odd = [*(whole[:end] for end in (0, 3, 4, 5, len(full.file) + 3, len(full.file) + 7, len(whole) - 9, len(whole) - 1)), *long]
-    comparison.same("the program with months", data, (printed("monthsvaluation", input=one) for one in data), expected)
-    comparison.same("the program with months, odd inputs", odd, (printed("monthsvaluation", input=one) for one in odd), [b""] * len(odd))
-    comparison.same("the program with months, a failing read", [b""], [failing("monthsvaluation")], [b""])
+    calls = rng.sample(calls, 40) if quick else calls
+    long = [full._replace(file=bytes(files.LONGEST[4] + 2)), full._replace(history=bytes(242)), full._replace(history=full.history * 1_000)]
+    asked = [*calls, *long]
+    with tempfile.TemporaryDirectory() as folder:
+        comparison.same("the program with months", [call.file for call in asked], (with_history(call, folder) for call in asked),
+                        [expected(months.listing(call.file, call.history, call.start)) for call in asked])
+        comparison.same("the program with months, a failing read", [b""] * 2,
+                        [run("--months", folder, "--start", "0", input=full.file), failing("--months", "-", "--start", "0", os.devnull)],
+                        [NO_ANSWER] * 2)
 
 
 # ---------------------------------------------------------------- all of it

@@ -59,14 +59,15 @@ def place(path):
 
 
 # A constant of a trait is a function to the prover, as FourBytesRateForm::WIDTH.
-HEAD = re.compile(r"^ *(?:pub )?(?:(?:extern \"C\" )?fn |const )(\w+)|^impl(?:<[^{]*?>)? (\w+)(?:<([^{]*?)>)?(?: for (\(.*\)|\w+)[^{]*)? \{|^}", re.M)
+HEAD = re.compile(r"^ *(?:pub(?:\([a-z]+\))? )?(?:(?:extern \"C\" )?fn |const )(\w+)|^impl(?:<[^{]*?>)? (\w+)(?:<([^{]*?)>)?(?: for (\(.*\)|\w+)[^{]*)? \{|^}", re.M)
 
 
 def kind_of(trait, arguments, kind):
-    """The name of an impl of a trait, as the prover says it: the type, the trait and the trait's arguments. That of pairs begins with Tuple2."""
+    """The name of an impl of a trait, as the prover says it: the type, the trait and the trait's arguments, without lifetimes. That of pairs
+    begins with Tuple2."""
     if kind.startswith("("):
         kind = f"Tuple{kind.count(',') + 1}"
-    return kind + trait + "".join(word[0].upper() + word[1:] for word in re.findall(r"\w+", arguments or ""))
+    return kind + trait + "".join(word[0].upper() + word[1:] for word in re.findall(r"(?<!')\b\w+", arguments or ""))
 
 
 def home_of(kind, source, module):

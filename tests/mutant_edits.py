@@ -15,10 +15,10 @@ LEFT_OUT = "left out"
 
 # One token for another of the same type, by the kind of the mistake.
 EXCHANGED = {
-    "order": {"≤": "<", "<": "≤", "leb": "ltb", "ltb": "leb", "≤ℤ": "<ℤ", "<ℤ": "≤ℤ", "le_z": "lt_z", "lt_z": "le_z", "less": "at_most",
-              "at_most": "less", "eqb": "leb", "max": "min"},
+    "order": {"≤": "<", "<": "≤", "nat_le": "nat_lt", "nat_lt": "nat_le", "≤ℤ": "<ℤ", "<ℤ": "≤ℤ", "le_z": "lt_z", "lt_z": "le_z", "less": "at_most",
+              "at_most": "less", "max": "min"},
     "end": {"low": "high", "high": "low", "lower": "upper", "upper": "lower", ".lower": ".upper", ".upper": ".lower",
-            "lowerTest": "upperTest", "upperTest": "lowerTest", "e": "(other e)"},
+            "lower_test": "upper_test", "upper_test": "lower_test", "e": "(other e)"},
     "curve": {"base": "up", "up": "down", "down": "up"},
     "verdict": {"Dekkingstekort": "Reservetekort", "Reservetekort": "VrijVermogen", "VrijVermogen": "Onbeslist",
                 "Onbeslist": "Dekkingstekort", "Factor": "Money", "Money": "Factor"},
@@ -33,8 +33,8 @@ UNARY = {"other", "suc", "neg_ℤ", "not", "square"}
 
 # Names of one type, in an order: each is exchanged for the one behind it, the last for the one before.
 NAMES = [
-    ("L", "B"), ("S1", "S2", "S3", "S4", "S5", "S6", "S"), ("WL", "WB"), ("firstMargin", "secondMargin"), ("growth", "weighed"),
-    ("daysAt", "dayCount"), ("factors", "rates"),
+    ("L", "B"), ("S1", "S2", "S3", "S4", "S5", "S6", "S"), ("WL", "WB"), ("first_margin", "second_margin"), ("growth", "weighed"),
+    ("days_at", "day_count"), ("factors", "rates"),
 ]
 
 # The same for the variables of one file, which elsewhere have another type.
@@ -47,7 +47,7 @@ VARIABLES = {
 
 # The modules of the toolchain's names that a mutant may need and its file may lack. Other names are looked for in the definitions.
 KIT = {
-    "Rattle.std.specs.Prelude": "◌≤◌ ◌<◌ ◌+◌ ◌-◌ ◌*◌ ◌/◌ ◌%◌ min leb ltb ◌≤ℤ◌ ◌<ℤ◌ ◌+ℤ◌ ◌-ℤ◌ take drop true false ◌||◌",
+    "Rattle.std.specs.Prelude": "◌≤◌ ◌<◌ ◌+◌ ◌-◌ ◌*◌ ◌/◌ ◌%◌ min nat_le nat_lt ◌≤ℤ◌ ◌<ℤ◌ ◌+ℤ◌ ◌-ℤ◌ take drop true false ◌||◌",
     "Rattle.std.specs.Int.Signed": "le_z lt_z",
 }
 # The variants of the model's types that are exchanged, by the module of the type.

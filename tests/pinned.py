@@ -48,24 +48,24 @@ use lib.Dec.{lit<, lit≤}
 use lib.ListN.{replicate}
 use lib.IntN.{pos, neg_ℤ}
 use Rattle.arith.specs.Rounding.{low, high}
-use Rattle.model.specs.Constants.{lastTerm}
+use Rattle.model.specs.Constants.{last_term}
 use Rattle.model.specs.Case.{FileCase, s}
-use Rattle.model.specs.Layout.{fileOf}
+use Rattle.model.specs.Layout.{file_of}
 use Rattle.method.specs.Fraction.{◌//◌, ◌≐◌, whole}
 use Rattle.method.specs.Curve.{Curve, base, up, down, curve, P}
 use Rattle.method.specs.Exact as Exact
 use Rattle.method.specs.Rounded as Rounded
-use Rattle.method.specs.Buffers.{entry_of, factorEntries}
-use Rattle.method.specs.Margins.{WL, WB, NearFirst, NearSecond, firstMargin, secondMargin}
+use Rattle.method.specs.Buffers.{entry_of, factor_entries}
+use Rattle.method.specs.Margins.{WL, WB, NearFirst, NearSecond, first_margin, second_margin}
 use Rattle.method.specs.Demand3.{
-  leastStep,
-  mostStep,
-  factorWidthMost,
-  rateWidthMost,
-  LWidthMost,
-  BWidthMost,
-  AWidthMost,
-  SWidthMost,
+  least_step,
+  most_step,
+  factor_width_most,
+  rate_width_most,
+  L_width_most,
+  B_width_most,
+  A_width_most,
+  S_width_most,
 }
 use Rattle.method.specs.Listing.{ascii, word}
 use Rattle.model.specs.declared.figures.Verdict.TheVariants.{Dekkingstekort, Reservetekort, VrijVermogen}
@@ -83,7 +83,7 @@ QUICK_HEAD = """\
 -- The refusals of files at the limits and in the order of checks: those rows of the table that are quick to compute. The whole table is in
 -- the crate `refusals`.
 """ + WRITTEN + REFUSED_USES + """\
-use Rattle.model.specs.Refusals.{refusal, ratesPart}
+use Rattle.model.specs.Refusals.{refusal, rates_part}
 use Rattle.model.proofs.Computing.{pairs, all}
 """
 
@@ -91,7 +91,7 @@ TABLE_HEAD = """\
 -- The refusals of files at each limit, on both sides, and in each place of the order of checks. A number that passes its check is mostly
 -- shown by a file that ends after the field, which is refused with 1.
 """ + WRITTEN + REFUSED_USES + """\
-use Rattle.model.specs.Refusals.{refusal, ratesPart}
+use Rattle.model.specs.Refusals.{refusal, rates_part}
 use Rattle.model.proofs.Computing.{pairs, all}
 """
 
@@ -104,7 +104,7 @@ use mathlib.Core.List.{List, [], ◌∷◌}
 use Rattle.model.specs.Layout.{case_of}
 use Rattle.model.specs.Refusals.{refusal}
 use Rattle.model.proofs.Computing.{all}
-use Rattle.method.proofs.Pinned.{bentFile, bentCase, upFile, upCase, downFile, downCase, deepestFile, deepestCase, long}
+use Rattle.method.proofs.Pinned.{bent_file, bent_case, up_file, up_case, down_file, down_case, deepest_file, deepest_case, long}
 """
 
 FILES_HEAD = """\
@@ -120,10 +120,10 @@ use Rattle.method.specs.Fraction.{◌//◌, ◌≐◌}
 use Rattle.method.specs.Curve.{base, up, down, curve}
 use Rattle.method.specs.Exact as Exact
 use Rattle.method.specs.Rounded as Rounded
-use Rattle.method.specs.Buffers.{valuationOf}
+use Rattle.method.specs.Buffers.{valuation_of}
 use Rattle.method.specs.Listing.{listing}
 use Rattle.method.proofs.Computing.{text, all}
-use Rattle.method.proofs.Pinned.{bentCurve, upFile, downFile, deepestFile, deepestCase, long}
+use Rattle.method.proofs.Pinned.{bent_curve, up_file, down_file, deepest_file, deepest_case, long}
 """
 
 SAVED_HEAD = """\
@@ -137,7 +137,7 @@ use lib.ListN.{replicate}
 use lib.IntN.{pos, neg_ℤ}
 use Rattle.std.specs.Prelude.{Ok, Err}
 use Rattle.model.specs.Case.{FileCase}
-use Rattle.savingmodel.specs.Saving.{given, caseRefusal, shortest, saveRefusal, saveAnswer, savedAfter}
+use Rattle.savingmodel.specs.Saving.{given, case_refusal, shortest, save_refusal, save_answer, saved_after}
 use Rattle.model.specs.declared.case.Amounts.{Amounts}
 use Rattle.model.specs.declared.case.Shocks.{Shocks}
 use Rattle.model.specs.declared.case.CaseFields.{CaseFields}
@@ -154,7 +154,7 @@ use mathlib.Core.Path.{◌≡◌, refl}
 use mathlib.Core.Bool.{Bool, true, false}
 use mathlib.Core.List.{List, [], ◌∷◌, map}
 use Rattle.arith.specs.Rounding.{End, low, high}
-use Rattle.searchmodel.specs.Bisection.{middle, halved, afterTests, stepsLeft, isLeft, howMany, mostLeft}
+use Rattle.searchmodel.specs.Bisection.{middle, halved, after_tests, steps_left, is_left, how_many, most_left}
 use Rattle.searchmodel.specs.declared.StepsLeft.{StepsLeft}
 use Rattle.searchmodel.proofs.Computing.{all}
 """
@@ -176,27 +176,27 @@ use lib.IntN.{ℤ, pos, neg_ℤ}
 use Rattle.model.specs.Refusals.{first_of}
 use Rattle.savingmodel.specs.Saving.{given}
 use Rattle.rollingmodel.specs.Rolling.{
-  daysHeld,
-  emptyWindow,
-  windowRight,
-  addRefusal,
-  dropRefusal,
-  addDay,
-  dropDay,
+  days_held,
+  empty_window,
+  rolling_right,
+  add_refusal,
+  drop_refusal,
+  add_day,
+  drop_day,
   add,
-  dropOldest,
-  queuedBy,
-  windowRefusal,
-  windowValuation,
-  windowFactorsAfter,
-  windowRatesAfter,
+  drop_oldest,
+  queued_by,
+  rolling_refusal,
+  rolling_valuation,
+  rolling_factors_after,
+  rolling_rates_after,
 }
 use Rattle.method.specs.Listing.{listing}
 use Rattle.rollingmodel.specs.declared.RollingWindow.{RollingWindow}
 use Rattle.rollingmodel.specs.declared.ChangedWindow.{ChangedWindow}
 use Rattle.method.proofs.Computing.{text}
 use Rattle.rollingmodel.proofs.Computing.{all}
-use Rattle.savingmodel.proofs.SavedCases.{fields_of, noAmounts, noShocks, small}
+use Rattle.savingmodel.proofs.SavedCases.{fields_of, no_amounts, no_shocks, small}
 """
 
 ROLLING_TABLE_HEAD = """\
@@ -209,12 +209,12 @@ use mathlib.Core.List.{List, [], ◌∷◌, ◌++◌}
 use lib.ListN.{replicate, take}
 use lib.IntN.{pos, neg_ℤ}
 use Rattle.savingmodel.specs.Saving.{given}
-use Rattle.rollingmodel.specs.Rolling.{emptyWindow, addRefusal, windowRefusal, windowRatesAfter}
+use Rattle.rollingmodel.specs.Rolling.{empty_window, add_refusal, rolling_refusal, rolling_rates_after}
 use Rattle.rollingmodel.proofs.Computing.{all}
-use Rattle.model.proofs.FourByteCases.{finerCase}
-use Rattle.savingmodel.proofs.SavedCases.{amountsOf, shocksOf, fields_of, noAmounts, noShocks, small}
-use Rattle.savingmodel.proofs.FourByteCases.{smallFour}
-use Rattle.rollingmodel.proofs.RollingCases.{windowOf, someDay, highDay, fullWindow, oneDayLeft, flatDays}
+use Rattle.model.proofs.FourByteCases.{finer_case}
+use Rattle.savingmodel.proofs.SavedCases.{amounts_of, shocks_of, fields_of, no_amounts, no_shocks, small}
+use Rattle.savingmodel.proofs.FourByteCases.{small_four}
+use Rattle.rollingmodel.proofs.RollingCases.{window_of, some_day, high_day, full_window, one_day_left, flat_days}
 """
 
 MONTHS_WRITTEN = """\
@@ -231,7 +231,7 @@ use mathlib.Core.Path.{◌≡◌, refl}
 use mathlib.Core.List.{List, [], ◌∷◌, ◌++◌, map}
 use lib.ListN.{replicate}
 use lib.IntN.{ℤ, pos, neg_ℤ}
-use Rattle.monthsmodel.specs.Months.{monthsOf, hundreds, apart, roundedUfr, ufrRefusal, withUfrField, monthsRefusal, monthsCase}
+use Rattle.monthsmodel.specs.Months.{months_of, hundreds, apart, rounded_ufr, ufr_refusal, with_ufr_field, months_refusal, months_case}
 use Rattle.model.proofs.Computing.{pairs}
 use Rattle.monthsmodel.proofs.Computing.{all}
 """
@@ -249,14 +249,14 @@ use lib.ListN.{replicate, take, drop}
 use lib.IntN.{pos, neg_ℤ}
 use Rattle.std.specs.Prelude.{Ok, Err}
 use Rattle.arith.specs.Rounding.{low, high}
-use Rattle.method.specs.Buffers.{entry_of, rateEntryOf}
-use Rattle.monthsmodel.specs.Months.{monthsOf, oldestFirst, total, ufrRefusal, ufrAnswer}
-use Rattle.monthsmodel.specs.Months.{monthsRefusal, monthsValuation, monthsFactorsAfter, monthsRatesAfter}
+use Rattle.method.specs.Buffers.{entry_of, rate_entry_of}
+use Rattle.monthsmodel.specs.Months.{months_of, oldest_first, total, ufr_refusal, ufr_answer}
+use Rattle.monthsmodel.specs.Months.{months_refusal, months_valuation, months_factors_after, months_rates_after}
 use Rattle.method.specs.Listing.{listing}
 use Rattle.model.proofs.Computing.{pairs}
 use Rattle.method.proofs.Computing.{text}
 use Rattle.monthsmodel.proofs.Computing.{all}
-use Rattle.monthsmodel.proofs.MonthsCases.{foundHistory, noUfrHistory, ringMonths, plainFile, ownUfrFile}
+use Rattle.monthsmodel.proofs.MonthsCases.{found_history, no_ufr_history, ring_months, plain_file, own_ufr_file}
 """
 
 FOUR_HEAD = """\
@@ -269,8 +269,8 @@ use mathlib.Core.Bool.{true}
 use mathlib.Core.List.{List, [], ◌∷◌, ◌++◌, map}
 use lib.IntN.{pos, neg_ℤ}
 use Rattle.model.specs.Case.{FileCase}
-use Rattle.model.specs.Layout.{fileOf, case_of}
-use Rattle.model.specs.Refusals.{refusal, daysAt, dayCount, ratesPart}
+use Rattle.model.specs.Layout.{file_of, case_of}
+use Rattle.model.specs.Refusals.{refusal, days_at, day_count, rates_part}
 use Rattle.model.proofs.Computing.{pairs, all}
 """
 
@@ -285,16 +285,16 @@ use lib.Dec.{lit<}
 use lib.ListN.{replicate}
 use lib.IntN.{pos, neg_ℤ}
 use Rattle.arith.specs.Rounding.{low, high}
-use Rattle.model.specs.Case.{FileCase, withDays, perStep}
-use Rattle.model.specs.Refusals.{forwardsRight}
+use Rattle.model.specs.Case.{FileCase, with_days, per_step}
+use Rattle.model.specs.Refusals.{forwards_right}
 use Rattle.method.specs.Fraction.{◌//◌, ◌≐◌}
 use Rattle.method.specs.Curve.{base, up, down, curve, P}
 use Rattle.method.specs.Exact as Exact
 use Rattle.method.specs.Rounded as Rounded
-use Rattle.method.specs.FourBytes.{rewritten, rewrittenFile}
+use Rattle.method.specs.FourBytes.{rewritten, rewritten_file}
 use Rattle.method.specs.Listing.{ascii, word}
 use Rattle.model.specs.declared.figures.Verdict.TheVariants.{Dekkingstekort}
-use Rattle.model.proofs.FourByteCases.{finerCase, oldCase, newCase, oldFile, newFile}
+use Rattle.model.proofs.FourByteCases.{finer_case, old_case, new_case, old_file, new_file}
 use Rattle.method.proofs.Computing.{all}
 """
 
@@ -308,10 +308,10 @@ use lib.IntN.{pos, neg_ℤ}
 use Rattle.std.specs.Prelude.{Ok, Err}
 use Rattle.model.specs.Case.{FileCase}
 use Rattle.model.proofs.Computing.{pairs}
-use Rattle.model.proofs.FourByteCases.{quads, finerFile, finerCase, oldCase, newCase, oldFile, newFile}
-use Rattle.savingmodel.specs.Saving.{given, caseRefusal, shortest, saveRefusal, saveAnswer, savedAfter}
+use Rattle.model.proofs.FourByteCases.{quads, finer_file, finer_case, old_case, new_case, old_file, new_file}
+use Rattle.savingmodel.specs.Saving.{given, case_refusal, shortest, save_refusal, save_answer, saved_after}
 use Rattle.savingmodel.proofs.Computing.{all}
-use Rattle.savingmodel.proofs.SavedCases.{amountsOf, shocksOf, fields_of, noAmounts, noShocks}
+use Rattle.savingmodel.proofs.SavedCases.{amounts_of, shocks_of, fields_of, no_amounts, no_shocks}
 """
 
 FOUR_ROLLING_HEAD = """\
@@ -324,10 +324,10 @@ use lib.ListN.{replicate, take}
 use lib.IntN.{pos}
 use Rattle.method.specs.Listing.{listing}
 use Rattle.method.proofs.Computing.{text}
-use Rattle.model.proofs.FourByteCases.{finerCase}
-use Rattle.rollingmodel.specs.Rolling.{windowValuation, windowFactorsAfter}
+use Rattle.model.proofs.FourByteCases.{finer_case}
+use Rattle.rollingmodel.specs.Rolling.{rolling_valuation, rolling_factors_after}
 use Rattle.rollingmodel.proofs.Computing.{all}
-use Rattle.rollingmodel.proofs.RollingCases.{flatDays}
+use Rattle.rollingmodel.proofs.RollingCases.{flat_days}
 """
 
 FOUR_MONTHS_HEAD = """\
@@ -336,10 +336,10 @@ FOUR_MONTHS_HEAD = """\
 use mathlib.Core.Path.{◌≡◌, refl}
 use mathlib.Core.List.{[], ◌∷◌, ◌++◌}
 use Rattle.model.proofs.Computing.{pairs}
-use Rattle.model.proofs.FourByteCases.{finerFile}
-use Rattle.monthsmodel.specs.Months.{withUfrField, monthsCase}
+use Rattle.model.proofs.FourByteCases.{finer_file}
+use Rattle.monthsmodel.specs.Months.{with_ufr_field, months_case}
 use Rattle.monthsmodel.proofs.Computing.{all}
-use Rattle.monthsmodel.proofs.MonthsCases.{foundHistory}
+use Rattle.monthsmodel.proofs.MonthsCases.{found_history}
 """
 
 FOUR_TABLE_HEAD = """\
@@ -355,19 +355,19 @@ use mathlib.Core.List.{List, [], ◌∷◌, ◌++◌, map}
 use lib.ListN.{replicate}
 use lib.IntN.{pos, neg_ℤ}
 use Rattle.arith.specs.Rounding.{low, high}
-use Rattle.model.specs.Refusals.{refusal, ratesPart}
+use Rattle.model.specs.Refusals.{refusal, rates_part}
 use Rattle.model.specs.Case.{FileCase}
-use Rattle.savingmodel.specs.Saving.{given, caseRefusal}
+use Rattle.savingmodel.specs.Saving.{given, case_refusal}
 use Rattle.method.specs.Curve.{base, curve}
 use Rattle.method.specs.Rounded as Rounded
-use Rattle.method.specs.Buffers.{valuationOf}
-use Rattle.method.specs.FourBytes.{rewrittenFile}
+use Rattle.method.specs.Buffers.{valuation_of}
+use Rattle.method.specs.FourBytes.{rewritten_file}
 use Rattle.method.specs.Listing.{listing}
 use Rattle.model.proofs.Computing.{pairs}
 use Rattle.method.proofs.Computing.{text}
 use Rattle.rollingmodel.proofs.Computing.{all}
-use Rattle.savingmodel.proofs.SavedCases.{amountsOf, shocksOf, fields_of, noAmounts, noShocks}
-use Rattle.model.proofs.FourByteCases.{quads, finerFile, finerCase, oldFile, newFile}
+use Rattle.savingmodel.proofs.SavedCases.{amounts_of, shocks_of, fields_of, no_amounts, no_shocks}
+use Rattle.model.proofs.FourByteCases.{quads, finer_file, finer_case, old_file, new_file}
 """
 
 TITLES = {
@@ -392,15 +392,15 @@ def ends(one_end):
 def read_statements(name, case, data):
     """The file, its case by name, and that the case gives the file. The other way is `case_statement`, which takes longer."""
     bonds = "true" if case.bonds else "false"
-    return [definition(f"{name}File", "List ℕ", file_term(data), TITLES[name]),
-            case_definition(name + "Case", case, "the case that it holds"),
+    return [definition(f"{name}_file", "List ℕ", file_term(data), TITLES[name]),
+            case_definition(name + "_case", case, "the case that it holds"),
             computed(f"{name}-layout",
-                     f"fileOf (record {{ ufr = true; bonds = {bonds}; amounts = true }}) {name}Case ≡ {name}File")]
+                     f"file_of (record {{ ufr = true; bonds = {bonds}; amounts = true }}) {name}_case ≡ {name}_file")]
 
 
 def case_statement(name):
     """That the file holds the case."""
-    return computed(f"{name}-case", f"case_of {name}File ≡ {name}Case")
+    return computed(f"{name}-case", f"case_of {name}_file ≡ {name}_case")
 
 
 def bent_statements():
@@ -409,21 +409,21 @@ def bent_statements():
     N, P = reference.points(case)
     sums = reference.sums(case.days)
     out = read_statements("bent", case, encode(case, True, False, True))
-    out.append("abbrev pub bentCurve : Curve\nbentCurve = curve bentCase base\n")
-    out.append(computed("bent-sums", *(f"s bentCase.days {t} ≡ {integer(sums[t])}" for t in (0, 1, 20, 21, 60))))
+    out.append("abbrev pub bent_curve : Curve\nbent_curve = curve bent_case base\n")
+    out.append(computed("bent-sums", *(f"s bent_case.days {t} ≡ {integer(sums[t])}" for t in (0, 1, 20, 21, 60))))
     for t in (21, 60):
         out.append(computed(f"bent-growth-{t}", *both_ends(
-            f"Rounded.growth bentCurve {{e}} {t}", ends(lambda end: reference.growth(N, P, t, end)))))
+            f"Rounded.growth bent_curve {{e}} {t}", ends(lambda end: reference.growth(N, P, t, end)))))
     for t in (21, 60, 61):
         out.append(computed(f"bent-weighed-{t}", *both_ends(
-            f"Rounded.weighed bentCurve {{e}} {t}", ends(lambda end: reference.weighed_growth(N, P, case.ufr, t, end)))))
+            f"Rounded.weighed bent_curve {{e}} {t}", ends(lambda end: reference.weighed_growth(N, P, case.ufr, t, end)))))
     for t in (1, 20, 21):
-        out.append(computed(f"bent-factor-{t}", *both_ends(f"Rounded.factor bentCurve {{e}} {t}", rounded.factors[t])))
-    out.append(computed("bent-entries-21", *both_ends("entry_of (factorEntries bentCase) {e} 21", rounded.factors[21])))
+        out.append(computed(f"bent-factor-{t}", *both_ends(f"Rounded.factor bent_curve {{e}} {t}", rounded.factors[t])))
+    out.append(computed("bent-entries-21", *both_ends("entry_of (factor_entries bent_case) {e} 21", rounded.factors[21])))
     for t in (1, 2):
-        out.append(computed_fraction(f"bent-exact-factor-{t}", f"Exact.factor bentCurve {t}", exact.factor(t)))
+        out.append(computed_fraction(f"bent-exact-factor-{t}", f"Exact.factor bent_curve {t}", exact.factor(t)))
     for t in (61, 120):
-        out.append(computed_fraction(f"bent-exact-growth-{t}", f"Exact.growth bentCurve {t}", exact.adjusted_growth(t)))
+        out.append(computed_fraction(f"bent-exact-growth-{t}", f"Exact.growth bent_curve {t}", exact.adjusted_growth(t)))
     return out
 
 
@@ -433,13 +433,13 @@ def fund_statements(name, case):
     out = read_statements(name, case, encode(case, True, True, True))
     for figure in MONEY:
         moved = " base" if figure in "LB" else ""
-        out.append(computed(f"{name}-{figure}", *both_ends(f"Rounded.{figure} {name}Case{moved} {{e}}", getattr(rounded, figure))))
+        out.append(computed(f"{name}-{figure}", *both_ends(f"Rounded.{figure} {name}_case{moved} {{e}}", getattr(rounded, figure))))
     for figure in MONEY[:8]:
         moved = " base" if figure in "LB" else ""
-        out.append(computed_fraction(f"{name}-exact-{figure}", f"Exact.{figure} {name}Case{moved}", getattr(exact, figure)))
-    out.append(computed_fraction(f"{name}-exact-S6²", f"Exact.S6² {name}Case", exact.S6_squared))
-    out.append(computed_fraction(f"{name}-exact-S²", f"Exact.S² {name}Case", exact.S_squared))
-    out.append(verdict_statement(name, name + "Case", case))
+        out.append(computed_fraction(f"{name}-exact-{figure}", f"Exact.{figure} {name}_case{moved}", getattr(exact, figure)))
+    out.append(computed_fraction(f"{name}-exact-S6²", f"Exact.S6² {name}_case", exact.S6_squared))
+    out.append(computed_fraction(f"{name}-exact-S²", f"Exact.S² {name}_case", exact.S_squared))
+    out.append(verdict_statement(name, name + "_case", case))
     return out
 
 
@@ -465,8 +465,8 @@ def bond_statements():
     bent, past = examples.bent(), examples.past_20()
     rounded, exact = Rounded(past), Exact(past)
     moves = reference.shifts(past)
-    out = [factor_statement("bent", "bentCurve", t, bent) for t in (1, 20, 21, 60)]
-    out += [exact_factor_statement("bent", "bentCurve", t, bent) for t in (1, 2, 21)]
+    out = [factor_statement("bent", "bent_curve", t, bent) for t in (1, 20, 21, 60)]
+    out += [exact_factor_statement("bent", "bent_curve", t, bent) for t in (1, 2, 21)]
     out.append(case_definition("past20", past, "C1 with shifts and one bond flow, at term 21. The base curve is C6's, the down curve C3's."))
     for move, shift in moves.items():
         on = f"(curve past20 {move})"
@@ -484,17 +484,17 @@ def deepest_statements():
     """The largest bond factor. The figures take longer: Files.antt of the crate `pinned`."""
     case = examples.deepest()
     out = read_statements("deepest", case, encode(case, True, True, True))
-    out += [factor_statement(f"deepest-{move}", f"(curve deepestCase {move})", 60, case, shift)
+    out += [factor_statement(f"deepest-{move}", f"(curve deepest_case {move})", 60, case, shift)
             for move, shift in reference.shifts(case).items()]
     rounded = Rounded(case)
-    return out + [computed("deepest-widths", f"WL deepestCase ≡ {rounded.WL}", f"WB deepestCase ≡ {rounded.WB}")]
+    return out + [computed("deepest-widths", f"WL deepest_case ≡ {rounded.WL}", f"WB deepest_case ≡ {rounded.WB}")]
 
 
 def width_statements():
     """WL, WB and the margins: of a fund with large flows past term 60, of one with none, of one whose Q needs no rounding."""
     named = [("long", examples.long(), TITLES["long"]),
-             ("noFlows", examples.no_flows(), "C1 with flows of 0 on both sides: Q is 0."),
-             ("wholeQuotient", examples.whole_quotient(), "C1 with a flow whose 4 × t × t × flow is 10^10: Q is 1, with nothing to round.")]
+             ("no_flows", examples.no_flows(), "C1 with flows of 0 on both sides: Q is 0."),
+             ("whole_quotient", examples.whole_quotient(), "C1 with a flow whose 4 × t × t × flow is 10^10: Q is 1, with nothing to round.")]
     out = []
     for name, case, comment in named:
         rounded = Rounded(case)
@@ -507,10 +507,10 @@ def demand_statements():
     """Demand 3's own numbers: the terms and steps it speaks of, and the widths that it allows."""
     rounded = Rounded(examples.long())
     terms, steps = len(rounded.factors) - 1, reference.TESTED_STEPS
-    return [computed("demand-ranges", f"lastTerm ≡ {terms}", f"leastStep ≡ {integer(steps[0])}", f"mostStep ≡ {integer(steps[-1])}"),
-            computed("demand-widths", *(f"factorWidthMost {t} ≡ {4 * t * t}" for t in (1, 60, 120)), "rateWidthMost ≡ 2"),
-            computed("long-money-widths", f"LWidthMost long ≡ {rounded.WL}", f"BWidthMost long ≡ {rounded.WB}",
-                     f"AWidthMost long ≡ {rounded.WB}", f"SWidthMost long ≡ {3 * rounded.WL + 2 * rounded.WB + 8}")]
+    return [computed("demand-ranges", f"last_term ≡ {terms}", f"least_step ≡ {integer(steps[0])}", f"most_step ≡ {integer(steps[-1])}"),
+            computed("demand-widths", *(f"factor_width_most {t} ≡ {4 * t * t}" for t in (1, 60, 120)), "rate_width_most ≡ 2"),
+            computed("long-money-widths", f"L_width_most long ≡ {rounded.WL}", f"B_width_most long ≡ {rounded.WB}",
+                     f"A_width_most long ≡ {rounded.WB}", f"S_width_most long ≡ {3 * rounded.WL + 2 * rounded.WB + 8}")]
 
 
 def shifted_statements():
@@ -538,7 +538,7 @@ def within_margins(A, L, S, WL, WB):
 def near_statement(name, kind, figures, fields, widths):
     """That figures are within the margin, or that they are not, as the reference says."""
     A, L, S, failing = figures
-    margin = {"NearFirst": "(firstMargin long)", "NearSecond": "(secondMargin long)"}[kind]
+    margin = {"NearFirst": "(first_margin long)", "NearSecond": "(second_margin long)"}[kind]
     root = f" (whole {S * S})" if kind == "NearSecond" else ""
     proposition = f"{kind} {margin} (whole {A}) (whole {L}){root}"
     assert within_margins(A, L, S, *widths) == (failing is None)
@@ -551,7 +551,7 @@ def margin_statements():
     widths = rounded.WL, rounded.WB
     first = 20 * rounded.WB + 21 * rounded.WL
     second = 4 * rounded.WL + 3 * rounded.WB + 8
-    out = [computed("long-margins", f"firstMargin long ≡ {first}", f"secondMargin long ≡ {second}")]
+    out = [computed("long-margins", f"first_margin long ≡ {first}", f"second_margin long ≡ {second}")]
     far = 10 ** 14  # an S with which the other border is far away
 
     def at_first(over):
@@ -582,10 +582,10 @@ def shortage_statements():
 
 def undecided_statements():
     """ONBESLIST on each side of each border."""
-    named = [("firstBelow", examples.first_border, reference.DEKKINGSTEKORT, "first border, which the exact figures do not reach"),
-             ("firstAbove", examples.first_border, reference.RESERVETEKORT, "first border, which the exact figures reach"),
-             ("secondBelow", examples.second_border, reference.RESERVETEKORT, "second border, which the exact figures do not reach"),
-             ("secondAbove", examples.second_border, reference.VRIJ_VERMOGEN, "second border, which the exact figures reach")]
+    named = [("first_below", examples.first_border, reference.DEKKINGSTEKORT, "first border, which the exact figures do not reach"),
+             ("first_above", examples.first_border, reference.RESERVETEKORT, "first border, which the exact figures reach"),
+             ("second_below", examples.second_border, reference.RESERVETEKORT, "second border, which the exact figures do not reach"),
+             ("second_above", examples.second_border, reference.VRIJ_VERMOGEN, "second border, which the exact figures reach")]
     out = []
     for name, border, exact, where in named:
         case = examples.undecided(border, exact)
@@ -616,16 +616,16 @@ def group_statement(name, what, rows, widths=(2,)):
     """The files of a group, and the list of their refusals."""
     files = listed([(row, argument(file_term(data, widths))) for row, data in rows])
     numbers = short_list([refusal(data) for _, data in rows])
-    return (definition(f"{name}Files", "List (List ℕ)", files, what)
-            + f"\n{computed(f'{name}-refusals', f'map refusal {name}Files ≡ {numbers}')}")
+    return (definition(f"{name}_files", "List (List ℕ)", files, what)
+            + f"\n{computed(f'{name}-refusals', f'map refusal {name}_files ≡ {numbers}')}")
 
 
 def part_statement(days, rate_bytes=2):
     """The rates' part of a file that has a UFR, by its content."""
     data = encode(examples.c1(ufr=4_321, days=days, amounts=dict.fromkeys(AMOUNTS, 0), rate_bytes=rate_bytes), True, False, False)
     offset, length = reference.rates_part(data)
-    return (definition("partFile", "List ℕ", file_term(data), "A file with a UFR, and the part of it that holds the rates.")
-            + f"\n{computed('rates-part', f'ratesPart partFile ≡ {file_term(data[offset:offset + length])}')}")
+    return (definition("part_file", "List ℕ", file_term(data), "A file with a UFR, and the part of it that holds the rates.")
+            + f"\n{computed('rates-part', f'rates_part part_file ≡ {file_term(data[offset:offset + length])}')}")
 
 
 def refused_quickly():
@@ -648,12 +648,12 @@ def makers():
     """The records of a case, each number by its name."""
     named = lambda names, letters="abcdefghijkl": list(zip(names, letters))
     people = record(named(PEOPLE, "efg"), "    ")
-    return [maker("amountsOf", ["ℕ"] * 8 + ["Amounts"], named(AMOUNTS), "eight amounts, in document 01's order"),
-            maker("shocksOf", ["ℕ"] * 12 + ["Shocks"], named(SHOCKS), "twelve shocks, likewise"),
+    return [maker("amounts_of", ["ℕ"] * 8 + ["Amounts"], named(AMOUNTS), "eight amounts, in document 01's order"),
+            maker("shocks_of", ["ℕ"] * 12 + ["Shocks"], named(SHOCKS), "twelve shocks, likewise"),
             maker("fields_of", ["ℕ", "ℕ", "Amounts", "Shocks", "ℕ", "ℕ", "ℕ", "CaseFields"],
                   [("rate_bytes", "a"), ("ufr", "b"), ("amounts", "c"), ("shocks", "d"), ("people", people)],
                   "the number of bytes of a rate, UFR, amounts, shocks, head count, pension age and mean age"),
-            definition("noAmounts", "Amounts", "amountsOf" + " 0" * 8), definition("noShocks", "Shocks", "shocksOf" + " 0" * 12)]
+            definition("no_amounts", "Amounts", "amounts_of" + " 0" * 8), definition("no_shocks", "Shocks", "shocks_of" + " 0" * 12)]
 
 
 def cases_definition(name, rows, what):
@@ -663,7 +663,7 @@ def cases_definition(name, rows, what):
 def case_group(name, what, rows):
     """The cases of a group, and the list of their refusals."""
     numbers = short_list([reference.case_refusal(given) for _, given in rows])
-    return [cases_definition(f"{name}Cases", rows, what), computed(f"case-{name}", f"map caseRefusal {name}Cases ≡ {numbers}")]
+    return [cases_definition(f"{name}_cases", rows, what), computed(f"case-{name}", f"map case_refusal {name}_cases ≡ {numbers}")]
 
 
 def case_groups():
@@ -676,21 +676,21 @@ def case_groups():
 def shortest_statements():
     rows = list(to_save.omission_rows())
     files = listed([(row, argument(file_term(reference.shortest(given)))) for row, given in rows])
-    return [cases_definition("shortCases", rows, "\"A UFR of 4,200, an all-zero amounts field and an empty bond list are left out.\""),
-            definition("shortFiles", "List (List ℕ)", files, "their bytes"),
-            computed("shortest-bytes", "map shortest shortCases ≡ shortFiles")]
+    return [cases_definition("short_cases", rows, "\"A UFR of 4,200, an all-zero amounts field and an empty bond list are left out.\""),
+            definition("short_files", "List (List ℕ)", files, "their bytes"),
+            computed("shortest-bytes", "map shortest short_cases ≡ short_files")]
 
 
 def after_equation(name, given, held):
     """What a buffer that held these bytes holds after the call."""
-    return f"savedAfter {name} {argument(file_term(held))} ≡ {file_term(reference.save(given, held).after)}"
+    return f"saved_after {name} {argument(file_term(held))} ≡ {file_term(reference.save(given, held).after)}"
 
 
 def answer_equation(name, given, room):
     """What a call with a buffer of this length answers."""
     saved = reference.save(given, bytes(room))
     answer = f"Err {saved.refusal}" if saved.refusal else f"Ok {saved.written}"
-    return f"saveAnswer {name} {room} ≡ {answer}"
+    return f"save_answer {name} {room} ≡ {answer}"
 
 
 def buffer_statements():
@@ -704,10 +704,10 @@ def buffer_statements():
     longer, shorter = pattern[:length + 2], pattern[:length - 1]
     return [definition("small", "FileCase", given_term(small), f"A case of {length} bytes."),
             definition("steep", "FileCase", given_term(steep), "A case that 6 refuses."),
-            computed("room-refusals", f"map (saveRefusal small) ({short_list(rooms)}) ≡ {short_list(refusals)}",
-                     f"saveRefusal steep 0 ≡ {reference.save(steep, b'').refusal}"),
+            computed("room-refusals", f"map (save_refusal small) ({short_list(rooms)}) ≡ {short_list(refusals)}",
+                     f"save_refusal steep 0 ≡ {reference.save(steep, b'').refusal}"),
             computed("save-answers", *(answer_equation("small", small, room) for room in rooms), answer_equation("steep", steep, length)),
-            computed("saved_after", after_equation("small", small, longer), after_equation("steep", steep, longer)),
+            computed("bytes_after", after_equation("small", small, longer), after_equation("steep", steep, longer)),
             computed("untouched-on-14", after_equation("small", small, shorter))]
 
 
@@ -750,7 +750,7 @@ def within(left):
 def search_definitions():
     fields = list(zip(StepsLeft._fields, "ab"))
     return [maker("between", ["ℕ", "ℕ", "StepsLeft"], fields, "the steps a to b, both included"),
-            definition("everyTest", "List ℕ", short_list(range(TESTS + 1))), MADE_UP]
+            definition("every_test", "List ℕ", short_list(range(TESTS + 1))), MADE_UP]
 
 
 def middle_statement():
@@ -776,17 +776,17 @@ def halved_statements():
     return [computed("halved-on-pass", *of_rows("passing", lambda step: True)),
             computed("halved-on-fail", *of_rows("failing", lambda step: False)),
             computed("halved-by-the-middle", *(equation for left, passing in parting for equation in halved_equations(
-                f"(isLeft {interval_argument(passing)})", within(passing), left)))]
+                f"(is_left {interval_argument(passing)})", within(passing), left)))]
 
 
 def after_each(term, left):
     """What is left after each test; term takes their number."""
-    return f"map ({term}) everyTest ≡ {short_list(map(interval, left))}"
+    return f"map ({term}) every_test ≡ {short_list(map(interval, left))}"
 
 
 def after_statement(name, *tests):
     """tests: for the lower and the upper rate the term of a test, and the test."""
-    return computed(name, *(after_each(f"afterTests {word} {test}", reference.halvings(passes, end))
+    return computed(name, *(after_each(f"after_tests {word} {test}", reference.halvings(passes, end))
                             for (end, word), (test, passes) in zip(ENDS, tests, strict=True)))
 
 
@@ -795,7 +795,7 @@ def after_statements():
     parts = StepsLeft(0, 6_200), StepsLeft(6_200, ALL_STEPS.last)
     return [after_statement("after-passes", *[("passing", lambda step: True)] * 2),
             after_statement("after-fails", *[("failing", lambda step: False)] * 2),
-            after_statement("after-tests", *((f"(isLeft {interval_argument(part)})", within(part)) for part in parts))]
+            after_statement("after-tests", *((f"(is_left {interval_argument(part)})", within(part)) for part in parts))]
 
 
 def factor_argument(factor, t):
@@ -805,13 +805,13 @@ def factor_argument(factor, t):
 
 def steps_left_statement(name, factor, t):
     """Both searches of a term."""
-    return computed(name, *(after_each(f"stepsLeft {factor_argument(factor, t)} {word} {t}",
+    return computed(name, *(after_each(f"steps_left {factor_argument(factor, t)} {word} {t}",
                                        reference.steps_left(factor, t, end)) for end, word in ENDS))
 
 
 def long_term_statement(name, factor, t):
     """After some of the tests only, since each of them takes t divisions."""
-    return computed(name, *(f"stepsLeft {factor_argument(factor, t)} {word} {t} {tests} ≡ "
+    return computed(name, *(f"steps_left {factor_argument(factor, t)} {word} {t} {tests} ≡ "
                             f"{interval(reference.steps_left(factor, t, end)[tests])}"
                             for end, word in ENDS for tests in (1, 8, TESTS)))
 
@@ -830,11 +830,11 @@ def steps_left_statements():
 
 def is_left_equation(left, *steps):
     told = short_list("true" if within(left)(step) else "false" for step in steps)
-    return f"map (isLeft {interval_argument(left)}) ({short_list(steps)}) ≡ {told}"
+    return f"map (is_left {interval_argument(left)}) ({short_list(steps)}) ≡ {told}"
 
 
 def how_many_equation(left, n):
-    return f"howMany (isLeft {interval_argument(left)}) {n} ≡ {sum(map(within(left), range(n)))}"
+    return f"how_many (is_left {interval_argument(left)}) {n} ≡ {sum(map(within(left), range(n)))}"
 
 
 def counted_statements():
@@ -845,7 +845,7 @@ def counted_statements():
                      is_left_equation(StepsLeft(0, 1), 0, 1, 2), is_left_equation(StepsLeft(6, 6), 5, 6, 7),
                      is_left_equation(ALL_STEPS, 0, 11_000, 22_000, 22_001)),
             computed("how-many", *(how_many_equation(StepsLeft(*left), n) for left, n in counted)),
-            computed("most-left", f"map mostLeft everyTest ≡ {short_list(map(reference.most_left, range(TESTS + 1)))}")]
+            computed("most-left", f"map most_left every_test ≡ {short_list(map(reference.most_left, range(TESTS + 1)))}")]
 
 
 def search_cases():
@@ -864,21 +864,21 @@ def day_argument(day):
 
 def window_argument(window):
     """By its name, if it has one."""
-    names = [name for name, one in windows.WINDOWS.items() if one == window] + ["emptyWindow"] * (window == rolling.EMPTY)
+    names = [name for name, one in windows.WINDOWS.items() if one == window] + ["empty_window"] * (window == rolling.EMPTY)
     return names[0] if names else argument(window_term(window, DAY_NAMES))
 
 
 def case_argument(given):
     """By its name, if it has one."""
-    names = [name for name, one in (("small", to_save.SMALL), ("smallFour", to_save.SMALL_FOUR)) if one == given]
+    names = [name for name, one in (("small", to_save.SMALL), ("small_four", to_save.SMALL_FOUR)) if one == given]
     return names[0] if names else argument(given_term(given))
 
 
 def window_definitions():
     """The structs of a window and of a change, and the days and windows that have a name."""
-    return [maker("windowOf", ["ℕ", "ℕ", "List ℤ", "List ℤ", "RollingWindow"], list(zip(rolling.Window._fields, "abcd")),
+    return [maker("window_of", ["ℕ", "ℕ", "List ℤ", "List ℤ", "RollingWindow"], list(zip(rolling.Window._fields, "abcd")),
                   "count, start, rates and sums"),
-            maker("changedTo", ["ℕ", "RollingWindow", "ChangedWindow"], list(zip(rolling.Changed._fields, "ab")),
+            maker("changed_to", ["ℕ", "RollingWindow", "ChangedWindow"], list(zip(rolling.Changed._fields, "ab")),
                   "the refusal, or 0, and the window"),
             *(definition(name, "List ℤ", list_term(day, integer)) for name, day in windows.DAYS.items()),
             *(definition(name, "RollingWindow", window_term(window, DAY_NAMES)) for name, window in windows.WINDOWS.items())]
@@ -889,31 +889,31 @@ def right_statements():
     rows = list(windows.right_rows())
     told = short_list("false" if rolling.damaged(window) else "true" for _, window in rows)
     held = short_list(map(day_argument, rolling.days_held(windows.OVER_THE_END)))
-    return [computed("empty-window", f"emptyWindow ≡ {window_term(rolling.EMPTY, DAY_NAMES)}"),
+    return [computed("empty-window", f"empty_window ≡ {window_term(rolling.EMPTY, DAY_NAMES)}"),
             definition("windows", "List RollingWindow", listed([(what, window_argument(window)) for what, window in rows]),
                        "At the limits of 27, on both sides; past a limit nothing else is wrong."),
-            computed("windows-right", f"map windowRight windows ≡ {told}"),
-            computed("days-held", f"daysHeld overTheEnd ≡ {held}")]
+            computed("windows-right", f"map rolling_right windows ≡ {told}"),
+            computed("days-held", f"days_held over_the_end ≡ {held}")]
 
 
 def number_table(name, rows, what):
     """Refusals that are computed; rows is a list of (what, term, number)."""
     terms = listed([(row, term) for row, term, _ in rows])
-    return [definition(f"{name}Refusals", "List ℕ", terms, what),
-            computed(f"{name}-refusals", f"{name}Refusals ≡ {short_list(number for *_, number in rows)}")]
+    return [definition(f"{name}_refusals", "List ℕ", terms, what),
+            computed(f"{name}-refusals", f"{name}_refusals ≡ {short_list(number for *_, number in rows)}")]
 
 
 def add_row(what, window, day):
-    return what, f"addRefusal {window_argument(window)} {day_argument(day)}", rolling.add(window, day).refusal
+    return what, f"add_refusal {window_argument(window)} {day_argument(day)}", rolling.add(window, day).refusal
 
 
 def drop_row(what, window):
-    return what, f"dropRefusal {window_argument(window)}", rolling.drop(window).refusal
+    return what, f"drop_refusal {window_argument(window)}", rolling.drop(window).refusal
 
 
 def value_row(what, call):
     refused = rolling.value(call.window, call.given, *([0] * length for length in call.lengths)).refusal
-    return what, f"windowRefusal {window_argument(call.window)} {case_argument(call.given)} {call.lengths[0]} {call.lengths[1]}", refused
+    return what, f"rolling_refusal {window_argument(call.window)} {case_argument(call.given)} {call.lengths[0]} {call.lengths[1]}", refused
 
 
 def full_statement(name, row):
@@ -925,10 +925,10 @@ def full_statement(name, row):
 def changed_statement(name, window, day):
     """The window after a change; a drop where the day is None."""
     if day is None:
-        call, changed = f"dropDay {window_argument(window)}", rolling.drop(window)
+        call, changed = f"drop_day {window_argument(window)}", rolling.drop(window)
     else:
-        call, changed = f"addDay {window_argument(window)} {day_argument(day)}", rolling.add(window, day)
-    return computed(name, f"{call} ≡ changedTo {changed.refusal} {window_argument(changed.window)}")
+        call, changed = f"add_day {window_argument(window)} {day_argument(day)}", rolling.add(window, day)
+    return computed(name, f"{call} ≡ changed_to {changed.refusal} {window_argument(changed.window)}")
 
 
 def queued(days, changes):
@@ -943,8 +943,8 @@ def queued(days, changes):
 
 def queue_equation(before, changes, term):
     """term takes a list of days."""
-    changed = short_list("dropOldest" if day is None else f"add {day_argument(day)}" for day in changes)
-    return f"queuedBy {term(before)} ({changed}) ≡ {term(queued(before, changes))}"
+    changed = short_list("drop_oldest" if day is None else f"add {day_argument(day)}" for day in changes)
+    return f"queued_by {term(before)} ({changed}) ≡ {term(queued(before, changes))}"
 
 
 def queue_statement():
@@ -963,7 +963,7 @@ def into_buffers(*lengths):
     """A valuation into buffers of these lengths, all of whose entries are 7: its arguments, and both buffers afterwards."""
     held = [[7] * length for length in lengths]
     valued = rolling.value(windows.FLAT, to_save.SMALL, *held)
-    return f"flatDays small {argument(list_term(held[0]))} {argument(list_term(held[1], integer))}", valued.factors, valued.rates
+    return f"flat_days small {argument(list_term(held[0]))} {argument(list_term(held[1], integer))}", valued.factors, valued.rates
 
 
 def value_statements():
@@ -973,19 +973,19 @@ def value_statements():
     long, factors, rates = into_buffers(242, 241)
     short_rates, same_factors, _ = into_buffers(240, 239)
     short_factors, _, same_rates = into_buffers(239, 240)
-    return [definition("flatListing", "List String", strings(lines)),
-            computed("flat-listing", "listing (windowValuation flatDays small 240 240) ≡ text flatListing"),
-            computed("window-factors", f"take 2 (windowFactorsAfter {long}) ≡ {list_term(factors[:2])}"),
-            computed("window-kept", f"drop 240 (windowFactorsAfter {long}) ≡ {list_term(factors[240:])}",
-                     f"drop 240 (windowRatesAfter {long}) ≡ {list_term(rates[240:], integer)}"),
-            computed("window-untouched", f"windowFactorsAfter {short_rates} ≡ {list_term(same_factors)}",
-                     f"windowRatesAfter {short_factors} ≡ {list_term(same_rates, integer)}")]
+    return [definition("flat_listing", "List String", strings(lines)),
+            computed("flat-listing", "listing (rolling_valuation flat_days small 240 240) ≡ text flat_listing"),
+            computed("window-factors", f"take 2 (rolling_factors_after {long}) ≡ {list_term(factors[:2])}"),
+            computed("window-kept", f"drop 240 (rolling_factors_after {long}) ≡ {list_term(factors[240:])}",
+                     f"drop 240 (rolling_rates_after {long}) ≡ {list_term(rates[240:], integer)}"),
+            computed("window-untouched", f"rolling_factors_after {short_rates} ≡ {list_term(same_factors)}",
+                     f"rolling_rates_after {short_factors} ≡ {list_term(same_rates, integer)}")]
 
 
 FULL_WINDOW = """\
 -- 15 before 5, of every window of 70 days that is right
-full-window : (w : RollingWindow) → windowRight w ≡ true → ltb w.count 70 ≡ false → addRefusal w highDay ≡ 15
-unfolding addRefusal first_of
+full-window : (w : RollingWindow) → rolling_right w ≡ true → ltb w.count 70 ≡ false → add_refusal w high_day ≡ 15
+unfolding add_refusal first_of
 full-window w right full = simp (right, full)
 """
 
@@ -1016,15 +1016,15 @@ def rolling_refused():
 # ---------------------------------------------------------------- crates/monthsmodel/proofs/MonthsCases.antt
 
 HISTORIES = {  # by name: what it is, and its bytes
-    "foundHistory": ("a UFR of 3,100 is found", histories.FOUND),
-    "noUfrHistory": ("no UFR is found, by 19", histories.NO_UFR),
-    "ringHistory": ("months of which the ring shows where it is read from", histories.RING),
+    "found_history": ("a UFR of 3,100 is found", histories.FOUND),
+    "no_ufr_history": ("no UFR is found, by 19", histories.NO_UFR),
+    "ring_history": ("months of which the ring shows where it is read from", histories.RING),
 }
 NAMED = months.with_ufr_field(histories.PLAIN, months.rounded_ufr(histories.FOUND))
 MONTHS_FILES = {
-    "plainFile": ("a file without a UFR, with one pension flow, at term 21", histories.PLAIN),
-    "ownUfrFile": ("the same with a UFR of 1,000", histories.OWN_UFR),
-    "namedFile": ("the same with a UFR of 3,100", NAMED),
+    "plain_file": ("a file without a UFR, with one pension flow, at term 21", histories.PLAIN),
+    "own_ufr_file": ("the same with a UFR of 1,000", histories.OWN_UFR),
+    "named_file": ("the same with a UFR of 3,100", NAMED),
 }
 
 
@@ -1044,18 +1044,18 @@ def integers(numbers):
 
 def ring_statements():
     """The months of a history, by several kinds of bytes."""
-    return [definition("ringMonths", "List ℤ", integers(months.months_of(histories.RING))),
-            computed("ring-months", "monthsOf ringHistory ≡ ringMonths")]
+    return [definition("ring_months", "List ℤ", integers(months.months_of(histories.RING))),
+            computed("ring-months", "months_of ring_history ≡ ring_months")]
 
 
 def rounding_statements():
     """Hundreds of steps on both sides of each half, how far the mean lies from some, and the UFR of histories."""
     rounded = [months.rounded_mean(total) // 100 for total in histories.SUMS]
-    told = [f"roundedUfr {bytes_argument(history)} ≡ {integer(months.rounded_ufr(history))}"
+    told = [f"rounded_ufr {bytes_argument(history)} ≡ {integer(months.rounded_ufr(history))}"
             for history in (histories.FOUND, histories.NO_UFR, histories.RING)]
-    return [definition("sumsOfMonths", "List ℤ", long_list(map(integer, histories.SUMS), 6, "    "),
+    return [definition("sums_of_months", "List ℤ", long_list(map(integer, histories.SUMS), 6, "    "),
                        "Both sides of halves below 0, around 0 and above, of the least and of the largest UFR, and the ends."),
-            computed("rounded-hundreds", f"map hundreds sumsOfMonths ≡ {short_list(map(integer, rounded))}"),
+            computed("rounded-hundreds", f"map hundreds sums_of_months ≡ {short_list(map(integer, rounded))}"),
             computed("distances", *map(apart_equation, (6_000, 6_000, -6_001), (0, 1, -1))),
             computed("rounded-ufrs", *told)]
 
@@ -1067,21 +1067,21 @@ def apart_equation(total, hundreds):
 
 
 def ufr_row(what, history, start):
-    return what, f"ufrRefusal {bytes_argument(history)} {start}", months.ufr_of(history, start).refusal
+    return what, f"ufr_refusal {bytes_argument(history)} {start}", months.ufr_of(history, start).refusal
 
 
 def field_equation(file, ufr):
-    return f"withUfrField {ufr} {bytes_argument(file)} ≡ {bytes_argument(months.with_ufr_field(file, ufr))}"
+    return f"with_ufr_field {ufr} {bytes_argument(file)} ≡ {bytes_argument(months.with_ufr_field(file, ufr))}"
 
 
 def case_equation(file):
     """The UFR that a file is valued with, its own or none."""
-    return f"(monthsCase {bytes_argument(file)} foundHistory).ufr ≡ {months.rounded_ufr(histories.FOUND)}"
+    return f"(months_case {bytes_argument(file)} found_history).ufr ≡ {months.rounded_ufr(histories.FOUND)}"
 
 
 def months_row(what, call):
     arguments = f"{bytes_argument(call.file)} {bytes_argument(call.history)} {call.start} {call.lengths[0]} {call.lengths[1]}"
-    return what, f"monthsRefusal {arguments}", months.refusal(call.file, call.history, call.start, *call.lengths)
+    return what, f"months_refusal {arguments}", months.refusal(call.file, call.history, call.start, *call.lengths)
 
 
 def months_cases():
@@ -1099,20 +1099,20 @@ def months_cases():
 def month_statements():
     """Two's complement, the high byte first; the ring from several places; the sum from the first byte on, and from the oldest month."""
     ring = months.months_of(histories.RING)
-    turned = lambda start: f"oldestFirst {start} ringMonths"
-    from_start = lambda start: "ringMonths" if start == 0 else integers(months.oldest_first(start, ring))
-    return [definition("oddHistory", "List ℕ", file_term(histories.ODD_BYTES), "months at the ends of two bytes, and a step past each limit"),
-            computed("odd-months", f"monthsOf oddHistory ≡ {integers(months.months_of(histories.ODD_BYTES))}"),
+    turned = lambda start: f"oldest_first {start} ring_months"
+    from_start = lambda start: "ring_months" if start == 0 else integers(months.oldest_first(start, ring))
+    return [definition("odd_history", "List ℕ", file_term(histories.ODD_BYTES), "months at the ends of two bytes, and a step past each limit"),
+            computed("odd-months", f"months_of odd_history ≡ {integers(months.months_of(histories.ODD_BYTES))}"),
             computed("oldest-first", *(f"{turned(start)} ≡ {from_start(start)}" for start in (0, 1, 118))),
-            computed("sums-of-months", f"total ringMonths ≡ {integer(months.sum_from_first_byte(histories.RING))}",
+            computed("sums-of-months", f"total ring_months ≡ {integer(months.sum_from_first_byte(histories.RING))}",
                      f"total ({turned(118)}) ≡ {integer(months.sum_from_oldest(histories.RING, 118))}",
-                     f"total (monthsOf noUfrHistory) ≡ {integer(months.sum_from_first_byte(histories.NO_UFR))}")]
+                     f"total (months_of no_ufr_history) ≡ {integer(months.sum_from_first_byte(histories.NO_UFR))}")]
 
 
 def ufr_equation(history, start):
     found = months.ufr_of(history, start)
     answer = f"Err {found.refusal}" if found.refusal else f"Ok {found.ufr}"
-    return f"ufrAnswer {bytes_argument(history)} {start} ≡ {answer}"
+    return f"ufr_answer {bytes_argument(history)} {start} ≡ {answer}"
 
 
 def ufr_statements():
@@ -1132,7 +1132,7 @@ def with_months(call):
 def untouched_statement(name, call):
     """What a refused call leaves in both buffers."""
     into, factors, rates = with_months(call)
-    return computed(name, f"monthsFactorsAfter {into} ≡ {list_term(factors)}", f"monthsRatesAfter {into} ≡ {integers(rates)}")
+    return computed(name, f"months_factors_after {into} ≡ {list_term(factors)}", f"months_rates_after {into} ≡ {integers(rates)}")
 
 
 def with_found(file, start):
@@ -1143,25 +1143,25 @@ def with_found(file, start):
 def months_listing(name, file):
     """What is printed of a valuation with the UFR found."""
     named = months.with_ufr_field(file, months.ufr_of(histories.FOUND, 119).ufr)
-    return [definition(f"{name}Listing", "List String", strings(reference.listing(named).decode().splitlines())),
-            computed(f"{name}-listing", f"listing (monthsValuation {name}File foundHistory 119 240 240) ≡ text {name}Listing")]
+    return [definition(f"{name}_listing", "List String", strings(reference.listing(named).decode().splitlines())),
+            computed(f"{name}-listing", f"listing (months_valuation {name}_file found_history 119 240 240) ≡ text {name}_listing")]
 
 
 def factor_21(name, file, start):
     """The first factor that has the UFR in it."""
     into, factors, _ = with_months(with_found(file, start))
-    return computed(f"{name}-factor-21", *both_ends(f"entry_of (monthsFactorsAfter {into}) {{e}} 21", factors[40:42]))
+    return computed(f"{name}-factor-21", *both_ends(f"entry_of (months_factors_after {into}) {{e}} 21", factors[40:42]))
 
 
 def months_buffers():
     """First entries, the upper zero rate of term 21, which is quicker to compute than the lower one, and later entries."""
     into, factors, rates = with_months(with_found(histories.PLAIN, 119))
-    return [factor_21("plain", histories.PLAIN, 119), factor_21("ownUfr", histories.OWN_UFR, 0),
-            computed("months-factors", f"take 2 (monthsFactorsAfter {into}) ≡ {list_term(factors[:2])}"),
-            computed("months-rates", f"take 2 (monthsRatesAfter {into}) ≡ {integers(rates[:2])}"),
-            computed("months-rate-21", f"rateEntryOf (monthsRatesAfter {into}) high 21 ≡ {integer(rates[41])}"),
-            computed("months-kept", f"drop 240 (monthsFactorsAfter {into}) ≡ {list_term(factors[240:])}",
-                     f"drop 240 (monthsRatesAfter {into}) ≡ {integers(rates[240:])}")]
+    return [factor_21("plain", histories.PLAIN, 119), factor_21("own_ufr", histories.OWN_UFR, 0),
+            computed("months-factors", f"take 2 (months_factors_after {into}) ≡ {list_term(factors[:2])}"),
+            computed("months-rates", f"take 2 (months_rates_after {into}) ≡ {integers(rates[:2])}"),
+            computed("months-rate-21", f"rate_entry_of (months_rates_after {into}) high 21 ≡ {integer(rates[41])}"),
+            computed("months-kept", f"drop 240 (months_factors_after {into}) ≡ {list_term(factors[240:])}",
+                     f"drop 240 (months_rates_after {into}) ≡ {integers(rates[240:])}")]
 
 
 def months_refused():
@@ -1169,7 +1169,7 @@ def months_refused():
     return "\n".join([MONTHS_TABLE_HEAD, *month_statements(), *ufr_statements(),
                       *number_table("months-order", [months_row(*row) for row in rows.items()],
                                     "The order of checks from the end of the file on."),
-                      *months_listing("plain", histories.PLAIN), *months_listing("ownUfr", histories.OWN_UFR), *months_buffers(),
+                      *months_listing("plain", histories.PLAIN), *months_listing("own_ufr", histories.OWN_UFR), *months_buffers(),
                       untouched_statement("untouched-on-1", dict(histories.quick_value_rows())["1 before 17"]),
                       untouched_statement("untouched-on-19", rows["19, from another start"]),
                       *number_table("four-months", [months_row(*row) for row in histories.four_value_rows()],
@@ -1198,14 +1198,14 @@ def finer_statements():
     data = encode(case, True, True, True)
     offset, length = reference.rates_part(data)
     out = read_statements("finer", case, data) + [case_statement("finer")]
-    out.append(computed("finer-part", f"daysAt finerFile ≡ {offset - 1}", f"dayCount finerFile ≡ {len(case.days)}",
-                        f"ratesPart finerFile ≡ {file_term(data[offset:offset + length])}"))
+    out.append(computed("finer-part", f"days_at finer_file ≡ {offset - 1}", f"day_count finer_file ≡ {len(case.days)}",
+                        f"rates_part finer_file ≡ {file_term(data[offset:offset + length])}"))
     return out
 
 
 def finer_working():
     case = examples.finer()
-    return four_curves("finer", "finerCase", case) + finer_figures(case) + two_day_statements(case)
+    return four_curves("finer", "finer_case", case) + finer_figures(case) + two_day_statements(case)
 
 
 def four_curves(name, term, case):
@@ -1222,14 +1222,14 @@ def finer_figures(case):
     figure = lambda which, of, worked: both_ends(f"Rounded.{which} {of}{' base' if which in 'LB' else ''} {{e}}", getattr(worked, which))
     assert all(getattr(rounded, name) != getattr(other, name) for name in ("L", "B", "S1", "S")) and rounded.factors[21] != other.factors[21]
     days = short_list(map(lambda day: argument(list_term(day, integer)), examples.rounded_off(case).days))
-    out = [computed(f"finer-{name}", *figure(name, "finerCase", rounded)) for name in ("L", "B", "S1", "S")]
-    out += [computed(f"finer-factor-{t}", *both_ends(f"Rounded.factor (curve finerCase base) {{e}} {t}", rounded.factors[t])) for t in (1, 21)]
-    out.append(computed_fraction("finer-exact-factor-1", "Exact.factor (curve finerCase base) 1", exact.base.factor(1)))
-    out += [computed_fraction(f"finer-exact-{name}", f"Exact.{name} finerCase base", getattr(exact, name)) for name in "LB"]
-    out.append(verdict_statement("finer", "finerCase", case))
-    out.append(definition("roundedOff", "FileCase", f"withDays 2 ({days}) finerCase", "The same fund with its rates rounded to steps: other figures."))
-    out += [computed(f"roundedOff-{name}", *figure(name, "roundedOff", other)) for name in ("L", "S1")]
-    return out + [computed("roundedOff-factor-21", *both_ends("Rounded.factor (curve roundedOff base) {e} 21", other.factors[21]))]
+    out = [computed(f"finer-{name}", *figure(name, "finer_case", rounded)) for name in ("L", "B", "S1", "S")]
+    out += [computed(f"finer-factor-{t}", *both_ends(f"Rounded.factor (curve finer_case base) {{e}} {t}", rounded.factors[t])) for t in (1, 21)]
+    out.append(computed_fraction("finer-exact-factor-1", "Exact.factor (curve finer_case base) 1", exact.base.factor(1)))
+    out += [computed_fraction(f"finer-exact-{name}", f"Exact.{name} finer_case base", getattr(exact, name)) for name in "LB"]
+    out.append(verdict_statement("finer", "finer_case", case))
+    out.append(definition("rounded_off", "FileCase", f"with_days 2 ({days}) finer_case", "The same fund with its rates rounded to steps: other figures."))
+    out += [computed(f"rounded_off-{name}", *figure(name, "rounded_off", other)) for name in ("L", "S1")]
+    return out + [computed("rounded_off-factor-21", *both_ends("Rounded.factor (curve rounded_off base) {e} 21", other.factors[21]))]
 
 
 def two_day_statements(case):
@@ -1238,11 +1238,11 @@ def two_day_statements(case):
     two = replace(case, days=days)
     steep = limits.steep_days(1, 2, 1_200_001)
     term = lambda made: short_list(argument(list_term(day, integer)) for day in made)
-    told = lambda made, per_step: f"forwardsRight {per_step} ({term(made)}) ≡ {'true' if per_step_right(made, per_step) else 'false'}"
-    return [definition("twoDays", "FileCase", f"withDays 4 ({term(days)}) finerCase", "The same fund with a second day, a unit at every term."),
-            computed("per-step", f"perStep finerCase ≡ {case.per_step}", f"perStep twoDays ≡ {two.per_step}",
-                     f"perStep roundedOff ≡ {examples.rounded_off(case).per_step}"),
-            computed("forwards-per-step", told(steep, 100), told(steep, 101)), *four_curves("two-days", "twoDays", two)]
+    told = lambda made, per_step: f"forwards_right {per_step} ({term(made)}) ≡ {'true' if per_step_right(made, per_step) else 'false'}"
+    return [definition("two_days", "FileCase", f"with_days 4 ({term(days)}) finer_case", "The same fund with a second day, a unit at every term."),
+            computed("per-step", f"per_step finer_case ≡ {case.per_step}", f"per_step two_days ≡ {two.per_step}",
+                     f"per_step rounded_off ≡ {examples.rounded_off(case).per_step}"),
+            computed("forwards-per-step", told(steep, 100), told(steep, 101)), *four_curves("two-days", "two_days", two)]
 
 
 def per_step_right(days, per_step):
@@ -1270,33 +1270,33 @@ def four_saved_statements():
     length = len(reference.shortest(small))
     rooms = range(length - 1, length + 1)
     pattern = (b"\xaa\x55" * length)[:length + 2]
-    refused = lambda name, given: f"saveRefusal {name} 0 ≡ {reference.save(given, b'').refusal}"
-    return [cases_definition("fourShortCases", rows, "The shortest form keeps the days field."),
-            computed("four-shortest", f"map shortest fourShortCases ≡ {short_list(argument(four_term(reference.shortest(given))) for _, given in rows)}"),
-            definition("smallFour", "FileCase", given_term(small), f"A case of {length} bytes."),
-            definition("fourSteep", "FileCase", given_term(steep), "A case that 6 refuses."),
-            definition("threeBytes", "FileCase", given_term(three), "A case that 3 refuses."),
-            computed("four-saved", "shortest finerCase ≡ finerFile"),
-            computed("four-rooms", *(f"saveRefusal smallFour {room} ≡ {reference.save(small, bytes(room)).refusal}" for room in rooms),
-                     refused("fourSteep", steep), refused("threeBytes", three)),
-            computed("four-answers", *(answer_equation("smallFour", small, room) for room in rooms), answer_equation("threeBytes", three, length)),
-            computed("four-saved-after", after_equation("smallFour", small, pattern), after_equation("threeBytes", three, pattern))]
+    refused = lambda name, given: f"save_refusal {name} 0 ≡ {reference.save(given, b'').refusal}"
+    return [cases_definition("four_short_cases", rows, "The shortest form keeps the days field."),
+            computed("four-shortest", f"map shortest four_short_cases ≡ {short_list(argument(four_term(reference.shortest(given))) for _, given in rows)}"),
+            definition("small_four", "FileCase", given_term(small), f"A case of {length} bytes."),
+            definition("four_steep", "FileCase", given_term(steep), "A case that 6 refuses."),
+            definition("three_bytes", "FileCase", given_term(three), "A case that 3 refuses."),
+            computed("four-saved", "shortest finer_case ≡ finer_file"),
+            computed("four-rooms", *(f"save_refusal small_four {room} ≡ {reference.save(small, bytes(room)).refusal}" for room in rooms),
+                     refused("four_steep", steep), refused("three_bytes", three)),
+            computed("four-answers", *(answer_equation("small_four", small, room) for room in rooms), answer_equation("three_bytes", three, length)),
+            computed("four-saved-after", after_equation("small_four", small, pattern), after_equation("three_bytes", three, pattern))]
 
 
 def rewriting_statements():
     """A case and its rewriting have different bytes, which are the file and the rewritten file."""
     old = examples.before_rewriting()
     new, old_file = files.rewritten_case(old), encode(old, True, True, True)
-    return [case_definition("oldCase", old, "A case with two-byte days, and the same rewritten."), case_definition("newCase", new, "its rewriting"),
-            definition("oldFile", "List ℕ", file_term(old_file), "their files"), definition("newFile", "List ℕ", file_term(files.rewritten(old_file)))]
+    return [case_definition("old_case", old, "A case with two-byte days, and the same rewritten."), case_definition("new_case", new, "its rewriting"),
+            definition("old_file", "List ℕ", file_term(old_file), "their files"), definition("new_file", "List ℕ", file_term(files.rewritten(old_file)))]
 
 
 def four_window_statements():
     """The listing and the first factor of the fund with the window's days, which are two-byte days."""
     lines, into, factors, _ = finer_in_window()
-    return [definition("inWindowListing", "List String", strings(lines), "The fund with the days of a window."),
-            computed("in-window-listing", "listing (windowValuation flatDays finerCase 240 240) ≡ text inWindowListing"),
-            computed("in-window-factors", f"take 2 (windowFactorsAfter {into}) ≡ {list_term(factors[:2])}")]
+    return [definition("in_window_listing", "List String", strings(lines), "The fund with the days of a window."),
+            computed("in-window-listing", "listing (rolling_valuation flat_days finer_case 240 240) ≡ text in_window_listing"),
+            computed("in-window-factors", f"take 2 (rolling_factors_after {into}) ≡ {list_term(factors[:2])}")]
 
 
 def finer_in_window():
@@ -1305,23 +1305,23 @@ def finer_in_window():
     case = rolling.case_with(given, rolling.days_held(windows.FLAT))
     lines = reference.listing(encode(case, *reference.needed_fields(case))).decode().splitlines()
     valued = rolling.value(windows.FLAT, given, [7] * 240, [7] * 240)
-    return lines, f"flatDays finerCase {argument(list_term([7] * 240))} {argument(integers([7] * 240))}", valued.factors, valued.rates
+    return lines, f"flat_days finer_case {argument(list_term([7] * 240))} {argument(integers([7] * 240))}", valued.factors, valued.rates
 
 
 def in_window_rates():
     """The zero rates of term 1, in steps."""
     _, into, _, rates = finer_in_window()
-    return computed("in-window-rates", f"take 2 (windowRatesAfter {into}) ≡ {integers(rates[:2])}")
+    return computed("in-window-rates", f"take 2 (rolling_rates_after {into}) ≡ {integers(rates[:2])}")
 
 
 def four_month_statements():
     """The UFR goes behind the map, of a file with a UFR and of one without."""
     ufr, own = months.rounded_ufr(histories.FOUND), encode(examples.finer(), True, True, True)
     plain = reference.shortest(to_save.SMALL_FOUR)
-    field = lambda name, data: f"withUfrField {ufr} {name} ≡ {four_term(months.with_ufr_field(data, ufr))}"
-    return [computed("four-ufr-fields", field("finerFile", own), field(argument(four_term(plain)), plain)),
-            computed("four-months-case", f"(monthsCase finerFile foundHistory).ufr ≡ {ufr}",
-                     f"(monthsCase finerFile foundHistory).rateBytes ≡ {examples.finer().rate_bytes}")]
+    field = lambda name, data: f"with_ufr_field {ufr} {name} ≡ {four_term(months.with_ufr_field(data, ufr))}"
+    return [computed("four-ufr-fields", field("finer_file", own), field(argument(four_term(plain)), plain)),
+            computed("four-months-case", f"(months_case finer_file found_history).ufr ≡ {ufr}",
+                     f"(months_case finer_file found_history).rate_bytes ≡ {examples.finer().rate_bytes}")]
 
 
 def four_byte_cases():
@@ -1330,13 +1330,13 @@ def four_byte_cases():
 
 
 def four_figures():
-    return "\n".join([FOUR_FIGURES_HEAD, *finer_working(), computed("rewritten-case", "rewritten oldCase ≡ newCase"),
-                      computed("rewritten-file", "rewrittenFile oldFile ≡ newFile")])
+    return "\n".join([FOUR_FIGURES_HEAD, *finer_working(), computed("rewritten-case", "rewritten old_case ≡ new_case"),
+                      computed("rewritten-file", "rewritten_file old_file ≡ new_file")])
 
 
 def four_saved():
     cases = [statement for name, what, rows in four_case_groups() for statement in case_group(name, what, list(rows))]
-    different = computed("different-bytes", "shortest oldCase ≡ oldFile", "shortest newCase ≡ newFile")
+    different = computed("different-bytes", "shortest old_case ≡ old_file", "shortest new_case ≡ new_file")
     return "\n".join([FOUR_SAVED_HEAD, *cases, *four_saved_statements(), different])
 
 
@@ -1354,7 +1354,7 @@ def plain_rewriting():
     """The rewritten file of one without optional fields: three days, and every rate limit in it."""
     case = replace(examples.before_rewriting(), ufr=reference.DEFAULT_UFR, bonds=[], amounts=dict.fromkeys(AMOUNTS, 0))
     plain = encode(replace(case, days=[*case.days, [-1_000] * 60, [10_000] * 60]), False, False, False)
-    return computed("plain-rewriting", f"rewrittenFile {argument(four_term(plain))} ≡ {four_term(files.rewritten(plain))}")
+    return computed("plain-rewriting", f"rewritten_file {argument(four_term(plain))} ≡ {four_term(files.rewritten(plain))}")
 
 
 def four_refused():
@@ -1368,7 +1368,7 @@ def four_refused():
                                   list(to_save.order_rows(to_save.SMALL_FOUR, to_save.FOUR_BYTE_FAULTS))),
                       *(statement for name, data in named.items() for statement in listing_statement(name, data)),
                       # zero rates count steps, of four-byte days too
-                      *(rate_statement("finer", "(curve finerCase base)", Rounded(examples.finer()), t) for t in (1, 2))])
+                      *(rate_statement("finer", "(curve finer_case base)", Rounded(examples.finer()), t) for t in (1, 2))])
 
 
 # ---------------------------------------------------------------- crates/accepted/proofs/Accepted.antt
@@ -1376,10 +1376,10 @@ def four_refused():
 def accepted():
     out = [ACCEPTED_HEAD]
     for name in ("bent", "up", "down", "deepest"):
-        out.append(computed(f"{name}-accepted", f"refusal {name}File ≡ 0"))
+        out.append(computed(f"{name}-accepted", f"refusal {name}_file ≡ 0"))
     out += [case_statement("bent"), case_statement("up"), case_statement("down"), case_statement("deepest")]
-    out.append(definition("longFile", "List ℕ", file_term(encode(examples.long(), True, True, True)), "the long fund as a file"))
-    out.append(computed("long-case", "case_of longFile ≡ long"))
+    out.append(definition("long_file", "List ℕ", file_term(encode(examples.long(), True, True, True)), "the long fund as a file"))
+    out.append(computed("long-case", "case_of long_file ≡ long"))
     return "\n".join(out)
 
 
@@ -1388,12 +1388,12 @@ def accepted():
 def rate_statement(name, on, rounded, t, of=("low", "high")):
     """The zero rate of a term, on the curve that is called so."""
     bracket = dict(zip(("low", "high"), rounded.zero_rates[t]))
-    return computed(f"{name}-zero-rate-{t}", *(f"Rounded.zeroRate {on} {end} {t} ≡ {integer(bracket[end])}" for end in of))
+    return computed(f"{name}-zero-rate-{t}", *(f"Rounded.zero_rate {on} {end} {t} ≡ {integer(bracket[end])}" for end in of))
 
 
 def listing_statement(name, data):
-    return [definition(f"{name}Listing", "List String", strings(reference.listing(data).decode().splitlines())),
-            computed(f"{name}-listing", f"listing (valuationOf 240 240 {name}File) ≡ text {name}Listing")]
+    return [definition(f"{name}_listing", "List String", strings(reference.listing(data).decode().splitlines())),
+            computed(f"{name}-listing", f"listing (valuation_of 240 240 {name}_file) ≡ text {name}_listing")]
 
 
 def shifted_figures():
@@ -1410,16 +1410,16 @@ def shifted_figures():
 def deepest_figures():
     """B on all three curves, and the exact bond factor of the down curve. An exact sum of 60 fractions takes too long to compute."""
     case = examples.deepest()
-    out = [exact_factor_statement("deepest-down", "(curve deepestCase down)", 60, case, reference.shifts(case)["down"])]
+    out = [exact_factor_statement("deepest-down", "(curve deepest_case down)", 60, case, reference.shifts(case)["down"])]
     for move, worth in Rounded(case).Bs.items():
-        out.append(computed(f"deepest-{move}-B", *both_ends(f"Rounded.B deepestCase {move} {{e}}", worth)))
+        out.append(computed(f"deepest-{move}-B", *both_ends(f"Rounded.B deepest_case {move} {{e}}", worth)))
     return out
 
 
 def window_rates():
     """The zero rate of term 1, after the valuation of a rolling window."""
     into, _, rates = into_buffers(240, 240)
-    return computed("window-rates", f"take 2 (windowRatesAfter {into}) ≡ {list_term(rates[:2], integer)}")
+    return computed("window-rates", f"take 2 (rolling_rates_after {into}) ≡ {list_term(rates[:2], integer)}")
 
 
 def pinned_files():
@@ -1428,8 +1428,8 @@ def pinned_files():
     for name, case in (("up", examples.up()), ("down", examples.down()), ("deepest", examples.deepest())):
         out += listing_statement(name, encode(case, True, True, True))
     for t in (40, 60, 61, 120):
-        out.append(computed(f"bent-factor-{t}", *both_ends(f"Rounded.factor bentCurve {{e}} {t}", bent.factors[t])))
-    out += [rate_statement("bent", "bentCurve", bent, t) for t in (1, 2, 3)] + [rate_statement("bent", "bentCurve", bent, 21, ("high",))]
+        out.append(computed(f"bent-factor-{t}", *both_ends(f"Rounded.factor bent_curve {{e}} {t}", bent.factors[t])))
+    out += [rate_statement("bent", "bent_curve", bent, t) for t in (1, 2, 3)] + [rate_statement("bent", "bent_curve", bent, 21, ("high",))]
     return "\n".join(out + shifted_figures() + deepest_figures())
 
 

@@ -58,11 +58,6 @@ def framed(files):
     return b"".join(len(data).to_bytes(4, "big") + data for data in files)
 
 
-def framed_months(file, history, start):
-    """The input of `monthsvaluation`: a file and a history, each behind its length, and the start index in eight bytes."""
-    return framed([file, history]) + start.to_bytes(8, "big")
-
-
 def unframed(text):
     """The files of such an input."""
     files, at = [], 0

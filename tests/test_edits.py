@@ -72,7 +72,7 @@ class Edits(unittest.TestCase):
     def test_functions_of_impls(self):
         source = "impl<const N: usize> Ring<N> {\n    fn new() {\n}\n}\nimpl From<Ring<u64>> for Pair {\n    fn from() {}\n}\n" \
             "impl<T: Field> Field for Option<T> {\n    fn check() {}\n}\nimpl<A: Field, B: Field> Field for (A, B) {\n    fn check() {}\n}\n" \
-            "impl Field for Days<'_> {\n    #[tactic(auto)]\n    fn check() {}\n}\npub extern \"C\" fn last() {\n}\n" \
+            "impl<'a> Field<'a> for Days<F> {\n    #[tactic(auto)]\n    fn check() {}\n}\npub extern \"C\" fn last() {\n}\n" \
             "impl Form for Two {\n    const WIDTH: usize = 2;\n}\n"
         self.assertIn("sums::CurveSums::factors", functions("curves"))
         self.assertEqual(list(functions_of(source, "a/b")), [
@@ -124,6 +124,13 @@ class Logs(unittest.TestCase):
         source = "fn first() {\n}\n\n#[tactic(auto, using(a::b))]\n#[inline]\npub fn second() {\n}\n\nimpl Held {\n    #[must_use]\n    fn third() {\n    }\n}\n"
         self.assertEqual([edit_logs.function_at(source, "m", line) for line in (1, 2, 4, 5, 6, 10, 11)],
                          ["m::first", "m::first", "m::second", "m::second", "m::second", "m::Held::third", "m::Held::third"])
+
+    def test_the_names_of_functions(self):
+        """As rt says them: a trait's with the type and the trait, and of the trait's arguments no lifetime."""
+        source = ("pub(crate) fn first() {\n}\n\nimpl<'a, F: Form> Field<'a> for Days<F> {\n    fn read() {\n    }\n}\n\n"
+                  "impl From<Result<u64, Refusal>> for HostUfr {\n    fn from() {\n    }\n}\n")
+        self.assertEqual([path for _, path in functions_of(source, "m")],
+                         ["m::first", "m::DaysField::read", "m::HostUfrFromResultU64Refusal::from"])
 
     def test_a_statement(self):
         self.assertEqual(self.silent("A slip. Refused by c5-factor and c6-factor."), ["c6-factor"])

@@ -77,8 +77,8 @@ def executable(path, text):
 
 
 def copy_written(root):
-    """What hosts/words writes of the engine, which hosts/build asks for."""
-    for name in ("crates/host/src/version.rt", "crates/flat/specs/Version.antt"):
+    """What hosts/words writes of the engine and of the program, which hosts/build asks for."""
+    for name in ("crates/host/src/version.rt", "crates/flat/specs/Version.antt", "crates/command/src/version.rt"):
         (root / name).parent.mkdir(parents=True, exist_ok=True)
         shutil.copy(ROOT / name, root / name)
 

@@ -118,6 +118,9 @@ class Version(unittest.TestCase):
         self.assertEqual(constants(definition, r"^  (\w+) = (\d+);$"), {name.lower(): number for name, number in numbers.items()})
         self.assertEqual(re.findall(r'^  kit = padded 32 \(codes "(.*)"\);$', definition, re.MULTILINE), [KIT])
 
+    def test_program(self):
+        self.assertEqual(re.findall(r'^pub const VERSION: &str = "(.*)";$', text("crates/command/src/version.rt"), re.MULTILINE), [VERSION])
+
     def test_kit(self):
         """What the header says, and the pages that name the kit."""
         self.assertEqual(re.findall(r'^#define GINGHAMOWL_KIT "(.*)"$', text("include/ginghamowl.h"), re.MULTILINE), [KIT])
@@ -157,7 +160,7 @@ class Version(unittest.TestCase):
 class Script(unittest.TestCase):
     FILES = ("VERSION", "hosts/words", "hosts/words.toml", "include/ginghamowl.h", "include/ginghamowl_words.h",
              "hosts/rust/Cargo.toml", "hosts/rust/Cargo.lock", "hosts/rust/src/words.rs", "hosts/python/ginghamowl/_words.py",
-             "crates/host/src/version.rt", "crates/flat/specs/Version.antt")
+             "crates/host/src/version.rt", "crates/flat/specs/Version.antt", "crates/command/src/version.rt")
     ENGINE = {"crates/host/src/version.rt", "crates/flat/specs/Version.antt"}
 
     def setUp(self):
@@ -178,7 +181,8 @@ class Script(unittest.TestCase):
 
     def test_another_version(self):
         (self.root / "VERSION").write_text("3.14.15\n")
-        differing = {"include/ginghamowl.h", "hosts/rust/Cargo.toml", "hosts/rust/Cargo.lock", "hosts/python/ginghamowl/_words.py"}
+        differing = {"include/ginghamowl.h", "hosts/rust/Cargo.toml", "hosts/rust/Cargo.lock", "hosts/python/ginghamowl/_words.py",
+                     "crates/command/src/version.rt"}
         self.assertEqual(self.run_words("--check"), (1, differing | self.ENGINE))
         self.assertEqual(self.run_words(), (0, differing | self.ENGINE))
         self.assertEqual(self.run_words("--check"), (0, set()))

@@ -18,7 +18,7 @@ from test_hosts_scripts import ENGINE, KIT, VERDICT, copy_written, executable
 
 ROOT = Path(__file__).resolve().parents[1]
 SIGNALS = signal.SIGINT, signal.SIGTERM, signal.SIGHUP
-CRATES = "a:\nb:\nhost staticlib: a b\nvaluation: a\nmonthsvaluation: a\n"
+CRATES = "a:\nb:\nhost staticlib: a b\nginghamowl: a\n"
 LONG = 60  # seconds; nothing here takes as long, but on a machine that is busy
 
 # It is called at the top of a copy of the crates. A file `slow` has it start a prover and wait for it; `stubborn`, one that ignores SIGTERM.
@@ -36,9 +36,7 @@ if [ -e "$STAND_IN/steps" ]; then
   echo 'rt: host proved'
 fi
 [ ! -e "$STAND_IN/slow" ] || . "$STAND_IN/wait"
-for name in valuation monthsvaluation; do
-  [ ! -d crates/$name ] || { mkdir crates/$name/out && cp "$STAND_IN/program" crates/$name/out/$name; }
-done
+[ ! -d crates/ginghamowl ] || { mkdir crates/ginghamowl/out && cp "$STAND_IN/program" crates/ginghamowl/out/ginghamowl; }
 echo '3 passed, 0 failed'
 """
 WAIT = """[ ! -e "$STAND_IN/stubborn" ] || trap '' TERM
@@ -94,7 +92,7 @@ class Checkout(unittest.TestCase):
         for name in ("value", "VERSION"):
             shutil.copy(ROOT / name, self.root)
         (self.root / "crates.txt").write_text(CRATES)
-        for name in ("a", "b", "host", "valuation", "monthsvaluation"):
+        for name in ("a", "b", "host", "ginghamowl"):
             (self.root / "crates" / name).mkdir(parents=True)
             (self.root / "crates" / name / "engine.c").write_text(ENGINE)
         copy_written(self.root)
@@ -107,7 +105,7 @@ class Checkout(unittest.TestCase):
         executable(self.rt / "bin/rattle", RATTLE)
         executable(self.rt / "wait", WAIT)
         (self.rt / "kit").write_text(f"{KIT}\n")
-        executable(self.rt / "program", "#!/bin/sh\ncat > /dev/null\necho 'R 1'\n")
+        executable(self.rt / "program", "#!/bin/sh\ncat > /dev/null\necho 'R 1'\nexit 1\n")
         self.environment = os.environ | {"PATH": f"{self.rt}:{os.environ['PATH']}", "STAND_IN": str(self.rt),
                                          "TMPDIR": str(self.temporary)}
         self.holder = self.root / "target/proving"

@@ -33,6 +33,14 @@ C1_LISTING = reference.listing(C1)
 VERSION = (ROOT / "VERSION").read_text().strip()
 
 
+# What a program tells of a file: the least that ./value takes for an answer.
+VALUED = {"refusal": None, "verdict": "VRIJ VERMOGEN", "figures": {name: [1, 1] for name in MONEY}}
+
+
+def refused(number):
+    return {"refusal": number, "verdict": None, "figures": None}
+
+
 def unwarned(run):
     """What a call has said on standard error beyond its warnings."""
     return [line for line in run.stderr.decode().splitlines() if ": warning: " not in line]
@@ -44,7 +52,7 @@ def in_four_bytes(data):
     return casetext.write(replace(case, rate_bytes=4, days=[[100 * rate for rate in day] for day in case.days]))
 
 
-# It is called as `rt ci`, in a copy of the crates. Counts the calls, and hands out the files `program` and `months`. A file `edit` has the
+# It is called as `rt ci`, in a copy of the crates. Counts the calls, and hands out the file `program`. A file `edit` has the
 # first call change a source of the checkout once; `edits`, `slow`, `fails` and `lacks` have one change one, wait, fail, or end well with a
 # last line that is no verdict, for as long as they are there.
 RT = """#!/bin/sh
@@ -56,20 +64,20 @@ source=$STAND_IN/../checkout/crates/a/src/lib.rt
 [ ! -e "$STAND_IN/edits" ] || echo '// edited' >> "$source"
 echo 'rt: a is kept: an earlier run on this machine proved the same files over the same libraries'
 [ ! -e "$STAND_IN/slow" ] || {
-  echo 'rt: valuation: another run on this machine is proving the same; waiting for it'
-  echo 'rt: valuation proved'
+  echo 'rt: ginghamowl: another run on this machine is proving the same; waiting for it'
+  echo 'rt: ginghamowl proved'
   sleep 0.7
 }
-mkdir crates/valuation/out crates/monthsvaluation/out
-cp "$STAND_IN/program" crates/valuation/out/valuation && cp "$STAND_IN/months" crates/monthsvaluation/out/monthsvaluation || exit 2
+mkdir crates/ginghamowl/out && cp "$STAND_IN/program" crates/ginghamowl/out/ginghamowl || exit 2
 [ ! -e "$STAND_IN/fails" ] || { echo 'rt: a NOT PROVED'; echo '2 passed, 1 failed'; exit 1; }
 [ ! -e "$STAND_IN/lacks" ] || { echo '3 passed, 0 failed (of some crates: not the gate)'; exit; }
 echo '3 passed, 0 failed'
 """
+PROGRAM = f'#!/bin/sh\nexec {ROOT}/crates/ginghamowl/out/ginghamowl "$@"\n'
 SOURCES = ("crates/a/src/lib.rt", "crates/a/src/out/inner.rt", "crates/a/specs/S.antt", "crates/a/proofs/P.antt", "crates/a/proofs/f/Proof.antt",
-           "crates/a/proofs/m/f/Proof.antt", "crates/a/proofs/m/T/f/Proof.antt", "crates/valuation/src/main.rt", "crates/valuation/stdin",
-           "crates/valuation/stdout", "crates/monthsvaluation/src/main.rt")
-CRATES = "# what the programs read\na:\nvaluation: a std\nmonthsvaluation: a\n\nother: a valuation\n"
+           "crates/a/proofs/m/f/Proof.antt", "crates/a/proofs/m/T/f/Proof.antt", "crates/ginghamowl/src/main.rt", "crates/ginghamowl/stdin",
+           "crates/ginghamowl/stdout")
+CRATES = "# what the program reads\na:\nginghamowl: a std\n\nother: a ginghamowl\n"
 
 
 class Checkout(unittest.TestCase):
@@ -89,13 +97,12 @@ class Checkout(unittest.TestCase):
         self.list_crates("")
         for name in SOURCES:
             self.write(name, name)
-        for name in ("crates/other/src/lib.rt", "crates/a/must-fail/wrong.edit", "crates/a/out/kept", "crates/valuation/out/valuation"):
+        for name in ("crates/other/src/lib.rt", "crates/a/must-fail/wrong.edit", "crates/a/out/kept", "crates/ginghamowl/out/ginghamowl"):
             self.write(name, "no part of the check")
         self.rt.mkdir()
         (self.rt / "rt").write_text(RT)
         (self.rt / "rt").chmod(0o755)
-        self.program(f"#!/bin/sh\nexec {ROOT}/crates/valuation/out/valuation\n")
-        self.program(f"#!/bin/sh\nexec {ROOT}/crates/monthsvaluation/out/monthsvaluation\n", "months")
+        self.program(PROGRAM)
         self.c1 = self.folder / "c1.case"
         self.c1.write_bytes(C1)
 
@@ -107,9 +114,24 @@ class Checkout(unittest.TestCase):
     def list_crates(self, comment):
         self.write("crates.txt", f"# {comment}\n{CRATES}")
 
-    def program(self, script, name="program"):
-        (self.rt / name).write_text(script)
-        (self.rt / name).chmod(0o755)
+    def program(self, script):
+        (self.rt / "program").write_text(script)
+        (self.rt / "program").chmod(0o755)
+
+    def stand_in(self, listing, told, status):
+        """A program that answers every call with this listing, or this row of JSON, and keeps the input and the history that it is handed."""
+        (self.rt / "listing").write_bytes(listing)
+        (self.rt / "told").write_text(json.dumps({"valuations": [told]}))
+        self.program(f"""#!/bin/sh
+cat > "$STAND_IN/input"
+shown=$STAND_IN/listing
+while [ $# -gt 0 ]; do
+  case $1 in --json) shown=$STAND_IN/told ;; --months) cat "$2" > "$STAND_IN/history" ;; --start) echo "$2" > "$STAND_IN/start" ;; esac
+  shift
+done
+cat "$shown"
+exit {status}
+""")
 
     def order(self, word, stands=True):
         """Tells the stand-in what to do."""
@@ -194,15 +216,14 @@ class Proved(Checkout):
 
     def test_edits_of_what_no_program_reads(self):
         self.assertAnswers(self.value(self.c1), 1)
-        for name in ("crates/other/src/lib.rt", "crates/a/must-fail/wrong.edit", "crates/a/out/kept", "crates/valuation/out/valuation"):
+        for name in ("crates/other/src/lib.rt", "crates/a/must-fail/wrong.edit", "crates/a/out/kept", "crates/ginghamowl/out/ginghamowl"):
             self.write(name, "edited")
             self.assertAnswers(self.value(self.c1), 1)
 
     def test_an_edited_program(self):
         self.assertAnswers(self.value(self.c1), 1)
-        for count, name in enumerate(("valuation", "monthsvaluation"), 2):
-            (self.root / "target/value" / name).write_text("#!/bin/sh\necho 'R 1'\n")
-            self.assertAnswers(self.value(self.c1), count)
+        (self.root / "target/value/ginghamowl").write_text("#!/bin/sh\necho 'R 1'; exit 1\n")
+        self.assertAnswers(self.value(self.c1), 2)
 
     def test_an_edit_during_the_check(self):
         self.order("edit")
@@ -251,8 +272,8 @@ class Proved(Checkout):
         self.order("slow")
         run = self.value(self.c1)
         self.assertAnswers(run, 1)
-        self.assertEqual(unwarned(run)[1:], ["value: waiting for another run of rt on this machine, which proves valuation",
-                                             "value: proved valuation, 2 of 3 crates"])
+        self.assertEqual(unwarned(run)[1:], ["value: waiting for another run of rt on this machine, which proves ginghamowl",
+                                             "value: proved ginghamowl, 2 of 2 crates"])
 
     def test_first_calls_at_once(self):
         self.order("slow")
@@ -279,9 +300,9 @@ class Places(Checkout):
         """CDPATH names a folder with a checkout of the same name, which is not proved."""
         other = self.folder / "others"
         shutil.copytree(self.root, other / "checkout")
-        self.program("#!/bin/sh\necho 'R 9'\n")
+        self.stand_in(b"R 9\n", {}, 1)
         self.value(self.c1, program=other / "checkout" / "value")
-        self.program(f"#!/bin/sh\nexec {ROOT}/crates/valuation/out/valuation\n")
+        self.program(PROGRAM)
         for word in (str(other), f"{other}:.", ".:/"):
             run = self.value("c1.case", program="checkout/value", cwd=self.folder, env=self.environment() | {"CDPATH": word})
             self.assertAnswers(run, 2)
@@ -308,7 +329,7 @@ class Places(Checkout):
                 path.chmod(0o755)
 
     def test_read_only(self):
-        self.program("#!/bin/sh\ncat > /dev/null; echo 'R 3'\n")
+        self.stand_in(b"R 3\n", refused(3), 1)
         run = self.as_reader(self.c1)
         self.assertNoAnswer(run, "cannot be written")
         self.assertEqual(self.calls(), 0)
@@ -384,15 +405,24 @@ class Statuses(Checkout):
                 self.assertNotIn(b"R 1", run.stdout)
 
     def test_a_program_that_breaks_off(self):
-        for script in ("echo 'L 1 1'", "printf 'R'", "exit 3", "echo 'R 3'; exit 3", "kill -9 $$", "printf 'L 1 1\nV VRIJ'", "echo 'X'"):
+        for script in ("echo 'L 1 1'", "printf 'R'", "exit 3", "echo 'R 3'; exit 3", "echo 'R 3'", "kill -9 $$", "printf 'L 1 1\nV VRIJ'",
+                       "echo 'X'", "echo 'R 3'; echo 'R 3'; exit 1", "echo '[]'", """echo '{"valuations": []}'""", """echo '{"valuations": [{'; exit 1"""):
             self.program(f"#!/bin/sh\ncat > /dev/null\n{script}\n")
             self.list_crates(repr(script))
             self.assertEqual(self.value("--json", self.c1).returncode, 2, script)
             self.assertNoAnswer(self.value(self.c1), "the program gave no whole listing")
+        for told, status in ((refused(3), 0), (VALUED, 1), ({"refusal": None}, 0), ([], 0), (None, 0)):
+            self.stand_in(b"", told, status)
+            self.list_crates(repr(told))
+            self.assertEqual(self.value("--json", self.c1).returncode, 2, told)
+        for end in (C1_LISTING.index(b"\nA") + 1, len(C1_LISTING) - 1):
+            self.stand_in(C1_LISTING[:end], VALUED, 0)
+            self.list_crates(repr(end))
+            self.assertNoAnswer(self.value(self.c1), "the program gave no whole listing")
 
     def test_a_file_that_is_valued_and_not_read(self):
         """Where the program accepts what the reader of cases does not, the answer says that nobody looked."""
-        self.program(f"#!/bin/sh\ncat > /dev/null\nprintf '{C1_LISTING.decode()}'\n")
+        self.stand_in(C1_LISTING, VALUED, 0)
         (self.folder / "bad.case").write_bytes(C1 + b"\0")
         run = self.value("--strict", self.folder / "bad.case")
         self.assertEqual((run.returncode, run.stdout), (3, C1_LISTING))
@@ -497,7 +527,7 @@ class Several(Checkout):
 
     def test_what_is_handed_in(self):
         """The first bytes of a file, which decide; the longest that can be accepted is whole among them."""
-        self.program('#!/bin/sh\ncat > "$STAND_IN/input"; echo "R 1"\n')
+        self.stand_in(b"R 1\n", refused(1), 1)
         self.list_crates("another program")
         largest = in_four_bytes((ROOT / "cases/largest.case").read_bytes())
         self.assertEqual(len(largest), 17_623)
@@ -630,20 +660,31 @@ class Months(Checkout):
         self.assertNoAnswer(self.with_months("-", history="-", input=C1), "standard input can be read only once")
 
     def test_what_is_handed_in(self):
-        """The first bytes of both files, which decide, each behind its length, and then the start index."""
-        self.program('#!/bin/sh\ncat > "$STAND_IN/input"; echo "R 1"\n', "months")
+        """The first bytes of both files, which decide, and the start index."""
+        self.stand_in(b"R 1\n", refused(1), 1)
         self.list_crates("another program")
+        handed = lambda: [(self.rt / name).read_bytes() for name in ("input", "history", "start")]
         files = {"short.case": b"ab", "long.case": bytes(17_700)}, {"short.months": b"", "long.months": bytes(300)}
         for name, data in (files[0] | files[1]).items():
             (self.folder / name).write_bytes(data)
-        for case, case_bytes in files[0].items():
-            for history, history_bytes in files[1].items():
-                self.with_months(case, history=history, start=258)
-                first, second = case_bytes[:17_624], history_bytes[:241]
-                self.assertEqual((self.rt / "input").read_bytes(), len(first).to_bytes(4, "big") + first
-                                 + len(second).to_bytes(4, "big") + second + bytes(6) + b"\1\2")
+        for form in ([], ["--json"]):
+            for case, case_bytes in files[0].items():
+                for history, history_bytes in files[1].items():
+                    self.with_months(*form, case, history=history, start=258)
+                    self.assertEqual(handed(), [case_bytes[:17_624], history_bytes[:241], b"258\n"])
         self.with_months("short.case", history="a.csv", start=119)
-        self.assertEqual((self.rt / "input").read_bytes(), b"\0\0\0\2ab\0\0\0\xf0" + months.write(self.rates, 119) + bytes(7) + b"w")
+        self.assertEqual(handed(), [b"ab", months.write(self.rates, 119), b"119\n"])
+        for start in (-1, 2 ** 64, 10 ** 40):
+            self.with_months("short.case", start=start)
+            self.assertEqual(handed()[2], b"18446744073709551615\n")
+
+    def test_standard_input_closed(self):
+        """The history is handed in by a number that is none of the program's own three."""
+        for words in ([], ["--json"]):
+            run = subprocess.run(["sh", "-c", '"$0" "$@" <&-', self.root / "value", *words, "--months", self.history, "--start", "37",
+                                  self.folder / "fund.case"], capture_output=True, env=self.environment())
+            self.assertEqual((run.returncode, unwarned(run)), (0, []), words)
+        self.assertIn(b'"ufr": 3900', run.stdout)
 
     def test_refusals(self):
         for start in (120, -1, 2 ** 64 - 1, 2 ** 64, 2 ** 64 + 37, -2 ** 64 + 37, 10 ** 40):
@@ -740,15 +781,14 @@ class Months(Checkout):
         self.assertEqual(len(told["months_warnings"]), 1)
 
     def test_a_program_that_breaks_off(self):
-        whole = self.listing().decode()
-        for printed in ("", whole, "UFR 3900\n", "UFR 3900\nR 1\n", "R 1\nR 1\n", f"UFR\n{whole}", f"UFR 3900\n{whole[:-1]}",
-                        f"UFR 3900\nUFR 3900\n{whole}", f"UFR -100\n{whole}"):
-            self.program(f"#!/bin/sh\ncat > /dev/null\nprintf '{printed}'\n", "months")
+        whole = self.listing()
+        for printed in (b"", b"UFR 3900\n", b"UFR 3900\n" + whole, whole[:-1], whole + whole, b"\n" + whole, whole + b"\n"):
+            self.stand_in(printed, VALUED, 0)
             self.list_crates(repr(printed))
             self.assertNoAnswer(self.with_months("c1.case"), "the program gave no whole listing")
-        self.program(f"#!/bin/sh\ncat > /dev/null\nprintf 'UFR 3900\n{whole}'\n", "months")
+        self.stand_in(whole, VALUED, 0)
         self.list_crates("whole")
-        self.assertEqual(self.with_months("c1.case").stdout.decode(), whole)
+        self.assertEqual(self.with_months("c1.case").stdout, whole)
 
 
 class Repository(unittest.TestCase):

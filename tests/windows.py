@@ -234,21 +234,21 @@ def order(call):
 
 FREE = [-(1 << 15)] * RATES  # anything may lie in a free slot
 DAYS = {  # by name: two with other rates at the first, the second and the last term, and two with a rate past a limit
-    "someDay": [1, 2, *[3] * 57, 4],
-    "limitsDay": [LEAST_RATE, *[20] * 58, MOST_RATE],
-    "lowDay": [LEAST_RATE - 1, *[0] * 59],
-    "highDay": [*[0] * 59, MOST_RATE + 1],
+    "some_day": [1, 2, *[3] * 57, 4],
+    "limits_day": [LEAST_RATE, *[20] * 58, MOST_RATE],
+    "low_day": [LEAST_RATE - 1, *[0] * 59],
+    "high_day": [*[0] * 59, MOST_RATE + 1],
 }
 SOME, LIMITS, LOW, HIGH = DAYS.values()
 TWO = placed([SOME, LIMITS], 0, FREE)
 WINDOWS = {  # by name
-    "twoDays": TWO,
-    "wrongSum": with_sum(TWO, 1, 1),
-    "inLastSlot": placed([SOME], MOST_DAYS - 1, FREE),
-    "overTheEnd": placed([SOME, LIMITS, SOME], MOST_DAYS - 1, FREE),
-    "fullWindow": placed([[5] * TERMS] * MOST_DAYS, 1, [5] * RATES),
-    "oneDayLeft": placed([[5] * TERMS] * (MOST_DAYS - 1), 1, [5] * RATES),
-    "flatDays": placed(examples.flat(100, 101), 0, FREE),
+    "two_days": TWO,
+    "wrong_sum": with_sum(TWO, 1, 1),
+    "in_last_slot": placed([SOME], MOST_DAYS - 1, FREE),
+    "over_the_end": placed([SOME, LIMITS, SOME], MOST_DAYS - 1, FREE),
+    "full_window": placed([[5] * TERMS] * MOST_DAYS, 1, [5] * RATES),
+    "one_day_left": placed([[5] * TERMS] * (MOST_DAYS - 1), 1, [5] * RATES),
+    "flat_days": placed(examples.flat(100, 101), 0, FREE),
 }
 _, WRONG_SUM, IN_LAST_SLOT, OVER_THE_END, FULL, ONE_LEFT, FLAT = WINDOWS.values()
 

@@ -1,15 +1,13 @@
 """What is said of a file and of a history: filled in as it is read, valued and told."""
 
-import re
+import json
 from dataclasses import dataclass, field
 
 import casetext
 from casetext.months import Months
 
 FIGURES = "L B A S1 S2 S3 S4 S5 S6 S".split()
-FIGURE_LINES = "".join(f"{name} ([0-9]+) ([0-9]+)\n" for name in FIGURES) + "V ([A-Z ]+)\n"
-LISTING = re.compile(f"R ([0-9]+)\n|(){FIGURE_LINES}")  # no UFR is found there
-MONTHS_LISTING = re.compile(f"R ([0-9]+)\n|UFR ([0-9]+)\n{FIGURE_LINES}")  # what `monthsvaluation` prints
+STATUSES = 0, 1  # of the program: valued, and refused
 
 
 class NoAnswer(Exception):
@@ -19,41 +17,44 @@ class NoAnswer(Exception):
 @dataclass
 class Answer:
     """What is said of one file. `sha256` is that of the file named, `sheets` has those of the sheets that a text case names; `data` is
-    the case file that is valued, `case_sha256` its digest, and `case` the case that it holds. `found_ufr` is the UFR that the months
-    gave. `notes` say more about a refusal."""
+    the case file that is valued, `case_sha256` its digest, and `case` the case that it holds. `status` is the program's, 2 where there is
+    no answer. Of one that is valued there is a listing, or, where JSON or CSV is asked for, what the program tells in its place: `numbers`
+    has the UFR, counts and sums under their names. `notes` say more about a refusal."""
     file: str
     sha256: str | None = None
     case_sha256: str | None = None
     sheets: dict[str, str] = field(default_factory=dict)
     data: bytes = b""
     case: casetext.Case | None = None
-    found_ufr: int | None = None
+    status: int = 2
     listing: str | None = None
     refusal: int | None = None
     verdict: str | None = None
-    figures: dict[str, tuple[int, int]] = field(default_factory=dict)
+    figures: dict[str, list[int]] = field(default_factory=dict)
+    numbers: dict[str, str | int] = field(default_factory=dict)
     warnings: list[str] = field(default_factory=list)
     notes: list[str] = field(default_factory=list)
     problem: str | None = None
 
-    @property
-    def status(self) -> int:
-        return 2 if self.listing is None else 0 if self.refusal is None else 1
-
-    def take(self, printed: str, has_months: bool) -> None:
-        """Takes over a whole listing, with months behind a line of the UFR; anything else is no answer."""
-        match = (MONTHS_LISTING if has_months else LISTING).fullmatch(printed)
-        if not match:
+    def take_listing(self, printed: str, status: int) -> None:
+        """Takes over a whole listing, which ends in its last line; anything else is no answer."""
+        *lines, rest = printed.split("\n")
+        names = [line.partition(" ")[0] for line in lines]
+        if rest or status not in STATUSES or names != (["R"] if status else [*FIGURES, "V"]):
             raise NoAnswer("the program gave no whole listing")
-        refusal, ufr, *ends, verdict = match.groups()
-        self.listing = printed.removeprefix(f"UFR {ufr}\n")
-        if refusal:
-            self.refusal = int(refusal)
-        else:
-            self.found_ufr = int(ufr) if has_months else None
-            self.verdict = verdict
-            numbers = list(map(int, ends))
-            self.figures = dict(zip(FIGURES, zip(numbers[::2], numbers[1::2])))
+        self.status, self.listing = status, printed
+
+    def take_told(self, printed: str, status: int) -> None:
+        """Takes over what is told of the one file in the program's JSON; anything else is no answer."""
+        try:
+            row, = json.loads(printed)["valuations"]
+            told = {name: row[name] for name in ("refusal", "verdict", "figures")}
+        except (ValueError, KeyError, TypeError) as error:
+            raise NoAnswer("the program gave no whole listing") from error
+        if status not in STATUSES or (told["refusal"] is None) != (status == 0):
+            raise NoAnswer("the program gave no whole listing")
+        self.status, self.refusal, self.verdict, self.figures = status, told["refusal"], told["verdict"], told["figures"] or {}
+        self.numbers = row
 
 
 @dataclass

@@ -1,5 +1,6 @@
-"""Running the programs that value a case file, which are proved of what the crates hold now (tools/proved.sh)."""
+"""Running the program that values a case file, which is proved of what the crates hold now (tools/proved.sh)."""
 
+import fcntl
 import os
 import signal
 import subprocess
@@ -31,8 +32,8 @@ def check_proved() -> subprocess.Popen:
 
 
 def require_proved(check: subprocess.Popen, is_needed: bool) -> None:
-    """Waits for the comparison that was begun, and proves the programs where the contents are others and a program is needed;
-    raises NotProved."""
+    """Waits for the comparison that was begun, and proves the program where the contents are others and it is needed; raises
+    NotProved."""
     if check.wait() and is_needed and ended(started("prove")):
         raise NotProved
 
@@ -58,24 +59,34 @@ def ended(child: subprocess.Popen) -> int:
     return INTERRUPTED if heard else status
 
 
-def value(answer: Answer, history: History | None) -> list[str]:
-    """Values the case file of an answer, and gives what is to be said of that."""
-    program = ROOT / "target" / "value" / ("monthsvaluation" if history else "valuation")
+def value(answer: Answer, history: History | None, is_text: bool) -> list[str]:
+    """Values the case file of an answer, for a listing or for what else is told, and gives what is to be said of that."""
     try:
-        run = subprocess.run([program], input=with_months(answer.data, history) if history else answer.data, capture_output=True)
-        answer.take(run.stdout.decode("ascii", "replace") if run.returncode == 0 else "", bool(history))
+        run = run_on(answer.data, history, [] if is_text else ["--json"])
+        take = answer.take_listing if is_text else answer.take_told
+        take(run.stdout.decode("ascii", "replace"), run.returncode)
     except (NoAnswer, OSError) as problem:
         answer.problem = str(problem)
     if answer.problem:
         return answer.problem.splitlines()
-    if answer.verdict and not answer.case:
+    if answer.status == 0 and not answer.case:
         answer.warnings.append(NOT_LOOKED_AT)
         return [f"warning: {NOT_LOOKED_AT}"]
-    return answer.notes if answer.refusal else []
+    return answer.notes if answer.status else []
 
 
-def with_months(case: bytes, history: History) -> bytes:
-    """What `monthsvaluation` reads: the case file and the history, each behind its length, and the start index. One that has no
-    place in 64 bits is handed in as the largest, which is refused like it."""
+def run_on(case: bytes, history: History | None, form: list[str]) -> subprocess.CompletedProcess:
+    """The program's run on these bytes as its standard input. Those of a history it reads from a pipe, which holds them all. A start index
+    that has no place in 64 bits is handed in as the largest, which is refused like it."""
+    program = ROOT / "target" / "value" / "ginghamowl"
+    if not history:
+        return subprocess.run([program, *form, "-"], input=case, capture_output=True)
     start = history.start if 0 <= history.start <= LARGEST_START else LARGEST_START
-    return b"".join(len(data).to_bytes(4, "big") + data for data in (case, history.data)) + start.to_bytes(8, "big")
+    end, place = os.pipe()
+    pipe = fcntl.fcntl(end, fcntl.F_DUPFD_CLOEXEC, 3)  # behind the program's own three, of which some may be closed here
+    os.close(end)
+    with open(pipe, "rb"):
+        with open(place, "wb") as handed:
+            handed.write(history.data)
+        return subprocess.run([program, *form, "--months", f"/dev/fd/{pipe}", "--start", str(start), "-"], input=case, capture_output=True,
+                              pass_fds=[pipe])

@@ -7,8 +7,6 @@ import os
 import tomllib
 from pathlib import Path
 
-from casetext.fields import DEFAULT_UFR
-
 from .answer import FIGURES, Answer, History, Report
 
 ROOT = Path(__file__).resolve().parents[2]
@@ -22,17 +20,13 @@ VALUED = ["ufr", "ufr_from", "rate_bytes", "days", "first_day", "last_day", "pen
 # ---------------------------------------------------------------- what was valued
 
 def valued(answer: Answer) -> dict[str, str | int | None]:
-    """The numbers by which an office knows its case again; none of a file that was not valued."""
+    """The numbers by which an office knows its case again, as the program tells them, with the days of its sheet; none of a file that was
+    not valued, or not looked at."""
     if not answer.verdict or not answer.case:
         return dict.fromkeys(VALUED)
-    case = answer.case
-    ufr, source = ((answer.found_ufr, "history") if answer.found_ufr is not None else
-                   (DEFAULT_UFR, "default") if case.ufr is None else (case.ufr, "file"))
-    first, last = (min(case.dates).isoformat(), max(case.dates).isoformat()) if case.dates else (None, None)
-    bonds, amounts = case.bonds or [], case.amounts or {}
-    assets = sum(amount for name, amount in amounts.items() if name != "currency")
-    return dict(zip(VALUED, (ufr, source, case.rate_bytes, len(case.days), first, last, len(case.pension), sum(case.pension),
-                             len(bonds), sum(bonds), assets), strict=True))
+    dates = answer.case.dates
+    days = {"first_day": min(dates).isoformat(), "last_day": max(dates).isoformat()} if dates else {}
+    return {name: (answer.numbers | days).get(name) for name in VALUED}
 
 
 def sentence(refusal: int | None) -> str | None:

@@ -1,9 +1,10 @@
 // The line of a reading: R and the number of the refusal; or C and every field of the case in the order of the struct, the arrays whole;
 // after them, where the part that holds the rates begins, its length and a hash of its bytes.
 use super::row::row;
+use fields::amounts::amounts_in_order;
+use fields::shocks::shocks_in_order;
 use heldcase::Case;
 use heldcase::flows::Flows;
-use reader::limits::{amounts_in_order, shocks_in_order};
 use std::io;
 use std::io::Write;
 
@@ -44,7 +45,7 @@ fn hash_of(part: &[u8]) -> u64 {
 // Where the part begins is what a host is told, its bytes are those of the slice. A refused file has an empty part at 0.
 fn print_part<W: Write>(out: &mut W, file: &[u8]) -> io::Result<()> {
     let part = reader::file::rates_part(file);
-    let place = ratesplace::rates_place(file);
+    let place = flat::part::rates_place(file);
     row(
         out,
         &[place.offset as u64, part.len() as u64, hash_of(part)],

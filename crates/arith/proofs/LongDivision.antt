@@ -1,9 +1,8 @@
 -- A product divided by hand, with two digits of base 2^21: what `scale::Long` works out, at either end. Assumes nothing.
 use Prim.Native.Nat.{ℕ, ◌+◌, ◌-◌, ◌*◌, ◌/◌, ◌%◌, ◌^◌, ◌≤◌, ◌<◌}
-use mathlib.Core.Path.{◌≡◌, sym, ap, ◌∙◌}
+use mathlib.Core.Path.{◌≡◌, ap, ◌∙◌}
 use native.Mathlib.Nat.{div-add-mod', le_of_lt}
 use native.Mathlib.Omega.{arith}
-use lib.Arith.{digits_div}
 use Rattle.arith.specs.inner.Range.{InRange}
 use Rattle.arith.specs.Rounding.{End, low, high, divide}
 use Rattle.arith.proofs.Rounding.{divide-floor, divide-ceiling, divide-low-is, divide-high-is, divide-le}

@@ -12,7 +12,7 @@ use native.Mathlib.Nat.{le_trans, lt_of_lt_of_le, lt_of_le_of_lt}
 use native.Mathlib.Decide.{dec_le}
 use native.Mathlib.Omega.{arith}
 use Rattle.arith.specs.Rounding.{End, low, high}
-use Rattle.arith.specs.Root.{FloorRoot, CeilingRoot, rootOfDigits, root}
+use Rattle.arith.specs.Root.{FloorRoot, CeilingRoot, root_of_digits, root}
 
 -- a square is at most another only if the number is
 pub unsquare : (a b : ℕ) → a * a ≤ b * b → a ≤ b
@@ -52,11 +52,11 @@ digit-more n d r h = go (dec_le ((2 * r + 1) * (2 * r + 1) * d) n)
         rw (lt-leb ((2 * r + 1) * (2 * r + 1) * d) n g) (record { reaches = omega (arith, h.reaches); last = g })
 
 -- k digits suffice where n is below 2^k × d
-digits-suffice : (k n d : ℕ) → n < 2 ^ k * d → FloorRoot n d (rootOfDigits k n d)
-unfolding rootOfDigits
+digits-suffice : (k n d : ℕ) → n < 2 ^ k * d → FloorRoot n d (root_of_digits k n d)
+unfolding root_of_digits
 digits-suffice zero n d h = record { reaches = omega arith; last = rw pow-zero at h }
 digits-suffice (suc k) n d h =
-    digit-more n d (rootOfDigits k n (4 * d)) (digits-suffice k n (4 * d) (omega (arith, pow-suc 2 k, ap (λ (p : ℕ). p * d) (pow-suc 2 k))))
+    digit-more n d (root_of_digits k n (4 * d)) (digits-suffice k n (4 * d) (omega (arith, pow-suc 2 k, ap (λ (p : ℕ). p * d) (pow-suc 2 k))))
 
 -- the root rounded down has its property: n is below 2 to the number of its binary digits
 pub root-floor : (n d : ℕ) → 0 < d → FloorRoot n d (root low n d)

@@ -1,10 +1,10 @@
 -- The root of a fraction by the root of its quotient: what `end::End::root` works out. Assumes nothing.
 use Prim.Native.Nat.{ℕ, ◌+◌, ◌*◌, ◌/◌, ◌^◌, ◌≤◌, ◌<◌}
 use mathlib.Core.Path.{◌≡◌, sym, subst}
-use native.Mathlib.Nat.{div-lt_iff_lt-mul, le-div_iff_mul-le, lt_of_le_of_lt, mul-le-mul_right}
+use native.Mathlib.Nat.{div-lt_iff_lt-mul, le-div_iff_mul-le}
 use native.Mathlib.Omega.{arith}
 use Rattle.arith.specs.Rounding.{low, high}
-use Rattle.arith.specs.Root.{FloorRoot, root}
+use Rattle.arith.specs.Root.{root}
 use Rattle.arith.proofs.Root.{root-floor, root-low-is, root-high-exact, root-high-more, unsquare-lt}
 
 module _ (n d : ℕ) (some : 0 < d) where

@@ -12,7 +12,7 @@ use Rattle.method.specs.Rounded.{scaled}
 use Rattle.arith.specs.Brackets.{bracket, end_of}
 use Rattle.arith.specs.declared.bracket.Bracket.{Bracket}
 use Rattle.theory.proofs.curve.Steps.{scaled-ends}
-use Rattle.curves.specs.inner.Years.{scaledFrom}
+use Rattle.curves.specs.inner.Years.{scaled_from}
 use Rattle.curves.specs.inner.Ranges.{ScaledWithin, YearsWithin, GrowthWithin}
 use Rattle.theory.proofs.general.ByEnds.{by-ends, end_is}
 
@@ -57,18 +57,18 @@ pub taken : (x r : Bracket) (f : End → ℕ) (a b : ℕ) → x ≡ bracket f �
 taken x r f a b k l = l ∙ by-ends (λ e. divide e (end_of x e * a) b) (λ e. divide e (f e * a) b) (λ e. rw (end_is x f k e))
 
 -- ---- years taken from where both ends stand
-first-year : (e : End) (a b x j : ℕ) → 0 < j → scaledFrom e a b (divide e (x * a) b) (j - 1) ≡ scaledFrom e a b x j
-unfolding scaledFrom
+first-year : (e : End) (a b x j : ℕ) → 0 < j → scaled_from e a b (divide e (x * a) b) (j - 1) ≡ scaled_from e a b x j
+unfolding scaled_from
 first-year e a b x zero h = absurd (let z : ⊥ = omega arith in z)
 first-year e a b x (suc j) h = let k : suc j - 1 ≡ j = omega arith in rw k
 
 -- the first year first or the last: after i years, j more
-after-years : (e : End) (a b i j : ℕ) → scaledFrom e a b (scaled e a b i) j ≡ scaled e a b (i + j)
-unfolding scaledFrom scaled
+after-years : (e : End) (a b i j : ℕ) → scaled_from e a b (scaled e a b i) j ≡ scaled e a b (i + j)
+unfolding scaled_from scaled
 after-years e a b i zero = let k : i + 0 ≡ i = omega arith in rw k
 after-years e a b i (suc j) = let k : i + suc j ≡ suc i + j = omega arith in rw k (after-years e a b (suc i) j)
 
-pub all-taken : (e : End) (a b j : ℕ) → scaledFrom e a b unit j ≡ scaled e a b j
+pub all-taken : (e : End) (a b j : ℕ) → scaled_from e a b unit j ≡ scaled e a b j
 all-taken e a b j = let k : 0 + j ≡ j = omega arith in rw (← scaled-none e a b) (rw k at (after-years e a b 0 j))
 
 -- Where shares of at most a half are added in all years together, no result reaches 2^41. The share of a year, with a whole number of
@@ -121,21 +121,21 @@ short-within a b j w few short = record {
   years = λ i h. rw (all-taken high a b i) (short-way (scaled high a b i) a b w.some w.most few (short-at a b j i w.some w.few short (omega arith)));
 }
 
-pub all-years : (a b j : ℕ) (r : Bracket) → r ≡ bracket (λ e. scaledFrom e a b (end_of one e) j) → r ≡ bracket (λ e. scaled e a b j)
-all-years a b j r k = k ∙ by-ends (λ e. scaledFrom e a b (end_of one e) j) (λ e. scaled e a b j) from-one
+pub all-years : (a b j : ℕ) (r : Bracket) → r ≡ bracket (λ e. scaled_from e a b (end_of one e) j) → r ≡ bracket (λ e. scaled e a b j)
+all-years a b j r k = k ∙ by-ends (λ e. scaled_from e a b (end_of one e) j) (λ e. scaled e a b j) from-one
   where
-    from-one : (e : End) → scaledFrom e a b (end_of one e) j ≡ scaled e a b j
+    from-one : (e : End) → scaled_from e a b (end_of one e) j ≡ scaled e a b j
     from-one low = all-taken low a b j
     from-one high = all-taken high a b j
 
-pub none_taken : (a b : ℕ) (x : Bracket) (j : ℕ) → j ≡ 0 → x ≡ bracket (λ e. scaledFrom e a b (end_of x e) j)
-unfolding scaledFrom
+pub none_taken : (a b : ℕ) (x : Bracket) (j : ℕ) → j ≡ 0 → x ≡ bracket (λ e. scaled_from e a b (end_of x e) j)
+unfolding scaled_from
 none_taken a b x j h = rw h
 
 module _ {Takes : ℕ → ℕ → ℕ → Type 0} (smaller : (x y a b : ℕ) → x ≤ y → Takes y a b → Takes x a b)
     (a b : ℕ) (x : Bracket) (j : ℕ) (w : YearsWithin Takes a b x j) (some : 0 < j) where
   upper-takes : Takes x.upper a b
-  unfolding scaledFrom
+  unfolding scaled_from
   upper-takes = w.years 0 some
 
   pub both-in : BothIn Takes x a b
@@ -155,14 +155,14 @@ module _ {Takes : ℕ → ℕ → ℕ → Type 0} (smaller : (x y a b : ℕ) →
         (omega (arith, divide-floor (x.lower * a) b w.some, mul-le-mul_right a w.order))
 
     pub year-less : YearsWithin Takes a b r (j - 1)
-    unfolding scaledFrom
+    unfolding scaled_from
     year-less = record {
       some = w.some;
       order = rw (lower_is, upper_is) ends-order;
       years = λ i m. rw upper_is (w.years (suc i) (omega arith));
     }
 
-    pub then-taken : (z : Bracket) → z ≡ bracket (λ e. scaledFrom e a b (end_of r e) (j - 1)) → z ≡ bracket (λ e. scaledFrom e a b (end_of x e) j)
+    pub then-taken : (z : Bracket) → z ≡ bracket (λ e. scaled_from e a b (end_of r e) (j - 1)) → z ≡ bracket (λ e. scaled_from e a b (end_of x e) j)
     then-taken z h =
-        h ∙ by-ends (λ e. scaledFrom e a b (end_of r e) (j - 1)) (λ e. scaledFrom e a b (end_of x e) j)
+        h ∙ by-ends (λ e. scaled_from e a b (end_of r e) (j - 1)) (λ e. scaled_from e a b (end_of x e) j)
         (λ e. rw (end_is r (λ e. divide e (end_of x e * a) b) is e) (first-year e a b (end_of x e) j some))

@@ -6,7 +6,7 @@ ghost use Rattle.arith.specs.Brackets.{bracket, end_of};
 ghost use Rattle.model.specs.Numbers.{table};
 ghost use Rattle.method.specs.Rounded as Rounded;
 ghost use Rattle.method.specs.Rounded.{scaled};
-ghost use Rattle.curves.specs.inner.Shifted.{curveOf};
+ghost use Rattle.curves.specs.inner.Shifted.{curve_of};
 ghost use Rattle.curves.specs.inner.ByTerm.{brackets};
 ghost use Rattle.curves.specs.inner.Ranges.{GrowthWithin, WeighWithin, FactorsWithin, NextWithin};
 
@@ -39,7 +39,7 @@ impl CurveSums {
     // UFR growth. A step of the UFR is 10^7 units.
     fn weighed_growth(&self, t: usize) -> Bracket
         requires { FactorsWithin self.now × (20 < t) × (t ≤ 60) }
-        ensures { result ≡ bracket (λ e. Rounded.weighed (curveOf self.now) e t) }
+        ensures { result ≡ bracket (λ e. Rounded.weighed (curve_of self.now) e t) }
     {
         let ufr_growth = Case::UNIT + self.ufr * 10_000_000;
         let unweighed = growth(self.n, self.sums[t], self.sums[t - 1], t - 1);
@@ -51,7 +51,7 @@ impl CurveSums {
     // the products are short.
     fn next_factor(&self, before: Bracket, t: usize) -> Bracket
         requires { NextWithin self.now before t }
-        ensures { result ≡ bracket (λ e. Rounded.factor (curveOf self.now) e t) }
+        ensures { result ≡ bracket (λ e. Rounded.factor (curve_of self.now) e t) }
     {
         if t <= Case::LAST_UNWEIGHED_TERM {
             return over_years(self.n, self.sums[t], t);
@@ -65,7 +65,7 @@ impl CurveSums {
     /// The factors of the terms 1 to 120.
     pub fn factors(&self) -> [Bracket; 120]
         requires { FactorsWithin self.now }
-        ensures { result ≡ brackets (Rounded.factor (curveOf self.now)) 120 }
+        ensures { result ≡ brackets (Rounded.factor (curve_of self.now)) 120 }
     {
         let mut factor = Bracket::exactly(Case::UNIT);
         let mut out = [factor; 120];
@@ -80,8 +80,10 @@ impl CurveSums {
     /// The unadjusted factors of the terms 1 to `count`. Up to term 20 they are the adjusted ones, which are handed in; each later one is 1,
     /// multiplied t times by N / P(t). The entries of the terms after `count` stay as handed in.
     pub fn unadjusted_factors(&self, adjusted: &[Bracket; 120], count: usize) -> [Bracket; 120]
-        requires { FactorsWithin self.now × (adjusted.now ≡ brackets (Rounded.factor (curveOf self.now)) 120) × (count ≤ 60) }
-        ensures { result ≡ brackets (Rounded.unadjusted (curveOf self.now)) (max 20 count) ++ drop (max 20 count) adjusted.now }
+        requires sums { FactorsWithin self.now }
+        requires adjusted { adjusted.now ≡ brackets (Rounded.factor (curve_of self.now)) 120 }
+        requires few { count ≤ 60 }
+        ensures { result ≡ brackets (Rounded.unadjusted (curve_of self.now)) (max 20 count) ++ drop (max 20 count) adjusted.now }
     {
         let mut out = *adjusted;
         // t is not only an index: the working asks for the term.

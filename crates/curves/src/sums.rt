@@ -1,6 +1,6 @@
 // A curve of a case, as N and the sums P(t): the base curve, or one whose mean rates are shifted.
 ghost use Rattle.std.specs.Prelude.{◌≡◌};
-ghost use Rattle.curves.specs.inner.Shifted.{shiftedSums};
+ghost use Rattle.curves.specs.inner.Shifted.{shifted_sums};
 ghost use Rattle.curves.specs.inner.Ranges.{ShiftWithin};
 
 use heldcase::Case;
@@ -17,7 +17,7 @@ pub struct CurveSums {
 /// The curve with `more` steps added to every mean rate and `less` steps taken from it. P(0) is N, since term 0 has no rate to shift.
 pub fn shifted(case: &Case, more: u64, less: u64) -> CurveSums
     requires { ShiftWithin case.now more less }
-    ensures { result ≡ shiftedSums more less case.now }
+    ensures { result ≡ shifted_sums more less case.now }
 {
     let n = Case::STEPS_PER_ONE * case.per_step;
     let added = case.per_step * more;

@@ -2,7 +2,7 @@
 ghost use Rattle.std.specs.Prelude.{◌≡◌};
 ghost use Rattle.arith.specs.Brackets.{bracket, end_of};
 ghost use Rattle.method.specs.Rounded.{scaled};
-ghost use Rattle.curves.specs.inner.Years.{scaledFrom};
+ghost use Rattle.curves.specs.inner.Years.{scaled_from};
 ghost use Rattle.curves.specs.inner.Ranges.{ScaledWithin, YearsWithin};
 
 use arith::bracket::Bracket;
@@ -13,7 +13,7 @@ use heldcase::Case;
 // a loop of it. It falls on j as its definition does, a form that the project has fixed.
 fn take_years<Q: Quotient>(growth: &mut Bracket, p: u64, q: u64, j: usize)
     requires { YearsWithin Q.Takes p q growth.old j }
-    ensures { growth.new ≡ bracket (λ e. scaledFrom e p q (end_of growth.old e) j) }
+    ensures { growth.new ≡ bracket (λ e. scaled_from e p q (end_of growth.old e) j) }
 {
     if j == 0 {
         return;

@@ -22,11 +22,11 @@ use Rattle.model.specs.Fields.{Check}
 use Rattle.model.specs.Refusals.{first_of, checks, refusal}
 use Rattle.method.specs.Curve.{base, curve}
 use Rattle.method.specs.Rounded as Rounded
-use Rattle.method.specs.Buffers.{valuationRefusal, byTerm, factorEntries, rateEntries, factorsAfter, ratesAfter, answered, valuationOf, refusalNumber}
+use Rattle.method.specs.Buffers.{valuation_refusal, by_term, factor_entries, rate_entries, factors_after, rates_after, answered, valuation_of, refusal_number}
 use Rattle.model.specs.declared.figures.Valuation.{Valuation}
 use Rattle.theory.proofs.acceptance.Acceptance.{accepted-keeps, keeps-accepted}
 use Rattle.theory.proofs.demand3.Demand3Proved.{IsRounded}
-use Rattle.theory.proofs.general.Entries.{length-byTerm, lower_in, upper_in}
+use Rattle.theory.proofs.general.Entries.{length-by_term, lower_in, upper_in}
 use Rattle.theory.proofs.demand3.Files.{demand3-of-files}
 use Rattle.theory.proofs.demand3.Written.{written-rounded}
 use Rattle.reader.proofs.Exactly.{slice-bytes}
@@ -34,8 +34,8 @@ use Rattle.engine.specs.Guarantee.{given, RefusedCall, AcceptedCall, AcceptedExa
 use Rattle.engine.proofs.Valued.{passes, fails, own-refusal}
 
 -- what follows the entries of the terms
-later : {A : Type 0} (f : End → ℕ → A) (rest : List A) → drop 240 (byTerm f 120 ++ rest) ≡ rest
-later f rest = drop_at (byTerm f 120) rest 240 (length-byTerm f 120)
+later : {A : Type 0} (f : End → ℕ → A) (rest : List A) → drop 240 (by_term f 120 ++ rest) ≡ rest
+later f rest = drop_at (by_term f 120) rest 240 (length-by_term f 120)
 
 -- one check before the file's own
 split : (b : Bool) (rest : List Check) → first_of ((b, 13) ∷ rest) ≡ 0 → (b ≡ true) × (first_of rest ≡ 0)
@@ -46,13 +46,13 @@ split false rest h = absurd (never (sym (fails false rest refl) ∙ h))
     never e = omega arith
 
 -- the number of an answer
-answered-number : (r : ℕ) (k : FileCase) → refusalNumber (answered r k) ≡ r
+answered-number : (r : ℕ) (k : FileCase) → refusal_number (answered r k) ≡ r
 answered-number zero k = refl
 answered-number (suc r) k = refl
 
 module _ (file : List ℕ) (factors : List ℕ) (rates : List ℤ) where
-  enough : valuationRefusal (length factors) (length rates) file ≡ 0 → (240 ≤ length factors) × (240 ≤ length rates) × (refusal file ≡ 0)
-  unfolding valuationRefusal refusal
+  enough : valuation_refusal (length factors) (length rates) file ≡ 0 → (240 ≤ length factors) × (240 ≤ length rates) × (refusal file ≡ 0)
+  unfolding valuation_refusal refusal
   enough h =
       let p = split (leb 240 (length factors) && leb 240 (length rates)) (checks file) h in (
         leb-true 240 (length factors) (first_so (leb 240 (length factors)) (leb 240 (length rates)) p.0),
@@ -60,42 +60,42 @@ module _ (file : List ℕ) (factors : List ℕ) (rates : List ℤ) where
         p.1,
       )
 
-  refused-call : (n : ℕ) → valuationRefusal (length factors) (length rates) file ≡ suc n → RefusedCall file factors rates
-  unfolding valuationOf factorsAfter ratesAfter
-  refused-call n e = record { answer = rw e; factorsKept = rw e; ratesKept = rw e }
+  refused-call : (n : ℕ) → valuation_refusal (length factors) (length rates) file ≡ suc n → RefusedCall file factors rates
+  unfolding valuation_of factors_after rates_after
+  refused-call n e = record { answer = rw e; factors_kept = rw e; rates_kept = rw e }
 
-  module _ (h : valuationRefusal (length factors) (length rates) file ≡ 0) where
-    answer-is : valuationOf (length factors) (length rates) file
+  module _ (h : valuation_refusal (length factors) (length rates) file ≡ 0) where
+    answer-is : valuation_of (length factors) (length rates) file
         ≡ Ok (record { figures = Rounded.figures (case_of file); verdict = Rounded.verdict (case_of file) })
-    unfolding valuationOf
+    unfolding valuation_of
     answer-is = rw h
 
-    factors-are : factorsAfter file factors rates ≡ byTerm (Rounded.factor (curve (case_of file) base)) 120 ++ drop 240 factors
-    unfolding factorsAfter factorEntries
+    factors-are : factors_after file factors rates ≡ by_term (Rounded.factor (curve (case_of file) base)) 120 ++ drop 240 factors
+    unfolding factors_after factor_entries
     factors-are = rw h
 
-    rates-are : ratesAfter file factors rates ≡ byTerm (Rounded.zeroRate (curve (case_of file) base)) 120 ++ drop 240 rates
-    unfolding ratesAfter rateEntries
+    rates-are : rates_after file factors rates ≡ by_term (Rounded.zero_rate (curve (case_of file) base)) 120 ++ drop 240 rates
+    unfolding rates_after rate_entries
     rates-are = rw h
 
-    lower-factor : (t : ℕ) → t < 120 → get_or (factorsAfter file factors rates) (2 * t) 0 ≡ Rounded.factor (curve (case_of file) base) low (suc t)
+    lower-factor : (t : ℕ) → t < 120 → get_or (factors_after file factors rates) (2 * t) 0 ≡ Rounded.factor (curve (case_of file) base) low (suc t)
     lower-factor t l = rw factors-are (lower_in (Rounded.factor (curve (case_of file) base)) 120 (drop 240 factors) 0 t l)
 
-    upper-factor : (t : ℕ) → t < 120 → get_or (factorsAfter file factors rates) (2 * t + 1) 0 ≡ Rounded.factor (curve (case_of file) base) high (suc t)
+    upper-factor : (t : ℕ) → t < 120 → get_or (factors_after file factors rates) (2 * t + 1) 0 ≡ Rounded.factor (curve (case_of file) base) high (suc t)
     upper-factor t l = rw factors-are (upper_in (Rounded.factor (curve (case_of file) base)) 120 (drop 240 factors) 0 t l)
 
-    lower-rate : (t : ℕ) → t < 120 → get_or (ratesAfter file factors rates) (2 * t) (pos 0) ≡ Rounded.zeroRate (curve (case_of file) base) low (suc t)
-    lower-rate t l = rw rates-are (lower_in (Rounded.zeroRate (curve (case_of file) base)) 120 (drop 240 rates) (pos 0) t l)
+    lower-rate : (t : ℕ) → t < 120 → get_or (rates_after file factors rates) (2 * t) (pos 0) ≡ Rounded.zero_rate (curve (case_of file) base) low (suc t)
+    lower-rate t l = rw rates-are (lower_in (Rounded.zero_rate (curve (case_of file) base)) 120 (drop 240 rates) (pos 0) t l)
 
-    upper-rate : (t : ℕ) → t < 120 → get_or (ratesAfter file factors rates) (2 * t + 1) (pos 0) ≡ Rounded.zeroRate (curve (case_of file) base) high (suc t)
-    upper-rate t l = rw rates-are (upper_in (Rounded.zeroRate (curve (case_of file) base)) 120 (drop 240 rates) (pos 0) t l)
+    upper-rate : (t : ℕ) → t < 120 → get_or (rates_after file factors rates) (2 * t + 1) (pos 0) ≡ Rounded.zero_rate (curve (case_of file) base) high (suc t)
+    upper-rate t l = rw rates-are (upper_in (Rounded.zero_rate (curve (case_of file) base)) 120 (drop 240 rates) (pos 0) t l)
 
     -- what the call gives is that of the rounded working
-    is-rounded : (v : Valuation) → valuationOf (length factors) (length rates) file ≡ Ok v
-        → IsRounded (case_of file) (given v (factorsAfter file factors rates) (ratesAfter file factors rates))
-    unfolding factorEntries rateEntries
+    is-rounded : (v : Valuation) → valuation_of (length factors) (length rates) file ≡ Ok v
+        → IsRounded (case_of file) (given v (factors_after file factors rates) (rates_after file factors rates))
+    unfolding factor_entries rate_entries
     is-rounded v e =
-        written-rounded (case_of file) v (factorsAfter file factors rates) (drop 240 factors) (ratesAfter file factors rates)
+        written-rounded (case_of file) v (factors_after file factors rates) (drop 240 factors) (rates_after file factors rates)
         (drop 240 rates) (sym e ∙ answer-is) factors-are rates-are
 
     accepted-call : Bytes file → AcceptedCall file factors rates
@@ -103,31 +103,31 @@ module _ (file : List ℕ) (factors : List ℕ) (rates : List ℤ) where
         let p = enough h in
         let q = accepted-keeps file b p.2 in
         record {
-          factorsEnough = p.0;
-          ratesEnough = p.1;
+          factors_enough = p.0;
+          rates_enough = p.1;
           keeps = q.0;
           held = q.1;
           answer = answer-is;
-          lowerFactor = lower-factor;
-          upperFactor = upper-factor;
-          lowerRate = lower-rate;
-          upperRate = upper-rate;
-          laterFactors = rw factors-are (later (Rounded.factor (curve (case_of file) base)) (drop 240 factors));
-          laterRates = rw rates-are (later (Rounded.zeroRate (curve (case_of file) base)) (drop 240 rates));
-          demand3 = λ v e. demand3-of-files file p.2 (given v (factorsAfter file factors rates) (ratesAfter file factors rates)) (is-rounded v e);
+          lower_factor = lower-factor;
+          upper_factor = upper-factor;
+          lower_rate = lower-rate;
+          upper_rate = upper-rate;
+          later_factors = rw factors-are (later (Rounded.factor (curve (case_of file) base)) (drop 240 factors));
+          later_rates = rw rates-are (later (Rounded.zero_rate (curve (case_of file) base)) (drop 240 rates));
+          demand3 = λ v e. demand3-of-files file p.2 (given v (factors_after file factors rates) (rates_after file factors rates)) (is-rounded v e);
         }
 
   accepted-exactly : Bytes file → AcceptedExactly file factors rates
   accepted-exactly b = record {
-    keepsAccepted = λ hf hz x. own-refusal file factors rates hf hz ∙ (keeps-accepted file x).0;
-    acceptedKeeps = λ h. (accepted-keeps file b (enough h).2).0;
+    keeps_accepted = λ hf hz x. own-refusal file factors rates hf hz ∙ (keeps-accepted file x).0;
+    accepted_keeps = λ h. (accepted-keeps file b (enough h).2).0;
   }
 
   call : Bytes file → Call file factors rates
-  unfolding valuationOf
+  unfolding valuation_of
   call b = record {
     bytes = b;
-    number = answered-number (valuationRefusal (length factors) (length rates) file) (case_of file);
+    number = answered-number (valuation_refusal (length factors) (length rates) file) (case_of file);
     refused = refused-call;
     accepted = λ h. accepted-call h b;
     exactly = accepted-exactly b;

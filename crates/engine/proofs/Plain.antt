@@ -8,9 +8,9 @@ use native.Mathlib.Omega.{arith}
 use lib.IntN.{ℤ}
 use lib.ListN.{length}
 use Rattle.model.specs.Layout.{Keeps}
-use Rattle.method.specs.Buffers.{valuationOf, refusalNumber}
+use Rattle.method.specs.Buffers.{valuation_of, refusal_number}
 use Rattle.engine.specs.Guarantee.{Call}
 
 shortest-buffers : (file : List ℕ) (factors : List ℕ) (rates : List ℤ) → Call file factors rates → length factors ≡ 240 → length rates ≡ 240
-    → Keeps file → refusalNumber (valuationOf (length factors) (length rates) file) ≡ 0
-shortest-buffers file factors rates c f z k = c.number ∙ c.exactly.keepsAccepted (omega (arith, f)) (omega (arith, z)) k
+    → Keeps file → refusal_number (valuation_of (length factors) (length rates) file) ≡ 0
+shortest-buffers file factors rates c f z k = c.number ∙ c.exactly.keeps_accepted (omega (arith, f)) (omega (arith, z)) k

@@ -15,18 +15,18 @@ use Rattle.model.specs.Layout.{case_of}
 use Rattle.model.specs.Fields.{Check}
 use Rattle.model.specs.Refusals.{first_of, checks, refusal}
 use Rattle.method.specs.Rounded as Rounded
-use Rattle.method.specs.Buffers.{valuationRefusal, factorsAfter, ratesAfter, answered, valuationOf}
+use Rattle.method.specs.Buffers.{valuation_refusal, factors_after, rates_after, answered, valuation_of}
 use Rattle.model.specs.declared.figures.Valuation.{Valuation}
 use Rattle.heldcase.specs.Held.{held}
 use Rattle.heldcase.specs.declared.Case.{Case}
 use Rattle.theory.proofs.acceptance.Acceptance.{within-limits}
 use Rattle.refusal.specs.Numbered.{number_of}
 use Rattle.refusal.specs.declared.Refusal.{Refusal}
-use Rattle.reader.proofs.Steps.{some_number}
+use Rattle.fields.proofs.Steps.{some_number}
 use native.Mathlib.Omega.{arith}
 use Rattle.engine.specs.Guarantee.{Call}
 use Rattle.working.specs.inner.Ranges.{CaseFits}
-use Rattle.working.specs.inner.Working.{factorsOn, ratesOn, moneyOf}
+use Rattle.working.specs.inner.Working.{factors_on, rates_on, money_of}
 use Rattle.working.proofs.HeldCase.{held_fits, held-money, held-valued}
 
 -- one check before others
@@ -39,8 +39,8 @@ unfolding first_of
 passes b rest e = rw e
 
 -- with both buffers long enough, a valuation has the refusal of its file
-pub own-refusal : (file f₀ : List ℕ) (z₀ : List ℤ) → 240 ≤ length f₀ → 240 ≤ length z₀ → valuationRefusal (length f₀) (length z₀) file ≡ refusal file
-unfolding valuationRefusal refusal
+pub own-refusal : (file f₀ : List ℕ) (z₀ : List ℤ) → 240 ≤ length f₀ → 240 ≤ length z₀ → valuation_refusal (length f₀) (length z₀) file ≡ refusal file
+unfolding valuation_refusal refusal
 own-refusal file f₀ z₀ hf hz =
     passes (leb 240 (length f₀) && leb 240 (length z₀)) (checks file) (rw (le-leb 240 (length f₀) hf, le-leb 240 (length z₀) hz))
 
@@ -52,30 +52,30 @@ module _ (file : List ℕ) (none : 0 ≡ refusal file) (k : Case) (holds : k ≡
   pub reading-fits : CaseFits k
   reading-fits = subst CaseFits (sym holds) (held_fits (case_of file) (within-limits file (sym none)))
 
-  reading-money : moneyOf k ≡ record { figures = Rounded.figures (case_of file); verdict = Rounded.verdict (case_of file) }
-  reading-money = ap moneyOf holds ∙ held-money (case_of file) (within-limits file (sym none))
+  reading-money : money_of k ≡ record { figures = Rounded.figures (case_of file); verdict = Rounded.verdict (case_of file) }
+  reading-money = ap money_of holds ∙ held-money (case_of file) (within-limits file (sym none))
 
-  pub figures-accepted : (v : Valuation) → v ≡ moneyOf k → Ok v ≡ answered (refusal file) (case_of file)
+  pub figures-accepted : (v : Valuation) → v ≡ money_of k → Ok v ≡ answered (refusal file) (case_of file)
   figures-accepted v g = rw (sym none) (ap ok_of (g ∙ reading-money))
 
 module _ {file f₀ : List ℕ} {z₀ : List ℤ} (call : Call file f₀ z₀) where
   -- the contract of `value`: the answer, both buffers at the end, and what holds of every call
   abbrev pub Meets : Result Valuation ℕ → List ℕ → List ℤ → Type 0
   Meets answer f z = record {
-    value : answer ≡ valuationOf (length f₀) (length z₀) file;
-    factors : f ≡ factorsAfter file f₀ z₀;
-    rates : z ≡ ratesAfter file f₀ z₀;
+    value : answer ≡ valuation_of (length f₀) (length z₀) file;
+    factors : f ≡ factors_after file f₀ z₀;
+    rates : z ≡ rates_after file f₀ z₀;
     call : Call file f₀ z₀;
   }
 
   -- with the refusal known
-  meets-refused : (n : ℕ) → valuationRefusal (length f₀) (length z₀) file ≡ suc n → Meets (Err (suc n)) f₀ z₀
-  unfolding valuationOf factorsAfter ratesAfter
+  meets-refused : (n : ℕ) → valuation_refusal (length f₀) (length z₀) file ≡ suc n → Meets (Err (suc n)) f₀ z₀
+  unfolding valuation_of factors_after rates_after
   meets-refused n e = record { value = rw e; factors = rw e; rates = rw e; call = call }
 
   -- with a buffer that is too short, that for factors or that for rates
   short : (leb 240 (length f₀) && leb 240 (length z₀)) ≡ false → Meets (Err 13) f₀ z₀
-  unfolding valuationRefusal
+  unfolding valuation_refusal
   short h = meets-refused 12 (fails (leb 240 (length f₀) && leb 240 (length z₀)) (checks file) h)
 
   pub short-factors : length f₀ < 240 → Meets (Err 13) f₀ z₀
@@ -95,12 +95,12 @@ module _ {file f₀ : List ℕ} {z₀ : List ℤ} (call : Call file f₀ z₀) w
 
     -- an accepted file
     pub accepted-file : 0 ≡ refusal file → (k : Case) → k ≡ held (case_of file) → (v : Valuation) (f : List ℕ) (z : List ℤ)
-        → v ≡ moneyOf k
-        → f ≡ factorsOn k base ++ drop 240 f₀
-        → z ≡ ratesOn k ++ drop 240 z₀
+        → v ≡ money_of k
+        → f ≡ factors_on k base ++ drop 240 f₀
+        → z ≡ rates_on k ++ drop 240 z₀
         → Meets (Ok v) f z
-    unfolding valuationOf factorsAfter ratesAfter
+    unfolding valuation_of factors_after rates_after
     accepted-file none k holds v f z p q t =
-        let o : valuationRefusal (length f₀) (length z₀) file ≡ 0 = own-refusal file f₀ z₀ hf hz ∙ sym none in
+        let o : valuation_refusal (length f₀) (length z₀) file ≡ 0 = own-refusal file f₀ z₀ hf hz ∙ sym none in
         let (x, (y, u)) = held-valued (case_of file) (within-limits file (sym none)) f₀ z₀ holds p q t in
         record { value = rw o x; factors = rw o y; rates = rw o u; call = call }

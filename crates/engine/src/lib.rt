@@ -2,7 +2,7 @@
 #![tactic(auto)]
 
 ghost use Rattle.std.specs.Prelude.{◌≡◌, length};
-ghost use Rattle.method.specs.Buffers.{answered, valuationOf, factorsAfter, ratesAfter};
+ghost use Rattle.method.specs.Buffers.{answered, valuation_of, factors_after, rates_after};
 ghost use Rattle.model.specs.Layout.{case_of};
 ghost use Rattle.model.specs.Refusals.{refusal};
 ghost use Rattle.engine.specs.Guarantee.{Call};
@@ -17,9 +17,9 @@ use working::{money_of, value_case};
 /// 240 entries is `Buffers`, ahead of all; a refused file has its own refusal. A refusal leaves both buffers as they were. Hosts in C lend
 /// each by a pointer and a length, so they stay two slices.
 pub fn value(file: &[u8], factors: &mut [u64], rates: &mut [i64]) -> Result<Valuation, Refusal>
-    ensures value { answer_of result ≡ valuationOf (length factors.old) (length rates.old) file.now }
-    ensures factors { factors.new ≡ factorsAfter file.now factors.old rates.old }
-    ensures rates { rates.new ≡ ratesAfter file.now factors.old rates.old }
+    ensures value { answer_of result ≡ valuation_of (length factors.old) (length rates.old) file.now }
+    ensures factors { factors.new ≡ factors_after file.now factors.old rates.old }
+    ensures rates { rates.new ≡ rates_after file.now factors.old rates.old }
     ensures call { Call file.now factors.old rates.old }
 {
     let factors = factors.first_chunk_mut().ok_or(Refusal::Buffers)?;

@@ -1,5 +1,5 @@
 -- The answers of the engine as structs that C knows, and what such a struct says. Assumes nothing.
-use Rattle.std.specs.Prelude.{ℕ, zero, suc, cond, eqb, Result, Ok, Err}
+use Rattle.std.specs.Prelude.{ℕ, zero, suc, if◌then◌else◌, ◌==◌, Result, Ok, Err}
 use Rattle.std.specs.Float.{binary64}
 use Rattle.std.specs.Float.Ieee.{of_bits}
 use Rattle.arith.specs.declared.bracket.Bracket.{Bracket}
@@ -17,8 +17,8 @@ use Rattle.flat.specs.declared.HostUfr.{HostUfr}
 abbrev pub nothing : Bracket
 nothing = record { lower = 0; upper = 0 }
 
-abbrev pub noFigures : Figures
-noFigures = record {
+abbrev pub no_figures : Figures
+no_figures = record {
   l = nothing;
   b = nothing;
   a = nothing;
@@ -32,42 +32,42 @@ noFigures = record {
 }
 
 -- the host's number of each verdict; 0 is kept for a refused file
-abbrev pub verdictNumber : Verdict → ℕ
-verdictNumber Dekkingstekort = 1
-verdictNumber Reservetekort = 2
-verdictNumber VrijVermogen = 3
-verdictNumber Onbeslist = 4
+abbrev pub verdict_number : Verdict → ℕ
+verdict_number Dekkingstekort = 1
+verdict_number Reservetekort = 2
+verdict_number VrijVermogen = 3
+verdict_number Onbeslist = 4
 
 -- a number that stands for no verdict is undecided
-abbrev pub verdictFrom : ℕ → Verdict
-verdictFrom number =
-    cond (eqb number 1) Dekkingstekort (cond (eqb number 2) Reservetekort (cond (eqb number 3) VrijVermogen Onbeslist))
+abbrev pub verdict_from : ℕ → Verdict
+verdict_from number =
+    if number == 1 then Dekkingstekort else if number == 2 then Reservetekort else if number == 3 then VrijVermogen else Onbeslist
 
 -- "A refusal returns only its number": the verdict and the figures of a refused file are 0
-abbrev pub hostValuation : Result Valuation ℕ → HostValuation
-hostValuation (Err r) = record { refusal = r; verdict = 0; figures = noFigures }
-hostValuation (Ok v) = record { refusal = 0; verdict = verdictNumber v.verdict; figures = v.figures }
+abbrev pub host_valuation : Result Valuation ℕ → HostValuation
+host_valuation (Err r) = record { refusal = r; verdict = 0; figures = no_figures }
+host_valuation (Ok v) = record { refusal = 0; verdict = verdict_number v.verdict; figures = v.figures }
 
 -- what a host's struct says, whether or not a valuation gave it: a number other than 0 is a refusal, whatever stands beside it
 abbrev pub numbered : ℕ → ℕ → Figures → Result Valuation ℕ
-numbered zero verdict figures = Ok (record { figures = figures; verdict = verdictFrom verdict })
+numbered zero verdict figures = Ok (record { figures = figures; verdict = verdict_from verdict })
 numbered (suc r) verdict figures = Err (suc r)
 
-abbrev pub valuationFrom : HostValuation → Result Valuation ℕ
-valuationFrom v = numbered v.refusal v.verdict v.figures
+abbrev pub valuation_from : HostValuation → Result Valuation ℕ
+valuation_from v = numbered v.refusal v.verdict v.figures
 
 -- "a factor .., a money figure .. or blank"
-abbrev pub hostPoint : Point → HostPoint
-hostPoint Blank = record { kind = 0; lower = of_bits binary64 0; upper = of_bits binary64 0 }
-hostPoint (Factor lower upper) = record { kind = 1; lower = lower; upper = upper }
-hostPoint (Money lower upper) = record { kind = 2; lower = lower; upper = upper }
+abbrev pub host_point : Point → HostPoint
+host_point Blank = record { kind = 0; lower = of_bits binary64 0; upper = of_bits binary64 0 }
+host_point (Factor lower upper) = record { kind = 1; lower = lower; upper = upper }
+host_point (Money lower upper) = record { kind = 2; lower = lower; upper = upper }
 
 -- "The writer returns the count of bytes written."; a refusal has written none
-abbrev pub hostSaved : Result ℕ ℕ → HostSaved
-hostSaved (Ok count) = record { refusal = 0; written = count }
-hostSaved (Err r) = record { refusal = r; written = 0 }
+abbrev pub host_saved : Result ℕ ℕ → HostSaved
+host_saved (Ok count) = record { refusal = 0; written = count }
+host_saved (Err r) = record { refusal = r; written = 0 }
 
 -- "The UFR found"; a refusal has found none
-abbrev pub hostUfr : Result ℕ ℕ → HostUfr
-hostUfr (Ok ufr) = record { refusal = 0; ufr = ufr }
-hostUfr (Err r) = record { refusal = r; ufr = 0 }
+abbrev pub host_ufr : Result ℕ ℕ → HostUfr
+host_ufr (Ok ufr) = record { refusal = 0; ufr = ufr }
+host_ufr (Err r) = record { refusal = r; ufr = 0 }

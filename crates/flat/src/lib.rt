@@ -2,8 +2,10 @@
 // brackets are laid out as C does it, so these go as they are.
 #![tactic(auto)]
 
+pub mod part;
+
 ghost use Rattle.std.specs.Prelude.{◌≡◌};
-ghost use Rattle.flat.specs.Flat.{verdictFrom};
+ghost use Rattle.flat.specs.Flat.{verdict_from};
 
 use model::figures::{Figures, Valuation, Verdict};
 use model::window::Point;
@@ -55,10 +57,10 @@ pub struct HostVersion {
 }
 
 impl From<Result<Valuation, Refusal>> for HostValuation {
-    ghost use Rattle.flat.specs.Flat.{hostValuation};
+    ghost use Rattle.flat.specs.Flat.{host_valuation};
     ghost use Rattle.refusal.specs.Numbered.{answer_of};
 
-    ghost from_gives = { λ answer host. host ≡ hostValuation (answer_of answer) };
+    ghost from_gives = { λ answer host. host ≡ host_valuation (answer_of answer) };
 
     fn from(answer: Result<Valuation, Refusal>) -> HostValuation {
         match answer {
@@ -78,7 +80,7 @@ impl From<Result<Valuation, Refusal>> for HostValuation {
 
 // A number that stands for no verdict is undecided. A function and no `From`, since neither type is one of this crate.
 fn verdict_from(number: u8) -> Verdict
-    ensures { result ≡ verdictFrom number }
+    ensures { result ≡ verdict_from number }
 {
     match number {
         1 => Verdict::Dekkingstekort,
@@ -91,11 +93,11 @@ fn verdict_from(number: u8) -> Verdict
 /// The error is the number of a refusal, as the host gives it: any but 0. It goes first: beside one, neither the verdict nor the figures
 /// are looked at. A host can give numbers that no refusal has, so the error is no `Refusal`.
 impl TryFrom<HostValuation> for Valuation {
-    ghost use Rattle.flat.specs.Flat.{valuationFrom};
+    ghost use Rattle.flat.specs.Flat.{valuation_from};
 
     type Error = u8;
 
-    ghost try_from_gives = { λ host answer. answer ≡ valuationFrom host };
+    ghost try_from_gives = { λ host answer. answer ≡ valuation_from host };
 
     fn try_from(host: HostValuation) -> Result<Valuation, u8> {
         if host.refusal != 0 {
@@ -109,10 +111,10 @@ impl TryFrom<HostValuation> for Valuation {
 }
 
 impl From<Result<usize, Refusal>> for HostSaved {
-    ghost use Rattle.flat.specs.Flat.{hostSaved};
+    ghost use Rattle.flat.specs.Flat.{host_saved};
     ghost use Rattle.refusal.specs.Numbered.{answer_of};
 
-    ghost from_gives = { λ answer host. host ≡ hostSaved (answer_of answer) };
+    ghost from_gives = { λ answer host. host ≡ host_saved (answer_of answer) };
 
     fn from(answer: Result<usize, Refusal>) -> HostSaved {
         match answer {
@@ -129,10 +131,10 @@ impl From<Result<usize, Refusal>> for HostSaved {
 }
 
 impl From<Result<u64, Refusal>> for HostUfr {
-    ghost use Rattle.flat.specs.Flat.{hostUfr};
+    ghost use Rattle.flat.specs.Flat.{host_ufr};
     ghost use Rattle.refusal.specs.Numbered.{answer_of};
 
-    ghost from_gives = { λ answer host. host ≡ hostUfr (answer_of answer) };
+    ghost from_gives = { λ answer host. host ≡ host_ufr (answer_of answer) };
 
     fn from(answer: Result<u64, Refusal>) -> HostUfr {
         match answer {
@@ -146,9 +148,9 @@ impl From<Result<u64, Refusal>> for HostUfr {
 }
 
 impl From<Point> for HostPoint {
-    ghost use Rattle.flat.specs.Flat.{hostPoint};
+    ghost use Rattle.flat.specs.Flat.{host_point};
 
-    ghost from_gives = { λ p host. host ≡ hostPoint p };
+    ghost from_gives = { λ p host. host ≡ host_point p };
 
     fn from(p: Point) -> HostPoint {
         let (kind, lower, upper) = match p {

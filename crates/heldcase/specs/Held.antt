@@ -1,9 +1,9 @@
 -- The case as the engine holds it: the struct `Case` of src/lib.rt that represents a case of document 01.
 use Rattle.std.specs.Prelude.{suc, [], replicate}
-use Rattle.model.specs.Constants.{defaultUfr}
+use Rattle.model.specs.Constants.{default_ufr}
 use Rattle.model.specs.Numbers.{table}
-use Rattle.model.specs.Case.{FileCase, perStep}
-use Rattle.model.specs.Layout.{noAmounts, shocksFrom}
+use Rattle.model.specs.Case.{FileCase, per_step}
+use Rattle.model.specs.Layout.{no_amounts, shocks_from}
 use Rattle.method.specs.Curve.{base, curve, P}
 use Rattle.heldcase.specs.declared.Case.{Case}
 
@@ -11,7 +11,7 @@ use Rattle.heldcase.specs.declared.Case.{Case}
 unfoldable pub held : FileCase → Case
 held k = record {
   ufr = k.ufr;
-  per_step = perStep k;
+  per_step = per_step k;
   sums = table (λ i. P (curve k base) (suc i)) 60;
   pension = k.pension;
   bonds = k.bonds;
@@ -21,14 +21,14 @@ held k = record {
 }
 
 -- the default case: the UFR of a file without that field, no bonds and no amounts, as a file that lacks them has, and all else 0
-unfoldable pub defaultCase : Case
-defaultCase = record {
-  ufr = defaultUfr;
+unfoldable pub default_case : Case
+default_case = record {
+  ufr = default_ufr;
   per_step = 0;
   sums = replicate 60 0;
   pension = [];
   bonds = [];
-  amounts = noAmounts;
-  shocks = shocksFrom ([], (0, 0));
+  amounts = no_amounts;
+  shocks = shocks_from ([], (0, 0));
   people = record { heads = 0; pension_age = 0; mean_age = 0 };
 }

@@ -5,7 +5,7 @@
 pub mod flows;
 
 ghost use Rattle.std.specs.Prelude.{◌≡◌};
-ghost use Rattle.heldcase.specs.Held.{defaultCase};
+ghost use Rattle.heldcase.specs.Held.{default_case};
 
 use flows::Flows;
 use model::case::{Amounts, People, Shocks};
@@ -46,11 +46,11 @@ impl Case {
 }
 
 impl Default for Case {
-    ghost is_default = { λ c. c ≡ defaultCase };
+    ghost is_default = { λ c. c ≡ default_case };
 
     // The case with the default UFR, no flows, and 0 in every other field. Not derived, since the default UFR is not 0. The goal stays open
     // where the definition is not unfolded.
-    #[tactic(auto, unfolding(crate::specs::Held::defaultCase))]
+    #[tactic(auto, unfolding(crate::specs::Held::default_case))]
     fn default() -> Case {
         Case {
             ufr: Case::DEFAULT_UFR,

@@ -3,34 +3,34 @@
 #![tactic(auto)]
 
 ghost use Rattle.std.specs.Prelude.{◌≡◌, length, take, drop};
-ghost use Rattle.method.specs.Buffers.{valuationOf, factorsAfter, ratesAfter};
-ghost use Rattle.monthsmodel.specs.Months.{ufrAnswer, monthsValuation, monthsFactorsAfter, monthsRatesAfter};
-ghost use Rattle.model.specs.Refusals.{refusal, ratesPart};
-ghost use Rattle.rollingmodel.specs.Rolling.{emptyWindow, addDay, dropDay, windowValuation, windowFactorsAfter, windowRatesAfter};
-ghost use Rattle.method.specs.Window.{windowPoint};
-ghost use Rattle.method.specs.Listing.{listingAfter, listingLength};
-ghost use Rattle.savingmodel.specs.Saving.{given, saveAnswer, savedAfter};
-ghost use Rattle.flat.specs.Flat.{hostValuation, hostPoint, valuationFrom, hostSaved, hostUfr};
+ghost use Rattle.method.specs.Buffers.{valuation_of, factors_after, rates_after};
+ghost use Rattle.monthsmodel.specs.Months.{ufr_answer, months_valuation, months_factors_after, months_rates_after};
+ghost use Rattle.model.specs.Refusals.{refusal, rates_part};
+ghost use Rattle.rollingmodel.specs.Rolling.{empty_window, add_day, drop_day, rolling_valuation, rolling_factors_after, rolling_rates_after};
+ghost use Rattle.method.specs.Window.{window_point};
+ghost use Rattle.method.specs.Listing.{listing_after, listing_length};
+ghost use Rattle.savingmodel.specs.Saving.{given, save_answer, saved_after};
+ghost use Rattle.flat.specs.Flat.{host_valuation, host_point, valuation_from, host_saved, host_ufr};
 ghost use Rattle.flat.specs.Version.{engine_version};
-ghost use Rattle.ratesplace.specs.Part.{hostPart};
+ghost use Rattle.flat.specs.Part.{host_part};
 ghost use Rattle.refusal.specs.Numbered.{refused_by};
 
 use engine::value;
+use flat::part::{HostPart, rates_place};
 use flat::{HostPoint, HostSaved, HostUfr, HostValuation, HostVersion};
-use history::ufr_of;
+use listing::points::window_point;
 use listing::write_listing;
 use model::case::CaseFields;
 use model::figures::{Figures, Valuation};
+use months::ufr::ufr_of;
 use months::value_with_months;
-use ratesplace::{HostPart, rates_place};
 use reader::file::refusal_of;
 use refusal::Refusal;
+use rolling::valued::value_window;
 use rolling::{add_day, drop_day, empty};
 use rollingmodel::{ChangedWindow, Day, RollingWindow};
-use rollingvalue::value_window;
 use saving::given::GivenCase;
 use saving::save;
-use window::window_point;
 
 mod version;
 
@@ -64,9 +64,9 @@ pub extern "C" fn ginghamowl_value(
     factors: &mut [u64],
     rates: &mut [i64],
 ) -> HostValuation
-    ensures value { result ≡ hostValuation (valuationOf (length factors.old) (length rates.old) file.now) }
-    ensures factors { factors.new ≡ factorsAfter file.now factors.old rates.old }
-    ensures rates { rates.new ≡ ratesAfter file.now factors.old rates.old }
+    ensures value { result ≡ host_valuation (valuation_of (length factors.old) (length rates.old) file.now) }
+    ensures factors { factors.new ≡ factors_after file.now factors.old rates.old }
+    ensures rates { rates.new ≡ rates_after file.now factors.old rates.old }
 {
     value(file, factors, rates).into()
 }
@@ -79,12 +79,12 @@ pub extern "C" fn ginghamowl_refusal(file: &[u8]) -> u8
     refusal_of(file)
 }
 
-// Where the rates stand in the file, as `ratesplace::rates_place` finds it: n × 120 bytes, or n × 240 of rates of four bytes; 0 and 0
+// Where the rates stand in the file, as `flat::part::rates_place` finds it: n × 120 bytes, or n × 240 of rates of four bytes; 0 and 0
 // where the file is refused. Only a refused file has an empty part.
 #[unsafe(no_mangle)]
 pub extern "C" fn ginghamowl_rates_part(file: &[u8]) -> HostPart
-    ensures value { result ≡ hostPart file.now }
-    ensures part { take result.length (drop result.offset file.now) ≡ ratesPart file.now }
+    ensures value { result ≡ host_part file.now }
+    ensures part { take result.length (drop result.offset file.now) ≡ rates_part file.now }
 {
     rates_place(file)
 }
@@ -97,7 +97,7 @@ pub extern "C" fn ginghamowl_window_point(
     factors: &[u64],
     figures: Figures,
 ) -> HostPoint
-    ensures { result ≡ hostPoint (windowPoint point factors.now figures) }
+    ensures { result ≡ host_point (window_point point factors.now figures) }
 {
     window_point(point, factors, figures).into()
 }
@@ -106,8 +106,8 @@ pub extern "C" fn ginghamowl_window_point(
 // is left alone, and the answer is 0.
 #[unsafe(no_mangle)]
 pub extern "C" fn ginghamowl_listing(valuation: HostValuation, out: &mut [u8]) -> usize
-    ensures value { result ≡ listingLength (valuationFrom valuation) (length out.old) }
-    ensures text { out.new ≡ listingAfter (valuationFrom valuation) out.old }
+    ensures value { result ≡ listing_length (valuation_from valuation) (length out.old) }
+    ensures text { out.new ≡ listing_after (valuation_from valuation) out.old }
 {
     write_listing(Valuation::try_from(valuation), out)
 }
@@ -121,9 +121,9 @@ pub extern "C" fn ginghamowl_save(
     bonds: &[u64],
     out: &mut [u8],
 ) -> HostSaved
-    ensures value { result ≡ hostSaved
-        (saveAnswer (given fields rates.now pension.now bonds.now) (length out.old)) }
-    ensures buffer { out.new ≡ savedAfter (given fields rates.now pension.now bonds.now) out.old }
+    ensures value { result ≡ host_saved
+        (save_answer (given fields rates.now pension.now bonds.now) (length out.old)) }
+    ensures buffer { out.new ≡ saved_after (given fields rates.now pension.now bonds.now) out.old }
 {
     let case = GivenCase {
         fields: &fields,
@@ -137,7 +137,7 @@ pub extern "C" fn ginghamowl_save(
 // An empty rolling window.
 #[unsafe(no_mangle)]
 pub extern "C" fn ginghamowl_rolling_empty() -> RollingWindow
-    ensures { result ≡ emptyWindow }
+    ensures { result ≡ empty_window }
 {
     empty()
 }
@@ -145,24 +145,24 @@ pub extern "C" fn ginghamowl_rolling_empty() -> RollingWindow
 // The rolling window with a day behind the newest, as `rolling::add_day` gives it.
 #[unsafe(no_mangle)]
 pub extern "C" fn ginghamowl_rolling_add(window: RollingWindow, day: Day) -> ChangedWindow
-    ensures { result ≡ addDay window day.rates }
+    ensures { result ≡ add_day window day.rates }
 {
-    let mut window = window;
-    let refusal = number_of(add_day(&mut window, &day));
-    ChangedWindow { refusal, window }
+    let mut changed = ChangedWindow { refusal: 0, window };
+    changed.refusal = number_of(add_day(&mut changed.window, &day));
+    changed
 }
 
 // The rolling window without its oldest day, as `rolling::drop_day` gives it.
 #[unsafe(no_mangle)]
 pub extern "C" fn ginghamowl_rolling_drop(window: RollingWindow) -> ChangedWindow
-    ensures { result ≡ dropDay window }
+    ensures { result ≡ drop_day window }
 {
-    let mut window = window;
-    let refusal = number_of(drop_day(&mut window));
-    ChangedWindow { refusal, window }
+    let mut changed = ChangedWindow { refusal: 0, window };
+    changed.refusal = number_of(drop_day(&mut changed.window));
+    changed
 }
 
-// Values the days of a rolling window with the other fields of a case, as `rollingvalue::value_window` does.
+// Values the days of a rolling window with the other fields of a case, as `rolling::valued::value_window` does.
 #[unsafe(no_mangle)]
 pub extern "C" fn ginghamowl_rolling_value(
     window: RollingWindow,
@@ -173,12 +173,12 @@ pub extern "C" fn ginghamowl_rolling_value(
     factors: &mut [u64],
     rates: &mut [i64],
 ) -> HostValuation
-    ensures value { result ≡ hostValuation
-        (windowValuation window (given fields case_rates.now pension.now bonds.now)
+    ensures value { result ≡ host_valuation
+        (rolling_valuation window (given fields case_rates.now pension.now bonds.now)
         (length factors.old) (length rates.old)) }
-    ensures factors { factors.new ≡ windowFactorsAfter window (given fields case_rates.now pension.now bonds.now)
+    ensures factors { factors.new ≡ rolling_factors_after window (given fields case_rates.now pension.now bonds.now)
         factors.old rates.old }
-    ensures rates { rates.new ≡ windowRatesAfter window (given fields case_rates.now pension.now bonds.now)
+    ensures rates { rates.new ≡ rolling_rates_after window (given fields case_rates.now pension.now bonds.now)
         factors.old rates.old }
 {
     let case = GivenCase {
@@ -187,13 +187,13 @@ pub extern "C" fn ginghamowl_rolling_value(
         pension,
         bonds,
     };
-    value_window(window, &case, factors, rates).into()
+    value_window(&window, &case, factors, rates).into()
 }
 
-// The UFR that a history of months gives, as `history::ufr_of` finds it.
+// The UFR that a history of months gives, as `months::ufr::ufr_of` finds it.
 #[unsafe(no_mangle)]
 pub extern "C" fn ginghamowl_ufr_of(history: &[u8], start: u64) -> HostUfr
-    ensures { result ≡ hostUfr (ufrAnswer history.now start) }
+    ensures { result ≡ host_ufr (ufr_answer history.now start) }
 {
     ufr_of(history, start).into()
 }
@@ -207,10 +207,10 @@ pub extern "C" fn ginghamowl_value_with_months(
     factors: &mut [u64],
     rates: &mut [i64],
 ) -> HostValuation
-    ensures value { result ≡ hostValuation
-        (monthsValuation file.now history.now start (length factors.old) (length rates.old)) }
-    ensures factors { factors.new ≡ monthsFactorsAfter file.now history.now start factors.old rates.old }
-    ensures rates { rates.new ≡ monthsRatesAfter file.now history.now start factors.old rates.old }
+    ensures value { result ≡ host_valuation
+        (months_valuation file.now history.now start (length factors.old) (length rates.old)) }
+    ensures factors { factors.new ≡ months_factors_after file.now history.now start factors.old rates.old }
+    ensures rates { rates.new ≡ months_rates_after file.now history.now start factors.old rates.old }
 {
     value_with_months(file, history, start, factors, rates).into()
 }

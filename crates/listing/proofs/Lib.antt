@@ -1,3 +1,3 @@
--- Laws that the proofs of the functions cite.
+-- Laws that the proofs of the functions cite, and the theorem that the window shows every factor and figure of an accepted case.
 pub mod Texts
 pub mod Worked

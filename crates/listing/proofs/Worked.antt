@@ -3,7 +3,7 @@ use mathlib.Core.Path.{◌≡◌, refl}
 use Prim.Native.Nat.{ℕ}
 use Rattle.std.specs.Prelude.{Ok, Err}
 use Rattle.model.specs.Numbers.{table}
-use Rattle.method.specs.Listing.{ascii, digits, decimal, word, line, listing}
+use Rattle.method.specs.Listing.{ascii, digits, decimal, word, line, figure_lines, listing}
 use Rattle.arith.specs.declared.bracket.Bracket.{Bracket}
 use Rattle.model.specs.declared.figures.Figures.{Figures}
 use Rattle.model.specs.declared.figures.Verdict.TheVariants.{VrijVermogen}
@@ -11,9 +11,9 @@ use Rattle.model.specs.declared.figures.Verdict.TheVariants.{VrijVermogen}
 both : ℕ → Bracket
 both n = record { lower = n; upper = n }
 
-pub figuresC1 : Figures
+pub figures_c1 : Figures
 unfolding both
-figuresC1 = record {
+figures_c1 = record {
   l = both 100000000;
   b = both 0;
   a = both 110000000;
@@ -27,9 +27,9 @@ figuresC1 = record {
 }
 
 pub listing-C1 :
-    listing (Ok (record { figures = figuresC1; verdict = VrijVermogen }))
+    listing (Ok (record { figures = figures_c1; verdict = VrijVermogen }))
     ≡ ascii "L 100000000 100000000\nB 0 0\nA 110000000 110000000\nS1 0 0\nS2 0 0\nS3 0 0\nS4 0 0\nS5 0 0\nS6 10000000 10000000\nS 10000000 10000000\nV VRIJ VERMOGEN\n"
-unfolding both figuresC1 table ascii digits decimal word line listing
+unfolding both figures_c1 table ascii digits decimal word line figure_lines listing
 listing-C1 = refl
 
 pub listing-13 : listing (Err 13) ≡ ascii "R 13\n"

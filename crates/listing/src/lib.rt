@@ -1,16 +1,20 @@
-// The listing of a valuation: its text, printed or written to a lent buffer. The engine has no heap, so the text is put together in a buffer
-// of fixed size.
+// What a host shows of a valuation: its listing, as a text that is printed or written to a lent buffer, and the points of its window. The
+// engine has no heap, so the text is put together in a buffer of fixed size.
 // Goals of three functions stay open where what a listing is made of is not unfolded.
-#![tactic(auto, unfolding(crate::specs::inner::Parts::spaced, crate::specs::inner::Parts::named, crate::specs::inner::Parts::figureLines, method::specs::Listing::ascii, method::specs::Listing::word, method::specs::Listing::listing, model::specs::Numbers::table))]
+#![tactic(auto, unfolding(crate::specs::inner::Parts::spaced, method::specs::Listing::ascii, method::specs::Listing::word, method::specs::Listing::listing, model::specs::Numbers::table))]
 
-ghost use Rattle.std.specs.Prelude.{◌≡◌, ◌+◌, ◌≤◌, ◌++◌, All, OnOk, length, take};
+pub mod figures;
+pub mod points;
+
+ghost use Rattle.std.specs.Prelude.{◌≡◌, ◌+◌, ◌≤◌, ◌++◌, OnOk, length, take};
 ghost use Rattle.std.specs.Io.KnownBytes.{Appends};
-ghost use Rattle.std.specs.List.{flat_map};
 ghost use Rattle.arrayvec.specs.ArrayVec.{array_vec_len};
-ghost use Rattle.method.specs.Listing.{decimal, word, listing, listingAfter, listingLength};
-ghost use Rattle.listing.specs.inner.Parts.{spaced, named, figureLines, judged};
+ghost use Rattle.method.specs.Listing.{line, figure_lines, word, listing, listing_after, listing_length};
+ghost use Rattle.listing.specs.Lines.{IsLineByLine};
+ghost use Rattle.listing.specs.inner.Parts.{spaced};
 
 use arrayvec::ArrayVec;
+use figures::named_figures;
 use itoa::Buffer;
 use model::figures::{Bracket, Figures, Valuation, Verdict};
 use std::io;
@@ -44,9 +48,10 @@ fn push_number(text: &mut Text, n: u64)
 }
 
 // One line: name, lower, upper.
+#[tactic(auto, unfolding(crate::specs::inner::Parts::spaced, method::specs::Listing::line, method::specs::Listing::ascii, model::specs::Numbers::table))]
 fn push_line(text: &mut Text, name: &[u8], b: Bracket)
     requires { (length name.now ≤ 2) × (array_vec_len text.old + 45 ≤ 512) }
-    ensures items { text.new.items ≡ text.old.items ++ named name.now b }
+    ensures items { text.new.items ≡ text.old.items ++ line name.now b }
     ensures len { array_vec_len text.new ≤ array_vec_len text.old + 45 }
 {
     push(text, name);
@@ -55,29 +60,10 @@ fn push_line(text: &mut Text, name: &[u8], b: Bracket)
     push(text, b"\n");
 }
 
-// The figures under their names, in the order of the listing. Field by field, since C's struct has no list of its fields.
-fn named_figures(f: Figures) -> [(&'static [u8], Bracket); 10]
-    ensures lines { flat_map (λ p. named p.0.now p.1) result ≡ figureLines f }
-    ensures short { All (λ p. length p.0.now ≤ 2) result }
-{
-    [
-        (b"L", f.l),
-        (b"B", f.b),
-        (b"A", f.a),
-        (b"S1", f.s1),
-        (b"S2", f.s2),
-        (b"S3", f.s3),
-        (b"S4", f.s4),
-        (b"S5", f.s5),
-        (b"S6", f.s6),
-        (b"S", f.s),
-    ]
-}
-
 // The lines of all ten figures.
 fn push_figures(text: &mut Text, f: Figures)
     requires { array_vec_len text.old + 450 ≤ 512 }
-    ensures items { text.new.items ≡ text.old.items ++ figureLines f }
+    ensures items { text.new.items ≡ text.old.items ++ figure_lines f }
     ensures len { array_vec_len text.new ≤ array_vec_len text.old + 450 }
 {
     for (name, bracket) in named_figures(f) {
@@ -118,6 +104,13 @@ pub fn text_of(v: Result<Valuation, u8>) -> Text
     text
 }
 
+/// The listing of a valuation is ten lines, each of a figure under its own name, and that of the verdict. It does nothing: its contract is
+/// this law.
+#[tactic(auto, using(crate::proofs::Texts::line_by_line))]
+pub fn listing_line_by_line()
+    ensures { IsLineByLine }
+{}
+
 /// Prints the listing of a valuation, or of the number of a refusal.
 pub fn print<W: Write>(out: &mut W, v: Result<Valuation, u8>) -> io::Result<()>
     ensures { OnOk result (Appends (W.contents out.old) (W.contents out.new) (listing v)) }
@@ -128,8 +121,8 @@ pub fn print<W: Write>(out: &mut W, v: Result<Valuation, u8>) -> io::Result<()>
 /// Writes the listing of a valuation to the front of a buffer, and answers its length. A buffer that is too short is left alone; then
 /// the answer is 0, as C is told it. The error is the number of a refusal, also one that a host made up.
 pub fn write_listing(v: Result<Valuation, u8>, out: &mut [u8]) -> usize
-    ensures count { result ≡ listingLength v (length out.old) }
-    ensures text { out.new ≡ listingAfter v out.old }
+    ensures count { result ≡ listing_length v (length out.old) }
+    ensures text { out.new ≡ listing_after v out.old }
     ensures part { (result ≤ length out.new) × (result ≡ length (take result out.new)) }
 {
     let text = text_of(v);

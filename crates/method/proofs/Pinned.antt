@@ -11,24 +11,24 @@ use lib.Dec.{lit<, lit≤}
 use lib.ListN.{replicate}
 use lib.IntN.{pos, neg_ℤ}
 use Rattle.arith.specs.Rounding.{low, high}
-use Rattle.model.specs.Constants.{lastTerm}
+use Rattle.model.specs.Constants.{last_term}
 use Rattle.model.specs.Case.{FileCase, s}
-use Rattle.model.specs.Layout.{fileOf}
+use Rattle.model.specs.Layout.{file_of}
 use Rattle.method.specs.Fraction.{◌//◌, ◌≐◌, whole}
 use Rattle.method.specs.Curve.{Curve, base, up, down, curve, P}
 use Rattle.method.specs.Exact as Exact
 use Rattle.method.specs.Rounded as Rounded
-use Rattle.method.specs.Buffers.{entry_of, factorEntries}
-use Rattle.method.specs.Margins.{WL, WB, NearFirst, NearSecond, firstMargin, secondMargin}
+use Rattle.method.specs.Buffers.{entry_of, factor_entries}
+use Rattle.method.specs.Margins.{WL, WB, NearFirst, NearSecond, first_margin, second_margin}
 use Rattle.method.specs.Demand3.{
-  leastStep,
-  mostStep,
-  factorWidthMost,
-  rateWidthMost,
-  LWidthMost,
-  BWidthMost,
-  AWidthMost,
-  SWidthMost,
+  least_step,
+  most_step,
+  factor_width_most,
+  rate_width_most,
+  L_width_most,
+  B_width_most,
+  A_width_most,
+  S_width_most,
 }
 use Rattle.method.specs.Listing.{ascii, word}
 use Rattle.model.specs.declared.figures.Verdict.TheVariants.{Dekkingstekort, Reservetekort, VrijVermogen}
@@ -36,14 +36,14 @@ use Rattle.model.proofs.Computing.{pairs}
 use Rattle.method.proofs.Computing.{all}
 
 -- A bent curve of three days: the rates rise, fall, rise and fall with the term, and the short ones are negative.
-abbrev pub bentFile : List ℕ
-bentFile =
+abbrev pub bent_file : List ℕ
+bent_file =
     (0x00 ∷ 0x77 ∷ 0x10 ∷ 0xe1 ∷ 0x03 ∷ 0xfe ∷ 0xde ∷ 0xff ∷ 0x1a ∷ 0xff ∷ 0x56 ∷ 0xff ∷ 0x92 ∷ 0xff ∷ 0xce ∷ 0x00 ∷ 0x0a ∷ 0x00 ∷ 0x46 ∷ 0x00 ∷ 0x82 ∷ 0x00 ∷ 0xbe ∷ 0x00 ∷ 0xfa ∷ 0x01 ∷ 0x36 ∷ 0x01 ∷ 0x72 ∷ 0x01 ∷ 0xae ∷ 0x01 ∷ 0xea ∷ 0x02 ∷ 0x26 ∷ 0x02 ∷ 0x0d ∷ 0x01 ∷ 0xf4 ∷ 0x01 ∷ 0xdb ∷ 0x01 ∷ 0xc2 ∷ 0x01 ∷ 0xa9 ∷ 0x01 ∷ 0x90 ∷ 0x01 ∷ 0x77 ∷ 0x01 ∷ 0x5e ∷ 0x01 ∷ 0x45 ∷ 0x01 ∷ 0x2c ∷ 0x01 ∷ 0x13 ∷ 0x00 ∷ 0xfa ∷ 0x00 ∷ 0xe1 ∷ 0x00 ∷ 0xc8 ∷ 0x00 ∷ 0xaf ∷ 0x00 ∷ 0xd7 ∷ 0x00 ∷ 0xff ∷ 0x01 ∷ 0x27 ∷ 0x01 ∷ 0x4f ∷ 0x01 ∷ 0x77 ∷ 0x01 ∷ 0x9f ∷ 0x01 ∷ 0xc7 ∷ 0x01 ∷ 0xef ∷ 0x02 ∷ 0x17 ∷ 0x02 ∷ 0x3f ∷ 0x02 ∷ 0x67 ∷ 0x02 ∷ 0x8f ∷ 0x02 ∷ 0xb7 ∷ 0x02 ∷ 0xdf ∷ 0x03 ∷ 0x07 ∷ 0x02 ∷ 0xf8 ∷ 0x02 ∷ 0xe9 ∷ 0x02 ∷ 0xda ∷ 0x02 ∷ 0xcb ∷ 0x02 ∷ 0xbc ∷ 0x02 ∷ 0xad ∷ 0x02 ∷ 0x9e ∷ 0x02 ∷ 0x8f ∷ 0x02 ∷ 0x80 ∷ 0x02 ∷ 0x71 ∷ 0x02 ∷ 0x62 ∷ 0x02 ∷ 0x53 ∷ 0x02 ∷ 0x44 ∷ 0x02 ∷ 0x35 ∷ 0x02 ∷ 0x26 ∷ 0xfe ∷ 0xe8 ∷ 0xff ∷ 0x20 ∷ 0xff ∷ 0x63 ∷ 0xff ∷ 0x9b ∷ 0xff ∷ 0xd3 ∷ 0x00 ∷ 0x16 ∷ 0x00 ∷ 0x4e ∷ 0x00 ∷ 0x86 ∷ 0x00 ∷ 0xc9 ∷ 0x01 ∷ 0x01 ∷ 0x01 ∷ 0x39 ∷ 0x01 ∷ 0x7c ∷ 0x01 ∷ 0xb4 ∷ 0x01 ∷ 0xf7 ∷ 0x02 ∷ 0x2f ∷ 0x02 ∷ 0x12 ∷ 0x02 ∷ 0x00 ∷ 0x01 ∷ 0xe3 ∷ 0x01 ∷ 0xc6 ∷ 0x01 ∷ 0xb4 ∷ 0x01 ∷ 0x97 ∷ 0x01 ∷ 0x7a ∷ 0x01 ∷ 0x68 ∷ 0x01 ∷ 0x4b ∷ 0x01 ∷ 0x39 ∷ 0x01 ∷ 0x1c ∷ 0x00 ∷ 0xff ∷ 0x00 ∷ 0xed ∷ 0x00 ∷ 0xd0 ∷ 0x00 ∷ 0xb3 ∷ 0x00 ∷ 0xe2 ∷ 0x01 ∷ 0x06 ∷ 0x01 ∷ 0x2a ∷ 0x01 ∷ 0x59 ∷ 0x01 ∷ 0x7d ∷ 0x01 ∷ 0xac ∷ 0x01 ∷ 0xd0 ∷ 0x01 ∷ 0xf4 ∷ 0x02 ∷ 0x23 ∷ 0x02 ∷ 0x47 ∷ 0x02 ∷ 0x6b ∷ 0x02 ∷ 0x9a ∷ 0x02 ∷ 0xbe ∷ 0x02 ∷ 0xe2 ∷ 0x03 ∷ 0x11 ∷ 0x02 ∷ 0xfe ∷ 0x02 ∷ 0xf6 ∷ 0x02 ∷ 0xe3 ∷ 0x02 ∷ 0xd0 ∷ 0x02 ∷ 0xc8 ∷ 0x02 ∷ 0xb5 ∷ 0x02 ∷ 0xa2 ∷ 0x02 ∷ 0x9a ∷ 0x02 ∷ 0x87 ∷ 0x02 ∷ 0x74 ∷ 0x02 ∷ 0x6c ∷ 0x02 ∷ 0x59 ∷ 0x02 ∷ 0x51 ∷ 0x02 ∷ 0x3e ∷ 0x02 ∷ 0x2b ∷ 0xfe ∷ 0xbe ∷ 0xfe ∷ 0xff ∷ 0xff ∷ 0x33 ∷ 0xff ∷ 0x74 ∷ 0xff ∷ 0xb5 ∷ 0xff ∷ 0xe9 ∷ 0x00 ∷ 0x2a ∷ 0x00 ∷ 0x5e ∷ 0x00 ∷ 0x9f ∷ 0x00 ∷ 0xe0 ∷ 0x01 ∷ 0x14 ∷ 0x01 ∷ 0x55 ∷ 0x01 ∷ 0x89 ∷ 0x01 ∷ 0xca ∷ 0x02 ∷ 0x0b ∷ 0x01 ∷ 0xea ∷ 0x01 ∷ 0xd6 ∷ 0x01 ∷ 0xc2 ∷ 0x01 ∷ 0xa1 ∷ 0x01 ∷ 0x8d ∷ 0x01 ∷ 0x6c ∷ 0x01 ∷ 0x58 ∷ 0x01 ∷ 0x44 ∷ 0x01 ∷ 0x23 ∷ 0x01 ∷ 0x0f ∷ 0x00 ∷ 0xee ∷ 0x00 ∷ 0xda ∷ 0x00 ∷ 0xc6 ∷ 0x00 ∷ 0xa5 ∷ 0x00 ∷ 0x91 ∷ 0x00 ∷ 0xbe ∷ 0x00 ∷ 0xde ∷ 0x01 ∷ 0x0b ∷ 0x01 ∷ 0x2b ∷ 0x01 ∷ 0x58 ∷ 0x01 ∷ 0x85 ∷ 0x01 ∷ 0xa5 ∷ 0x01 ∷ 0xd2 ∷ 0x01 ∷ 0xf2 ∷ 0x02 ∷ 0x1f ∷ 0x02 ∷ 0x4c ∷ 0x02 ∷ 0x6c ∷ 0x02 ∷ 0x99 ∷ 0x02 ∷ 0xc6 ∷ 0x02 ∷ 0xe6 ∷ 0x02 ∷ 0xdc ∷ 0x02 ∷ 0xc5 ∷ 0x02 ∷ 0xbb ∷ 0x02 ∷ 0xb1 ∷ 0x02 ∷ 0x9a ∷ 0x02 ∷ 0x90 ∷ 0x02 ∷ 0x79 ∷ 0x02 ∷ 0x6f ∷ 0x02 ∷ 0x65 ∷ 0x02 ∷ 0x4e ∷ 0x02 ∷ 0x44 ∷ 0x02 ∷ 0x3a ∷ 0x02 ∷ 0x23 ∷ 0x02 ∷ 0x19 ∷ 0x02 ∷ 0x02 ∷ 0x01 ∷ 0x00 ∷ 0x0f ∷ 0x42 ∷ 0x40 ∷ []) ++ pairs 26 0x00 0x00 ++ (0x00 ∷ 0x10 ∷ 0xc8 ∷ 0xe0 ∷ []) ++ pairs 17 0x00 0x00 ++ (0x00 ∷ 0x64 ∷ 0x03 ∷ 0x0c ∷ 0x01 ∷ 0xcc ∷ [])
 
 -- the case that it holds
-abbrev pub bentCase : FileCase
-bentCase = record {
-  rateBytes = 2;
+abbrev pub bent_case : FileCase
+bent_case = record {
+  rate_bytes = 2;
   ufr = 4321;
   days = (neg_ℤ (pos 290) ∷ neg_ℤ (pos 230) ∷ neg_ℤ (pos 170) ∷ neg_ℤ (pos 110) ∷ neg_ℤ (pos 50) ∷ pos 10 ∷ pos 70 ∷ pos 130 ∷ pos 190 ∷ pos 250
       ∷ pos 310 ∷ pos 370 ∷ pos 430 ∷ pos 490 ∷ pos 550 ∷ pos 525 ∷ pos 500 ∷ pos 475 ∷ pos 450 ∷ pos 425
@@ -101,91 +101,91 @@ bentCase = record {
   };
 }
 
-bent-layout : fileOf (record { ufr = true; bonds = false; amounts = true }) bentCase ≡ bentFile
+bent-layout : file_of (record { ufr = true; bonds = false; amounts = true }) bent_case ≡ bent_file
 unfolding all
 bent-layout = refl
 
-abbrev pub bentCurve : Curve
-bentCurve = curve bentCase base
+abbrev pub bent_curve : Curve
+bent_curve = curve bent_case base
 
-bent-sums : (s bentCase.days 0 ≡ pos 0)
-    × (s bentCase.days 1 ≡ neg_ℤ (pos 892))
-    × (s bentCase.days 20 ≡ pos 1258)
-    × (s bentCase.days 21 ≡ pos 1171)
-    × (s bentCase.days 60 ≡ pos 1619)
+bent-sums : (s bent_case.days 0 ≡ pos 0)
+    × (s bent_case.days 1 ≡ neg_ℤ (pos 892))
+    × (s bent_case.days 20 ≡ pos 1258)
+    × (s bent_case.days 21 ≡ pos 1171)
+    × (s bent_case.days 60 ≡ pos 1619)
 unfolding all
 bent-sums = (refl, refl, refl, refl, refl)
 
-bent-growth-21 : (Rounded.growth bentCurve low 21 ≡ 998120888448)
-    × (Rounded.growth bentCurve high 21 ≡ 998120888469)
+bent-growth-21 : (Rounded.growth bent_curve low 21 ≡ 998120888448)
+    × (Rounded.growth bent_curve high 21 ≡ 998120888469)
 unfolding all
 bent-growth-21 = (refl, refl)
 
-bent-growth-60 : (Rounded.growth bentCurve low 60 ≡ 994249977157)
-    × (Rounded.growth bentCurve high 60 ≡ 994249977218)
+bent-growth-60 : (Rounded.growth bent_curve low 60 ≡ 994249977157)
+    × (Rounded.growth bent_curve high 60 ≡ 994249977218)
 unfolding all
 bent-growth-60 = (refl, refl)
 
-bent-weighed-21 : (Rounded.weighed bentCurve low 21 ≡ 1001998552041)
-    × (Rounded.weighed bentCurve high 21 ≡ 1001998552061)
+bent-weighed-21 : (Rounded.weighed bent_curve low 21 ≡ 1001998552041)
+    × (Rounded.weighed bent_curve high 21 ≡ 1001998552061)
 unfolding all
 bent-weighed-21 = (refl, refl)
 
-bent-weighed-60 : (Rounded.weighed bentCurve low 60 ≡ 1043112079954)
-    × (Rounded.weighed bentCurve high 60 ≡ 1043112079955)
+bent-weighed-60 : (Rounded.weighed bent_curve low 60 ≡ 1043112079954)
+    × (Rounded.weighed bent_curve high 60 ≡ 1043112079955)
 unfolding all
 bent-weighed-60 = (refl, refl)
 
-bent-weighed-61 : (Rounded.weighed bentCurve low 61 ≡ 1043210000000)
-    × (Rounded.weighed bentCurve high 61 ≡ 1043210000000)
+bent-weighed-61 : (Rounded.weighed bent_curve low 61 ≡ 1043210000000)
+    × (Rounded.weighed bent_curve high 61 ≡ 1043210000000)
 unfolding all
 bent-weighed-61 = (refl, refl)
 
-bent-factor-1 : (Rounded.factor bentCurve low 1 ≡ 1002982200409)
-    × (Rounded.factor bentCurve high 1 ≡ 1002982200410)
+bent-factor-1 : (Rounded.factor bent_curve low 1 ≡ 1002982200409)
+    × (Rounded.factor bent_curve high 1 ≡ 1002982200410)
 unfolding all
 bent-factor-1 = (refl, refl)
 
-bent-factor-20 : (Rounded.factor bentCurve low 20 ≡ 919715113381)
-    × (Rounded.factor bentCurve high 20 ≡ 919715113401)
+bent-factor-20 : (Rounded.factor bent_curve low 20 ≡ 919715113381)
+    × (Rounded.factor bent_curve high 20 ≡ 919715113401)
 unfolding all
 bent-factor-20 = (refl, refl)
 
-bent-factor-21 : (Rounded.factor bentCurve low 21 ≡ 917880681054)
-    × (Rounded.factor bentCurve high 21 ≡ 917880681093)
+bent-factor-21 : (Rounded.factor bent_curve low 21 ≡ 917880681054)
+    × (Rounded.factor bent_curve high 21 ≡ 917880681093)
 unfolding all
 bent-factor-21 = (refl, refl)
 
-bent-entries-21 : (entry_of (factorEntries bentCase) low 21 ≡ 917880681054)
-    × (entry_of (factorEntries bentCase) high 21 ≡ 917880681093)
+bent-entries-21 : (entry_of (factor_entries bent_case) low 21 ≡ 917880681054)
+    × (entry_of (factor_entries bent_case) high 21 ≡ 917880681093)
 unfolding all
 bent-entries-21 = (refl, refl)
 
-bent-exact-factor-1 : Exact.factor bentCurve 1 ≐ 75000 // 74777
+bent-exact-factor-1 : Exact.factor bent_curve 1 ≐ 75000 // 74777
 unfolding all
 bent-exact-factor-1 = (lit< tt, lit< tt, refl)
 
-bent-exact-factor-2 : Exact.factor bentCurve 2 ≐ 10000000000 // 9952656169
+bent-exact-factor-2 : Exact.factor bent_curve 2 ≐ 10000000000 // 9952656169
 unfolding all
 bent-exact-factor-2 = (lit< tt, lit< tt, refl)
 
-bent-exact-growth-61 : Exact.growth bentCurve 61 ≐ 104321 // 100000
+bent-exact-growth-61 : Exact.growth bent_curve 61 ≐ 104321 // 100000
 unfolding all
 bent-exact-growth-61 = (lit< tt, lit< tt, refl)
 
-bent-exact-growth-120 : Exact.growth bentCurve 120 ≐ 104321 // 100000
+bent-exact-growth-120 : Exact.growth bent_curve 120 ≐ 104321 // 100000
 unfolding all
 bent-exact-growth-120 = (lit< tt, lit< tt, refl)
 
 -- A fund with another number in every field, whose bonds are longer than its pensions: the up curve decides S1.
-abbrev pub upFile : List ℕ
-upFile =
+abbrev pub up_file : List ℕ
+up_file =
     (0x00 ∷ 0x7f ∷ 0x10 ∷ 0xe1 ∷ 0x03 ∷ 0x00 ∷ 0xce ∷ 0x00 ∷ 0xe1 ∷ 0x00 ∷ 0xf4 ∷ 0x01 ∷ 0x07 ∷ 0x01 ∷ 0x1a ∷ 0x01 ∷ 0x2d ∷ 0x01 ∷ 0x40 ∷ 0x01 ∷ 0x53 ∷ 0x01 ∷ 0x66 ∷ 0x01 ∷ 0x79 ∷ 0x01 ∷ 0x8c ∷ 0x01 ∷ 0x9f ∷ 0x01 ∷ 0xb2 ∷ 0x01 ∷ 0xc5 ∷ 0x01 ∷ 0xd8 ∷ 0x01 ∷ 0xeb ∷ 0x01 ∷ 0xfe ∷ 0x02 ∷ 0x11 ∷ 0x02 ∷ 0x24 ∷ 0x02 ∷ 0x37 ∷ 0x02 ∷ 0x4a ∷ 0x02 ∷ 0x5d ∷ 0x02 ∷ 0x70 ∷ 0x02 ∷ 0x83 ∷ 0x02 ∷ 0x96 ∷ 0x02 ∷ 0xa9 ∷ 0x02 ∷ 0xbc ∷ 0x02 ∷ 0xcf ∷ 0x02 ∷ 0xe2 ∷ 0x02 ∷ 0xf5 ∷ 0x02 ∷ 0xf4 ∷ 0x02 ∷ 0xf3 ∷ 0x02 ∷ 0xde ∷ 0x02 ∷ 0xdd ∷ 0x02 ∷ 0xdc ∷ 0x02 ∷ 0xc7 ∷ 0x02 ∷ 0xc6 ∷ 0x02 ∷ 0xc5 ∷ 0x02 ∷ 0xb0 ∷ 0x02 ∷ 0xaf ∷ 0x02 ∷ 0xae ∷ 0x02 ∷ 0x99 ∷ 0x02 ∷ 0x98 ∷ 0x02 ∷ 0x97 ∷ 0x02 ∷ 0x82 ∷ 0x02 ∷ 0x81 ∷ 0x02 ∷ 0x80 ∷ 0x02 ∷ 0x6b ∷ 0x02 ∷ 0x6a ∷ 0x02 ∷ 0x69 ∷ 0x02 ∷ 0x54 ∷ 0x02 ∷ 0x53 ∷ 0x02 ∷ 0x52 ∷ 0x02 ∷ 0x3d ∷ 0x02 ∷ 0x3c ∷ 0x02 ∷ 0x3b ∷ 0x02 ∷ 0x26 ∷ 0x02 ∷ 0x25 ∷ 0x02 ∷ 0x24 ∷ 0x02 ∷ 0x0f ∷ 0x00 ∷ 0xfd ∷ 0x01 ∷ 0x13 ∷ 0x01 ∷ 0x29 ∷ 0x01 ∷ 0x3f ∷ 0x01 ∷ 0x55 ∷ 0x01 ∷ 0x6b ∷ 0x01 ∷ 0x81 ∷ 0x01 ∷ 0x97 ∷ 0x01 ∷ 0xad ∷ 0x01 ∷ 0xc3 ∷ 0x01 ∷ 0xd9 ∷ 0x01 ∷ 0xef ∷ 0x02 ∷ 0x05 ∷ 0x02 ∷ 0x1b ∷ 0x02 ∷ 0x31 ∷ 0x02 ∷ 0x47 ∷ 0x02 ∷ 0x5d ∷ 0x02 ∷ 0x73 ∷ 0x02 ∷ 0x89 ∷ 0x02 ∷ 0x9f ∷ 0x02 ∷ 0xb5 ∷ 0x02 ∷ 0xcb ∷ 0x02 ∷ 0xe1 ∷ 0x02 ∷ 0xf7 ∷ 0x03 ∷ 0x0d ∷ 0x03 ∷ 0x23 ∷ 0x03 ∷ 0x39 ∷ 0x03 ∷ 0x4f ∷ 0x03 ∷ 0x65 ∷ 0x03 ∷ 0x7b ∷ 0x03 ∷ 0x7d ∷ 0x03 ∷ 0x7f ∷ 0x03 ∷ 0x6d ∷ 0x03 ∷ 0x6f ∷ 0x03 ∷ 0x71 ∷ 0x03 ∷ 0x5f ∷ 0x03 ∷ 0x61 ∷ 0x03 ∷ 0x63 ∷ 0x03 ∷ 0x51 ∷ 0x03 ∷ 0x53 ∷ 0x03 ∷ 0x55 ∷ 0x03 ∷ 0x43 ∷ 0x03 ∷ 0x45 ∷ 0x03 ∷ 0x47 ∷ 0x03 ∷ 0x35 ∷ 0x03 ∷ 0x37 ∷ 0x03 ∷ 0x39 ∷ 0x03 ∷ 0x27 ∷ 0x03 ∷ 0x29 ∷ 0x03 ∷ 0x2b ∷ 0x03 ∷ 0x19 ∷ 0x03 ∷ 0x1b ∷ 0x03 ∷ 0x1d ∷ 0x03 ∷ 0x0b ∷ 0x03 ∷ 0x0d ∷ 0x03 ∷ 0x0f ∷ 0x02 ∷ 0xfd ∷ 0x02 ∷ 0xff ∷ 0x03 ∷ 0x01 ∷ 0x02 ∷ 0xef ∷ 0x00 ∷ 0xdd ∷ 0x00 ∷ 0xf0 ∷ 0x01 ∷ 0x03 ∷ 0x01 ∷ 0x16 ∷ 0x01 ∷ 0x29 ∷ 0x01 ∷ 0x3c ∷ 0x01 ∷ 0x4f ∷ 0x01 ∷ 0x62 ∷ 0x01 ∷ 0x75 ∷ 0x01 ∷ 0x88 ∷ 0x01 ∷ 0x9b ∷ 0x01 ∷ 0xae ∷ 0x01 ∷ 0xc1 ∷ 0x01 ∷ 0xd4 ∷ 0x01 ∷ 0xe7 ∷ 0x01 ∷ 0xfa ∷ 0x02 ∷ 0x0d ∷ 0x02 ∷ 0x20 ∷ 0x02 ∷ 0x33 ∷ 0x02 ∷ 0x46 ∷ 0x02 ∷ 0x59 ∷ 0x02 ∷ 0x6c ∷ 0x02 ∷ 0x7f ∷ 0x02 ∷ 0x92 ∷ 0x02 ∷ 0xa5 ∷ 0x02 ∷ 0xb8 ∷ 0x02 ∷ 0xcb ∷ 0x02 ∷ 0xde ∷ 0x02 ∷ 0xf1 ∷ 0x03 ∷ 0x04 ∷ 0x03 ∷ 0x03 ∷ 0x03 ∷ 0x02 ∷ 0x02 ∷ 0xed ∷ 0x02 ∷ 0xec ∷ 0x02 ∷ 0xeb ∷ 0x02 ∷ 0xd6 ∷ 0x02 ∷ 0xd5 ∷ 0x02 ∷ 0xd4 ∷ 0x02 ∷ 0xbf ∷ 0x02 ∷ 0xbe ∷ 0x02 ∷ 0xbd ∷ 0x02 ∷ 0xa8 ∷ 0x02 ∷ 0xa7 ∷ 0x02 ∷ 0xa6 ∷ 0x02 ∷ 0x91 ∷ 0x02 ∷ 0x90 ∷ 0x02 ∷ 0x8f ∷ 0x02 ∷ 0x7a ∷ 0x02 ∷ 0x79 ∷ 0x02 ∷ 0x78 ∷ 0x02 ∷ 0x63 ∷ 0x02 ∷ 0x62 ∷ 0x02 ∷ 0x61 ∷ 0x02 ∷ 0x4c ∷ 0x02 ∷ 0x4b ∷ 0x02 ∷ 0x4a ∷ 0x02 ∷ 0x35 ∷ 0x02 ∷ 0x34 ∷ 0x02 ∷ 0x33 ∷ 0x02 ∷ 0x1e ∷ 0x03 ∷ 0x01 ∷ 0xdf ∷ 0x5e ∷ 0x77 ∷ 0x01 ∷ 0x9e ∷ 0xc6 ∷ 0xe2 ∷ 0x00 ∷ 0xf6 ∷ 0xe4 ∷ 0x73 ∷ 0x05 ∷ 0x00 ∷ 0x96 ∷ 0xb4 ∷ 0x3f ∷ 0x00 ∷ 0x00 ∷ 0x00 ∷ 0x00 ∷ 0x02 ∷ 0xb9 ∷ 0x01 ∷ 0x40 ∷ 0x00 ∷ 0x00 ∷ 0x00 ∷ 0x00 ∷ 0x02 ∷ 0x0f ∷ 0x76 ∷ 0xd3 ∷ 0x00 ∷ 0x00 ∷ 0x00 ∷ 0x00 ∷ 0x00 ∷ 0x12 ∷ 0xd6 ∷ 0x87 ∷ 0x00 ∷ 0x00 ∷ 0x00 ∷ 0x00 ∷ 0x00 ∷ 0x0b ∷ 0xad ∷ 0xf9 ∷ 0x00 ∷ 0x00 ∷ 0x00 ∷ 0x00 ∷ 0x00 ∷ 0x08 ∷ 0x49 ∷ 0xeb ∷ 0x00 ∷ 0x00 ∷ 0x00 ∷ 0x00 ∷ 0x00 ∷ 0x0f ∷ 0x12 ∷ 0x0b ∷ 0x00 ∷ 0x00 ∷ 0x00 ∷ 0x00 ∷ 0x00 ∷ 0x04 ∷ 0xe9 ∷ 0xc3 ∷ 0x00 ∷ 0x00 ∷ 0x00 ∷ 0x00 ∷ 0x00 ∷ 0x09 ∷ 0xfb ∷ 0xf1 ∷ 0x00 ∷ 0x00 ∷ 0x00 ∷ 0x00 ∷ 0x00 ∷ 0x01 ∷ 0xb2 ∷ 0x6d ∷ 0x00 ∷ 0x00 ∷ 0x00 ∷ 0x00 ∷ 0x03 ∷ 0xad ∷ 0xbe ∷ 0xaf ∷ 0x01 ∷ 0x40 ∷ 0x00 ∷ 0xb4 ∷ 0x00 ∷ 0xfb ∷ 0x01 ∷ 0x61 ∷ 0x01 ∷ 0x33 ∷ 0x00 ∷ 0x95 ∷ 0x01 ∷ 0xc9 ∷ 0x01 ∷ 0x5d ∷ 0x01 ∷ 0xfd ∷ 0x01 ∷ 0x91 ∷ 0x09 ∷ 0x29 ∷ 0x00 ∷ 0x49 ∷ 0x00 ∷ 0x00 ∷ 0x04 ∷ 0xd5 ∷ 0x03 ∷ 0x24 ∷ 0x02 ∷ 0x1d ∷ [])
 
 -- the case that it holds
-abbrev pub upCase : FileCase
-upCase = record {
-  rateBytes = 2;
+abbrev pub up_case : FileCase
+up_case = record {
+  rate_bytes = 2;
   ufr = 4321;
   days = (pos 206 ∷ pos 225 ∷ pos 244 ∷ pos 263 ∷ pos 282 ∷ pos 301 ∷ pos 320 ∷ pos 339 ∷ pos 358 ∷ pos 377
       ∷ pos 396 ∷ pos 415 ∷ pos 434 ∷ pos 453 ∷ pos 472 ∷ pos 491 ∷ pos 510 ∷ pos 529 ∷ pos 548 ∷ pos 567
@@ -244,114 +244,114 @@ upCase = record {
   };
 }
 
-up-layout : fileOf (record { ufr = true; bonds = true; amounts = true }) upCase ≡ upFile
+up-layout : file_of (record { ufr = true; bonds = true; amounts = true }) up_case ≡ up_file
 unfolding all
 up-layout = refl
 
-up-L : (Rounded.L upCase base low ≡ 7444567283)
-    × (Rounded.L upCase base high ≡ 7444567286)
+up-L : (Rounded.L up_case base low ≡ 7444567283)
+    × (Rounded.L up_case base high ≡ 7444567286)
 unfolding all
 up-L = (refl, refl)
 
-up-B : (Rounded.B upCase base low ≡ 8921231953)
-    × (Rounded.B upCase base high ≡ 8921231956)
+up-B : (Rounded.B up_case base low ≡ 8921231953)
+    × (Rounded.B up_case base high ≡ 8921231956)
 unfolding all
 up-B = (refl, refl)
 
-up-A : (Rounded.A upCase low ≡ 9383071053)
-    × (Rounded.A upCase high ≡ 9383071056)
+up-A : (Rounded.A up_case low ≡ 9383071053)
+    × (Rounded.A up_case high ≡ 9383071056)
 unfolding all
 up-A = (refl, refl)
 
-up-S1 : (Rounded.S1 upCase low ≡ 57600402)
-    × (Rounded.S1 upCase high ≡ 57600414)
+up-S1 : (Rounded.S1 up_case low ≡ 57600402)
+    × (Rounded.S1 up_case high ≡ 57600414)
 unfolding all
 up-S1 = (refl, refl)
 
-up-S2 : (Rounded.S2 upCase low ≡ 89400113)
-    × (Rounded.S2 upCase high ≡ 89400114)
+up-S2 : (Rounded.S2 up_case low ≡ 89400113)
+    × (Rounded.S2 up_case high ≡ 89400114)
 unfolding all
 up-S2 = (refl, refl)
 
-up-S3 : (Rounded.S3 upCase low ≡ 2820521328)
-    × (Rounded.S3 upCase high ≡ 2820521329)
+up-S3 : (Rounded.S3 up_case low ≡ 2820521328)
+    × (Rounded.S3 up_case high ≡ 2820521329)
 unfolding all
 up-S3 = (refl, refl)
 
-up-S4 : (Rounded.S4 upCase low ≡ 11237346)
-    × (Rounded.S4 upCase high ≡ 11237347)
+up-S4 : (Rounded.S4 up_case low ≡ 11237346)
+    × (Rounded.S4 up_case high ≡ 11237347)
 unfolding all
 up-S4 = (refl, refl)
 
-up-S5 : (Rounded.S5 upCase low ≡ 5701305)
-    × (Rounded.S5 upCase high ≡ 5701306)
+up-S5 : (Rounded.S5 up_case low ≡ 5701305)
+    × (Rounded.S5 up_case high ≡ 5701306)
 unfolding all
 up-S5 = (refl, refl)
 
-up-S6 : (Rounded.S6 upCase low ≡ 531400770)
-    × (Rounded.S6 upCase high ≡ 531400771)
+up-S6 : (Rounded.S6 up_case low ≡ 531400770)
+    × (Rounded.S6 up_case high ≡ 531400771)
 unfolding all
 up-S6 = (refl, refl)
 
-up-S : (Rounded.S upCase low ≡ 2872860281)
-    × (Rounded.S upCase high ≡ 2872860283)
+up-S : (Rounded.S up_case low ≡ 2872860281)
+    × (Rounded.S up_case high ≡ 2872860283)
 unfolding all
 up-S = (refl, refl)
 
-up-exact-L : Exact.L upCase base ≐ 168155064767139827083435640625 // 22587621057143702912
+up-exact-L : Exact.L up_case base ≐ 168155064767139827083435640625 // 22587621057143702912
 unfolding all
 up-exact-L = (lit< tt, lit< tt, refl)
 
-up-exact-B : Exact.B upCase base ≐ 335543059470507098458367512603970578125 // 37611740305631749979809095826
+up-exact-B : Exact.B up_case base ≐ 335543059470507098458367512603970578125 // 37611740305631749979809095826
 unfolding all
 up-exact-B = (lit< tt, lit< tt, refl)
 
-up-exact-A : Exact.A upCase ≐ 352913631762693790800467563592064174725 // 37611740305631749979809095826
+up-exact-A : Exact.A up_case ≐ 352913631762693790800467563592064174725 // 37611740305631749979809095826
 unfolding all
 up-exact-A = (lit< tt, lit< tt, refl)
 
-up-exact-S1 : Exact.S1 upCase ≐ 44181224453198451554541098188879867485664651114657644875418062968625957581172747203125 // 767029719523088532586871570344152914215352840585909743515616773144350749426816
+up-exact-S1 : Exact.S1 up_case ≐ 44181224453198451554541098188879867485664651114657644875418062968625957581172747203125 // 767029719523088532586871570344152914215352840585909743515616773144350749426816
 unfolding all
 up-exact-S1 = (lit< tt, lit< tt, refl)
 
-up-exact-S2 : Exact.S2 upCase ≐ 447000567 // 5
+up-exact-S2 : Exact.S2 up_case ≐ 447000567 // 5
 unfolding all
 up-exact-S2 = (lit< tt, lit< tt, refl)
 
-up-exact-S3 : Exact.S3 upCase ≐ 28205213287 // 10
+up-exact-S3 : Exact.S3 up_case ≐ 28205213287 // 10
 unfolding all
 up-exact-S3 = (lit< tt, lit< tt, refl)
 
-up-exact-S4 : Exact.S4 upCase ≐ 112373463 // 10
+up-exact-S4 : Exact.S4 up_case ≐ 112373463 // 10
 unfolding all
 up-exact-S4 = (lit< tt, lit< tt, refl)
 
-up-exact-S5 : Exact.S5 upCase ≐ 11402611931193 // 2000000
+up-exact-S5 : Exact.S5 up_case ≐ 11402611931193 // 2000000
 unfolding all
 up-exact-S5 = (lit< tt, lit< tt, refl)
 
-up-exact-S6² : Exact.S6² upCase ≐ 2919947110411389181796448525006754184145597738064133204504953125 // 10340240148908071860956364157652380467909885952
+up-exact-S6² : Exact.S6² up_case ≐ 2919947110411389181796448525006754184145597738064133204504953125 // 10340240148908071860956364157652380467909885952
 unfolding all
 up-exact-S6² = (lit< tt, lit< tt, refl)
 
-up-exact-S² : Exact.S² upCase ≐ 2184189923395775883784794193202266610101016240870692246306451158013145723577213778082391822303829593776645095328082991674383715581132122712148411299026366615859154770044581554227702962074023 // 264643595858681143562482928318659749061562834132537287864928333930139057444510644493487991503319183955730837680531967748462774747017079500596080812324310417408000000000000
+up-exact-S² : Exact.S² up_case ≐ 2184189923395775883784794193202266610101016240870692246306451158013145723577213778082391822303829593776645095328082991674383715581132122712148411299026366615859154770044581554227702962074023 // 264643595858681143562482928318659749061562834132537287864928333930139057444510644493487991503319183955730837680531967748462774747017079500596080812324310417408000000000000
 unfolding all
 up-exact-S² = (lit< tt, lit< tt, refl)
 
-up-verdicts : (word (Rounded.verdict upCase) ≡ ascii "RESERVETEKORT")
-    × (Exact.verdict upCase ≡ Reservetekort)
+up-verdicts : (word (Rounded.verdict up_case) ≡ ascii "RESERVETEKORT")
+    × (Exact.verdict up_case ≡ Reservetekort)
 unfolding all
 up-verdicts = (refl, refl)
 
 -- A fund with another number in every field, whose pensions outweigh its bonds: the down curve decides S1. S5 exceeds the credit.
-abbrev pub downFile : List ℕ
-downFile =
+abbrev pub down_file : List ℕ
+down_file =
     (0x00 ∷ 0x7f ∷ 0x0f ∷ 0x27 ∷ 0x03 ∷ 0xff ∷ 0x66 ∷ 0xff ∷ 0x79 ∷ 0xff ∷ 0x8c ∷ 0xff ∷ 0x9f ∷ 0xff ∷ 0xb2 ∷ 0xff ∷ 0xc5 ∷ 0xff ∷ 0xd8 ∷ 0xff ∷ 0xeb ∷ 0xff ∷ 0xfe ∷ 0x00 ∷ 0x11 ∷ 0x00 ∷ 0x24 ∷ 0x00 ∷ 0x37 ∷ 0x00 ∷ 0x4a ∷ 0x00 ∷ 0x5d ∷ 0x00 ∷ 0x70 ∷ 0x00 ∷ 0x83 ∷ 0x00 ∷ 0x96 ∷ 0x00 ∷ 0xa9 ∷ 0x00 ∷ 0xbc ∷ 0x00 ∷ 0xcf ∷ 0x00 ∷ 0xe2 ∷ 0x00 ∷ 0xf5 ∷ 0x01 ∷ 0x08 ∷ 0x01 ∷ 0x1b ∷ 0x01 ∷ 0x2e ∷ 0x01 ∷ 0x2d ∷ 0x01 ∷ 0x40 ∷ 0x01 ∷ 0x3f ∷ 0x01 ∷ 0x52 ∷ 0x01 ∷ 0x51 ∷ 0x01 ∷ 0x64 ∷ 0x01 ∷ 0x63 ∷ 0x01 ∷ 0x76 ∷ 0x01 ∷ 0x75 ∷ 0x01 ∷ 0x88 ∷ 0x01 ∷ 0x87 ∷ 0x01 ∷ 0x9a ∷ 0x01 ∷ 0x99 ∷ 0x01 ∷ 0xac ∷ 0x01 ∷ 0xab ∷ 0x01 ∷ 0xbe ∷ 0x01 ∷ 0xbd ∷ 0x01 ∷ 0xd0 ∷ 0x01 ∷ 0xcf ∷ 0x01 ∷ 0xe2 ∷ 0x01 ∷ 0xe1 ∷ 0x01 ∷ 0xf4 ∷ 0x01 ∷ 0xf3 ∷ 0x02 ∷ 0x06 ∷ 0x02 ∷ 0x05 ∷ 0x02 ∷ 0x18 ∷ 0x02 ∷ 0x17 ∷ 0x02 ∷ 0x2a ∷ 0x02 ∷ 0x29 ∷ 0x02 ∷ 0x3c ∷ 0x02 ∷ 0x3b ∷ 0x02 ∷ 0x4e ∷ 0x02 ∷ 0x4d ∷ 0x02 ∷ 0x60 ∷ 0x02 ∷ 0x5f ∷ 0xff ∷ 0x95 ∷ 0xff ∷ 0xab ∷ 0xff ∷ 0xc1 ∷ 0xff ∷ 0xd7 ∷ 0xff ∷ 0xed ∷ 0x00 ∷ 0x03 ∷ 0x00 ∷ 0x19 ∷ 0x00 ∷ 0x2f ∷ 0x00 ∷ 0x45 ∷ 0x00 ∷ 0x5b ∷ 0x00 ∷ 0x71 ∷ 0x00 ∷ 0x87 ∷ 0x00 ∷ 0x9d ∷ 0x00 ∷ 0xb3 ∷ 0x00 ∷ 0xc9 ∷ 0x00 ∷ 0xdf ∷ 0x00 ∷ 0xf5 ∷ 0x01 ∷ 0x0b ∷ 0x01 ∷ 0x21 ∷ 0x01 ∷ 0x37 ∷ 0x01 ∷ 0x4d ∷ 0x01 ∷ 0x63 ∷ 0x01 ∷ 0x79 ∷ 0x01 ∷ 0x8f ∷ 0x01 ∷ 0xa5 ∷ 0x01 ∷ 0xa7 ∷ 0x01 ∷ 0xbd ∷ 0x01 ∷ 0xbf ∷ 0x01 ∷ 0xd5 ∷ 0x01 ∷ 0xd7 ∷ 0x01 ∷ 0xed ∷ 0x01 ∷ 0xef ∷ 0x02 ∷ 0x05 ∷ 0x02 ∷ 0x07 ∷ 0x02 ∷ 0x1d ∷ 0x02 ∷ 0x1f ∷ 0x02 ∷ 0x35 ∷ 0x02 ∷ 0x37 ∷ 0x02 ∷ 0x4d ∷ 0x02 ∷ 0x4f ∷ 0x02 ∷ 0x65 ∷ 0x02 ∷ 0x67 ∷ 0x02 ∷ 0x7d ∷ 0x02 ∷ 0x7f ∷ 0x02 ∷ 0x95 ∷ 0x02 ∷ 0x97 ∷ 0x02 ∷ 0xad ∷ 0x02 ∷ 0xaf ∷ 0x02 ∷ 0xc5 ∷ 0x02 ∷ 0xc7 ∷ 0x02 ∷ 0xdd ∷ 0x02 ∷ 0xdf ∷ 0x02 ∷ 0xf5 ∷ 0x02 ∷ 0xf7 ∷ 0x03 ∷ 0x0d ∷ 0x03 ∷ 0x0f ∷ 0x03 ∷ 0x25 ∷ 0x03 ∷ 0x27 ∷ 0x03 ∷ 0x3d ∷ 0x03 ∷ 0x3f ∷ 0xff ∷ 0x75 ∷ 0xff ∷ 0x88 ∷ 0xff ∷ 0x9b ∷ 0xff ∷ 0xae ∷ 0xff ∷ 0xc1 ∷ 0xff ∷ 0xd4 ∷ 0xff ∷ 0xe7 ∷ 0xff ∷ 0xfa ∷ 0x00 ∷ 0x0d ∷ 0x00 ∷ 0x20 ∷ 0x00 ∷ 0x33 ∷ 0x00 ∷ 0x46 ∷ 0x00 ∷ 0x59 ∷ 0x00 ∷ 0x6c ∷ 0x00 ∷ 0x7f ∷ 0x00 ∷ 0x92 ∷ 0x00 ∷ 0xa5 ∷ 0x00 ∷ 0xb8 ∷ 0x00 ∷ 0xcb ∷ 0x00 ∷ 0xde ∷ 0x00 ∷ 0xf1 ∷ 0x01 ∷ 0x04 ∷ 0x01 ∷ 0x17 ∷ 0x01 ∷ 0x2a ∷ 0x01 ∷ 0x3d ∷ 0x01 ∷ 0x3c ∷ 0x01 ∷ 0x4f ∷ 0x01 ∷ 0x4e ∷ 0x01 ∷ 0x61 ∷ 0x01 ∷ 0x60 ∷ 0x01 ∷ 0x73 ∷ 0x01 ∷ 0x72 ∷ 0x01 ∷ 0x85 ∷ 0x01 ∷ 0x84 ∷ 0x01 ∷ 0x97 ∷ 0x01 ∷ 0x96 ∷ 0x01 ∷ 0xa9 ∷ 0x01 ∷ 0xa8 ∷ 0x01 ∷ 0xbb ∷ 0x01 ∷ 0xba ∷ 0x01 ∷ 0xcd ∷ 0x01 ∷ 0xcc ∷ 0x01 ∷ 0xdf ∷ 0x01 ∷ 0xde ∷ 0x01 ∷ 0xf1 ∷ 0x01 ∷ 0xf0 ∷ 0x02 ∷ 0x03 ∷ 0x02 ∷ 0x02 ∷ 0x02 ∷ 0x15 ∷ 0x02 ∷ 0x14 ∷ 0x02 ∷ 0x27 ∷ 0x02 ∷ 0x26 ∷ 0x02 ∷ 0x39 ∷ 0x02 ∷ 0x38 ∷ 0x02 ∷ 0x4b ∷ 0x02 ∷ 0x4a ∷ 0x02 ∷ 0x5d ∷ 0x02 ∷ 0x5c ∷ 0x02 ∷ 0x6f ∷ 0x02 ∷ 0x6e ∷ 0x03 ∷ 0x01 ∷ 0xaf ∷ 0x95 ∷ 0x6f ∷ 0x02 ∷ 0x3a ∷ 0xee ∷ 0x7d ∷ 0x03 ∷ 0x43 ∷ 0xc2 ∷ 0x1f ∷ 0x05 ∷ 0x00 ∷ 0x6b ∷ 0xe5 ∷ 0x5b ∷ 0x00 ∷ 0x54 ∷ 0xb0 ∷ 0x2b ∷ 0x00 ∷ 0x00 ∷ 0x00 ∷ 0x00 ∷ 0x00 ∷ 0x30 ∷ 0xfe ∷ 0xeb ∷ []) ++ pairs 4 0x00 0x00 ++ (0x00 ∷ 0xbc ∷ 0x61 ∷ 0x4f ∷ 0x00 ∷ 0x00 ∷ 0x00 ∷ 0x00 ∷ 0x00 ∷ 0x85 ∷ 0xbf ∷ 0xf7 ∷ 0x00 ∷ 0x00 ∷ 0x00 ∷ 0x00 ∷ 0x00 ∷ 0x41 ∷ 0xf2 ∷ 0xc3 ∷ 0x00 ∷ 0x00 ∷ 0x00 ∷ 0x00 ∷ 0x00 ∷ 0x63 ∷ 0xd7 ∷ 0x71 ∷ 0x00 ∷ 0x00 ∷ 0x00 ∷ 0x00 ∷ 0x00 ∷ 0x20 ∷ 0x31 ∷ 0xb1 ∷ 0x00 ∷ 0x00 ∷ 0x00 ∷ 0x00 ∷ 0x00 ∷ 0x14 ∷ 0xb8 ∷ 0x59 ∷ 0x00 ∷ 0x00 ∷ 0x00 ∷ 0x00 ∷ 0x0b ∷ 0xd8 ∷ 0xeb ∷ 0x7d ∷ 0x00 ∷ 0x00 ∷ 0x00 ∷ 0x00 ∷ 0x00 ∷ 0x9d ∷ 0x12 ∷ 0x57 ∷ 0x00 ∷ 0x8c ∷ 0x01 ∷ 0x04 ∷ 0x00 ∷ 0xef ∷ 0x01 ∷ 0x51 ∷ 0x01 ∷ 0xa3 ∷ 0x00 ∷ 0x9d ∷ 0x00 ∷ 0xd3 ∷ 0x01 ∷ 0x61 ∷ 0x03 ∷ 0x7a ∷ 0x02 ∷ 0x65 ∷ 0x22 ∷ 0x3d ∷ 0x01 ∷ 0xb5 ∷ 0x00 ∷ 0x00 ∷ 0x10 ∷ 0xe1 ∷ 0x03 ∷ 0x30 ∷ 0x02 ∷ 0x41 ∷ [])
 
 -- the case that it holds
-abbrev pub downCase : FileCase
-downCase = record {
-  rateBytes = 2;
+abbrev pub down_case : FileCase
+down_case = record {
+  rate_bytes = 2;
   ufr = 3879;
   days = (neg_ℤ (pos 154) ∷ neg_ℤ (pos 135) ∷ neg_ℤ (pos 116) ∷ neg_ℤ (pos 97) ∷ neg_ℤ (pos 78) ∷ neg_ℤ (pos 59) ∷ neg_ℤ (pos 40) ∷ neg_ℤ (pos 21) ∷ neg_ℤ (pos 2) ∷ pos 17
       ∷ pos 36 ∷ pos 55 ∷ pos 74 ∷ pos 93 ∷ pos 112 ∷ pos 131 ∷ pos 150 ∷ pos 169 ∷ pos 188 ∷ pos 207
@@ -410,141 +410,141 @@ downCase = record {
   };
 }
 
-down-layout : fileOf (record { ufr = true; bonds = true; amounts = true }) downCase ≡ downFile
+down-layout : file_of (record { ufr = true; bonds = true; amounts = true }) down_case ≡ down_file
 unfolding all
 down-layout = refl
 
-down-L : (Rounded.L downCase base low ≡ 12074946603)
-    × (Rounded.L downCase base high ≡ 12074946606)
+down-L : (Rounded.L down_case base low ≡ 12074946603)
+    × (Rounded.L down_case base high ≡ 12074946606)
 unfolding all
 down-L = (refl, refl)
 
-down-B : (Rounded.B downCase base low ≡ 1586365554)
-    × (Rounded.B downCase base high ≡ 1586365557)
+down-B : (Rounded.B down_case base low ≡ 1586365554)
+    × (Rounded.B down_case base high ≡ 1586365557)
 unfolding all
 down-B = (refl, refl)
 
-down-A : (Rounded.A downCase low ≡ 25007319254)
-    × (Rounded.A downCase high ≡ 25007319257)
+down-A : (Rounded.A down_case low ≡ 25007319254)
+    × (Rounded.A down_case high ≡ 25007319257)
 unfolding all
 down-A = (refl, refl)
 
-down-S1 : (Rounded.S1 downCase low ≡ 61969548)
-    × (Rounded.S1 downCase high ≡ 61969560)
+down-S1 : (Rounded.S1 down_case low ≡ 61969548)
+    × (Rounded.S1 down_case high ≡ 61969560)
 unfolding all
 down-S1 = (refl, refl)
 
-down-S2 : (Rounded.S2 downCase low ≡ 874276515)
-    × (Rounded.S2 downCase high ≡ 874276515)
+down-S2 : (Rounded.S2 down_case low ≡ 874276515)
+    × (Rounded.S2 down_case high ≡ 874276515)
 unfolding all
 down-S2 = (refl, refl)
 
-down-S3 : (Rounded.S3 downCase low ≡ 217200171)
-    × (Rounded.S3 downCase high ≡ 217200172)
+down-S3 : (Rounded.S3 down_case low ≡ 217200171)
+    × (Rounded.S3 down_case high ≡ 217200172)
 unfolding all
 down-S3 = (refl, refl)
 
-down-S4 : (Rounded.S4 downCase low ≡ 74478516)
-    × (Rounded.S4 downCase high ≡ 74478517)
+down-S4 : (Rounded.S4 down_case low ≡ 74478516)
+    × (Rounded.S4 down_case high ≡ 74478517)
 unfolding all
 down-S4 = (refl, refl)
 
-down-S5 : (Rounded.S5 downCase low ≡ 462908664)
-    × (Rounded.S5 downCase high ≡ 462908665)
+down-S5 : (Rounded.S5 down_case low ≡ 462908664)
+    × (Rounded.S5 down_case high ≡ 462908665)
 unfolding all
 down-S5 = (refl, refl)
 
-down-S6 : (Rounded.S6 downCase low ≡ 790330318)
-    × (Rounded.S6 downCase high ≡ 790330319)
+down-S6 : (Rounded.S6 down_case low ≡ 790330318)
+    × (Rounded.S6 down_case high ≡ 790330319)
 unfolding all
 down-S6 = (refl, refl)
 
-down-S : (Rounded.S downCase low ≡ 1313869065)
-    × (Rounded.S downCase high ≡ 1313869073)
+down-S : (Rounded.S down_case low ≡ 1313869065)
+    × (Rounded.S down_case high ≡ 1313869073)
 unfolding all
 down-S = (refl, refl)
 
-down-exact-L : Exact.L downCase base ≐ 854145374752962654623118456225000 // 70736989797211365326377
+down-exact-L : Exact.L down_case base ≐ 854145374752962654623118456225000 // 70736989797211365326377
 unfolding all
 down-exact-L = (lit< tt, lit< tt, refl)
 
-down-exact-B : Exact.B downCase base ≐ 1035690361552856875015924789169325000 // 652869924863788663396396577
+down-exact-B : Exact.B down_case base ≐ 1035690361552856875015924789169325000 // 652869924863788663396396577
 unfolding all
 down-exact-B = (lit< tt, lit< tt, refl)
 
-down-exact-A : Exact.A downCase ≐ 16326526643910129967007813765924809900 // 652869924863788663396396577
+down-exact-A : Exact.A down_case ≐ 16326526643910129967007813765924809900 // 652869924863788663396396577
 unfolding all
 down-exact-A = (lit< tt, lit< tt, refl)
 
-down-exact-S1 : Exact.S1 downCase ≐ 7973440429828132656147514264495952784598757405744483402025860917446084375 // 128667060271084940309734446148854116600973577637906974947910381742
+down-exact-S1 : Exact.S1 down_case ≐ 7973440429828132656147514264495952784598757405744483402025860917446084375 // 128667060271084940309734446148854116600973577637906974947910381742
 unfolding all
 down-exact-S1 = (lit< tt, lit< tt, refl)
 
-down-exact-S2 : Exact.S2 downCase ≐ 874276515 // 1
+down-exact-S2 : Exact.S2 down_case ≐ 874276515 // 1
 unfolding all
 down-exact-S2 = (lit< tt, lit< tt, refl)
 
-down-exact-S3 : Exact.S3 downCase ≐ 2172001717 // 10
+down-exact-S3 : Exact.S3 down_case ≐ 2172001717 // 10
 unfolding all
 down-exact-S3 = (lit< tt, lit< tt, refl)
 
-down-exact-S4 : Exact.S4 downCase ≐ 744785169 // 10
+down-exact-S4 : Exact.S4 down_case ≐ 744785169 // 10
 unfolding all
 down-exact-S4 = (lit< tt, lit< tt, refl)
 
-down-exact-S5 : Exact.S5 downCase ≐ 92581732971677 // 200000
+down-exact-S5 : Exact.S5 down_case ≐ 92581732971677 // 200000
 unfolding all
 down-exact-S5 = (lit< tt, lit< tt, refl)
 
-down-exact-S6² : Exact.S6² downCase ≐ 3457280890298547635662345718738888024718897701474201611342489339655625 // 5534996883504988441482174618616950871351741241192704
+down-exact-S6² : Exact.S6² down_case ≐ 3457280890298547635662345718738888024718897701474201611342489339655625 // 5534996883504988441482174618616950871351741241192704
 unfolding all
 down-exact-S6² = (lit< tt, lit< tt, refl)
 
-down-exact-S² : Exact.S² downCase ≐ 1234875575710765426925949233835776981888776792015642360414151426925723122848560953427089946963497252354080348872932491921867608597990427490599967502141895768055369 // 715350727752277830206841165892995540756292414674804632168243048667673462787686022326051430749895779747649632206102125039714654106710440000000000
+down-exact-S² : Exact.S² down_case ≐ 1234875575710765426925949233835776981888776792015642360414151426925723122848560953427089946963497252354080348872932491921867608597990427490599967502141895768055369 // 715350727752277830206841165892995540756292414674804632168243048667673462787686022326051430749895779747649632206102125039714654106710440000000000
 unfolding all
 down-exact-S² = (lit< tt, lit< tt, refl)
 
-down-verdicts : (word (Rounded.verdict downCase) ≡ ascii "VRIJ VERMOGEN")
-    × (Exact.verdict downCase ≡ VrijVermogen)
+down-verdicts : (word (Rounded.verdict down_case) ≡ ascii "VRIJ VERMOGEN")
+    × (Exact.verdict down_case ≡ VrijVermogen)
 unfolding all
 down-verdicts = (refl, refl)
 
-bent-unadjusted-1 : (Rounded.unadjusted bentCurve low 1 ≡ 1002982200409)
-    × (Rounded.unadjusted bentCurve high 1 ≡ 1002982200410)
+bent-unadjusted-1 : (Rounded.unadjusted bent_curve low 1 ≡ 1002982200409)
+    × (Rounded.unadjusted bent_curve high 1 ≡ 1002982200410)
 unfolding all
 bent-unadjusted-1 = (refl, refl)
 
-bent-unadjusted-20 : (Rounded.unadjusted bentCurve low 20 ≡ 919715113381)
-    × (Rounded.unadjusted bentCurve high 20 ≡ 919715113401)
+bent-unadjusted-20 : (Rounded.unadjusted bent_curve low 20 ≡ 919715113381)
+    × (Rounded.unadjusted bent_curve high 20 ≡ 919715113401)
 unfolding all
 bent-unadjusted-20 = (refl, refl)
 
-bent-unadjusted-21 : (Rounded.unadjusted bentCurve low 21 ≡ 921446614349)
-    × (Rounded.unadjusted bentCurve high 21 ≡ 921446614368)
+bent-unadjusted-21 : (Rounded.unadjusted bent_curve low 21 ≡ 921446614349)
+    × (Rounded.unadjusted bent_curve high 21 ≡ 921446614368)
 unfolding all
 bent-unadjusted-21 = (refl, refl)
 
-bent-unadjusted-60 : (Rounded.unadjusted bentCurve low 60 ≡ 724024961135)
-    × (Rounded.unadjusted bentCurve high 60 ≡ 724024961190)
+bent-unadjusted-60 : (Rounded.unadjusted bent_curve low 60 ≡ 724024961135)
+    × (Rounded.unadjusted bent_curve high 60 ≡ 724024961190)
 unfolding all
 bent-unadjusted-60 = (refl, refl)
 
-bent-exact-unadjusted-1 : Exact.unadjusted bentCurve 1 ≐ 75000 // 74777
+bent-exact-unadjusted-1 : Exact.unadjusted bent_curve 1 ≐ 75000 // 74777
 unfolding all
 bent-exact-unadjusted-1 = (lit< tt, lit< tt, refl)
 
-bent-exact-unadjusted-2 : Exact.unadjusted bentCurve 2 ≐ 10000000000 // 9952656169
+bent-exact-unadjusted-2 : Exact.unadjusted bent_curve 2 ≐ 10000000000 // 9952656169
 unfolding all
 bent-exact-unadjusted-2 = (lit< tt, lit< tt, refl)
 
-bent-exact-unadjusted-21 : Exact.unadjusted bentCurve 21 ≐ 10460353203000000000000000000000000000000000000000000000000000000000000000000000000000000000000000000000000000000000 // 11352099014768718363710965998930105574585157985243883365066569855270793637286061405771660888477000971922041986233571
+bent-exact-unadjusted-21 : Exact.unadjusted bent_curve 21 ≐ 10460353203000000000000000000000000000000000000000000000000000000000000000000000000000000000000000000000000000000000 // 11352099014768718363710965998930105574585157985243883365066569855270793637286061405771660888477000971922041986233571
 unfolding all
 bent-exact-unadjusted-21 = (lit< tt, lit< tt, refl)
 
 -- C1 with shifts and one bond flow, at term 21. The base curve is C6's, the down curve C3's.
 abbrev pub past20 : FileCase
 past20 = record {
-  rateBytes = 2;
+  rate_bytes = 2;
   ufr = 4200;
   days = replicate 60 (pos 0)
       ∷ [];
@@ -660,14 +660,14 @@ unfolding all
 past20-exact-S1 = (lit< tt, lit< tt, refl)
 
 -- A fund with the lowest rates, the largest down shift and one bond flow, at term 60: no bond factor is larger than that of the down curve.
-abbrev pub deepestFile : List ℕ
-deepestFile =
+abbrev pub deepest_file : List ℕ
+deepest_file =
     (0x00 ∷ 0x7f ∷ 0x10 ∷ 0x68 ∷ 0x01 ∷ []) ++ pairs 60 0xfc 0x18 ++ (0x14 ∷ 0x05 ∷ 0xf5 ∷ 0xe1 ∷ 0x00 ∷ 0x05 ∷ 0xf5 ∷ 0xe1 ∷ 0x00 ∷ 0x05 ∷ 0xf5 ∷ 0xe1 ∷ 0x00 ∷ 0x05 ∷ 0xf5 ∷ 0xe1 ∷ 0x00 ∷ 0x05 ∷ 0xf5 ∷ 0xe1 ∷ 0x00 ∷ 0x05 ∷ 0xf5 ∷ 0xe1 ∷ 0x00 ∷ 0x05 ∷ 0xf5 ∷ 0xe1 ∷ 0x00 ∷ 0x05 ∷ 0xf5 ∷ 0xe1 ∷ 0x00 ∷ 0x05 ∷ 0xf5 ∷ 0xe1 ∷ 0x00 ∷ 0x05 ∷ 0xf5 ∷ 0xe1 ∷ 0x00 ∷ 0x05 ∷ 0xf5 ∷ 0xe1 ∷ 0x00 ∷ 0x05 ∷ 0xf5 ∷ 0xe1 ∷ 0x00 ∷ 0x05 ∷ 0xf5 ∷ 0xe1 ∷ 0x00 ∷ 0x05 ∷ 0xf5 ∷ 0xe1 ∷ 0x00 ∷ 0x05 ∷ 0xf5 ∷ 0xe1 ∷ 0x00 ∷ 0x05 ∷ 0xf5 ∷ 0xe1 ∷ 0x00 ∷ 0x05 ∷ 0xf5 ∷ 0xe1 ∷ 0x00 ∷ 0x05 ∷ 0xf5 ∷ 0xe1 ∷ 0x00 ∷ 0x05 ∷ 0xf5 ∷ 0xe1 ∷ 0x00 ∷ 0x05 ∷ 0xf5 ∷ 0xe1 ∷ 0x00 ∷ 0x3c ∷ []) ++ pairs 118 0x00 0x00 ++ (0x05 ∷ 0xf5 ∷ 0xe1 ∷ []) ++ pairs 26 0x00 0x00 ++ (0x00 ∷ 0x89 ∷ 0x17 ∷ 0x37 ∷ []) ++ pairs 4 0x00 0x00 ++ (0x00 ∷ 0x01 ∷ 0x0e ∷ 0x03 ∷ 0xe8 ∷ []) ++ pairs 11 0x00 0x00 ++ (0x00 ∷ 0x64 ∷ 0x03 ∷ 0x0c ∷ 0x01 ∷ 0xcc ∷ [])
 
 -- the case that it holds
-abbrev pub deepestCase : FileCase
-deepestCase = record {
-  rateBytes = 2;
+abbrev pub deepest_case : FileCase
+deepest_case = record {
+  rate_bytes = 2;
   ufr = 4200;
   days = replicate 60 (neg_ℤ (pos 1000))
       ∷ [];
@@ -711,34 +711,34 @@ deepestCase = record {
   };
 }
 
-deepest-layout : fileOf (record { ufr = true; bonds = true; amounts = true }) deepestCase ≡ deepestFile
+deepest-layout : file_of (record { ufr = true; bonds = true; amounts = true }) deepest_case ≡ deepest_file
 unfolding all
 deepest-layout = refl
 
-deepest-base-unadjusted-60 : (Rounded.unadjusted (curve deepestCase base) low 60 ≡ 1827630193082)
-    × (Rounded.unadjusted (curve deepestCase base) high 60 ≡ 1827630193166)
+deepest-base-unadjusted-60 : (Rounded.unadjusted (curve deepest_case base) low 60 ≡ 1827630193082)
+    × (Rounded.unadjusted (curve deepest_case base) high 60 ≡ 1827630193166)
 unfolding all
 deepest-base-unadjusted-60 = (refl, refl)
 
-deepest-up-unadjusted-60 : (Rounded.unadjusted (curve deepestCase up) low 60 ≡ 1552096384368)
-    × (Rounded.unadjusted (curve deepestCase up) high 60 ≡ 1552096384445)
+deepest-up-unadjusted-60 : (Rounded.unadjusted (curve deepest_case up) low 60 ≡ 1552096384368)
+    × (Rounded.unadjusted (curve deepest_case up) high 60 ≡ 1552096384445)
 unfolding all
 deepest-up-unadjusted-60 = (refl, refl)
 
-deepest-down-unadjusted-60 : (Rounded.unadjusted (curve deepestCase down) low 60 ≡ 3360744205004)
-    × (Rounded.unadjusted (curve deepestCase down) high 60 ≡ 3360744205119)
+deepest-down-unadjusted-60 : (Rounded.unadjusted (curve deepest_case down) low 60 ≡ 3360744205004)
+    × (Rounded.unadjusted (curve deepest_case down) high 60 ≡ 3360744205119)
 unfolding all
 deepest-down-unadjusted-60 = (refl, refl)
 
-deepest-widths : (WL deepestCase ≡ 155)
-    × (WB deepestCase ≡ 264)
+deepest-widths : (WL deepest_case ≡ 155)
+    × (WB deepest_case ≡ 264)
 unfolding all
 deepest-widths = (refl, refl)
 
 -- A fund with 120 pension and 60 bond flows and both shifts. Most of its large flows lie past term 60, so that WL and WB are large.
 abbrev pub long : FileCase
 long = record {
-  rateBytes = 2;
+  rate_bytes = 2;
   ufr = 3333;
   days = (pos 217 ∷ pos 234 ∷ pos 251 ∷ pos 268 ∷ pos 285 ∷ pos 302 ∷ pos 319 ∷ pos 336 ∷ pos 353 ∷ pos 370
       ∷ pos 387 ∷ pos 404 ∷ pos 421 ∷ pos 438 ∷ pos 455 ∷ pos 472 ∷ pos 489 ∷ pos 506 ∷ pos 523 ∷ pos 540
@@ -809,9 +809,9 @@ unfolding all
 long-widths = (refl, refl)
 
 -- C1 with flows of 0 on both sides: Q is 0.
-abbrev pub noFlows : FileCase
-noFlows = record {
-  rateBytes = 2;
+abbrev pub no_flows : FileCase
+no_flows = record {
+  rate_bytes = 2;
   ufr = 4200;
   days = replicate 60 (pos 0)
       ∷ [];
@@ -850,15 +850,15 @@ noFlows = record {
   };
 }
 
-noFlows-widths : (WL noFlows ≡ 6)
-    × (WB noFlows ≡ 4)
+no_flows-widths : (WL no_flows ≡ 6)
+    × (WB no_flows ≡ 4)
 unfolding all
-noFlows-widths = (refl, refl)
+no_flows-widths = (refl, refl)
 
 -- C1 with a flow whose 4 × t × t × flow is 10^10: Q is 1, with nothing to round.
-abbrev pub wholeQuotient : FileCase
-wholeQuotient = record {
-  rateBytes = 2;
+abbrev pub whole_quotient : FileCase
+whole_quotient = record {
+  rate_bytes = 2;
   ufr = 4200;
   days = replicate 60 (pos 0)
       ∷ [];
@@ -896,28 +896,28 @@ wholeQuotient = record {
   };
 }
 
-wholeQuotient-widths : (WL wholeQuotient ≡ 11)
-    × (WB wholeQuotient ≡ 0)
+whole_quotient-widths : (WL whole_quotient ≡ 11)
+    × (WB whole_quotient ≡ 0)
 unfolding all
-wholeQuotient-widths = (refl, refl)
+whole_quotient-widths = (refl, refl)
 
-demand-ranges : (lastTerm ≡ 120)
-    × (leastStep ≡ neg_ℤ (pos 2000))
-    × (mostStep ≡ pos 20000)
+demand-ranges : (last_term ≡ 120)
+    × (least_step ≡ neg_ℤ (pos 2000))
+    × (most_step ≡ pos 20000)
 unfolding all
 demand-ranges = (refl, refl, refl)
 
-demand-widths : (factorWidthMost 1 ≡ 4)
-    × (factorWidthMost 60 ≡ 14400)
-    × (factorWidthMost 120 ≡ 57600)
-    × (rateWidthMost ≡ 2)
+demand-widths : (factor_width_most 1 ≡ 4)
+    × (factor_width_most 60 ≡ 14400)
+    × (factor_width_most 120 ≡ 57600)
+    × (rate_width_most ≡ 2)
 unfolding all
 demand-widths = (refl, refl, refl, refl)
 
-long-money-widths : (LWidthMost long ≡ 20434)
-    × (BWidthMost long ≡ 1840)
-    × (AWidthMost long ≡ 1840)
-    × (SWidthMost long ≡ 64990)
+long-money-widths : (L_width_most long ≡ 20434)
+    × (B_width_most long ≡ 1840)
+    × (A_width_most long ≡ 1840)
+    × (S_width_most long ≡ 64990)
 unfolding all
 long-money-widths = (refl, refl, refl, refl)
 
@@ -1026,55 +1026,55 @@ long-down-exact-growth-61 : Exact.growth (curve long down) 61 ≐ 103333 // 1000
 unfolding all
 long-down-exact-growth-61 = (lit< tt, lit< tt, refl)
 
-long-margins : (firstMargin long ≡ 465914)
-    × (secondMargin long ≡ 87264)
+long-margins : (first_margin long ≡ 465914)
+    × (second_margin long ≡ 87264)
 unfolding all
 long-margins = (refl, refl)
 
-first-border-within-above : NearFirst (firstMargin long) (whole 209999534086) (whole 199999534086)
+first-border-within-above : NearFirst (first_margin long) (whole 209999534086) (whole 199999534086)
 unfolding all
 first-border-within-above = record { above = lit≤ tt; below = lit≤ tt }
 
-first-border-within-below : NearFirst (firstMargin long) (whole 210000465914) (whole 200000465914)
+first-border-within-below : NearFirst (first_margin long) (whole 210000465914) (whole 200000465914)
 unfolding all
 first-border-within-below = record { above = lit≤ tt; below = lit≤ tt }
 
-first-border-beyond-above : NearFirst (firstMargin long) (whole 209999534085) (whole 199999534085) → ⊥
+first-border-beyond-above : NearFirst (first_margin long) (whole 209999534085) (whole 199999534085) → ⊥
 unfolding all
 first-border-beyond-above near = not-le_of_lt (lit< tt) near.above
 
-first-border-beyond-below : NearFirst (firstMargin long) (whole 210000465915) (whole 200000465915) → ⊥
+first-border-beyond-below : NearFirst (first_margin long) (whole 210000465915) (whole 200000465915) → ⊥
 unfolding all
 first-border-beyond-below near = not-le_of_lt (lit< tt) near.below
 
-second-border-within-above : NearSecond (secondMargin long) (whole 1700087264) (whole 1000000000) (whole 490000000000000000)
+second-border-within-above : NearSecond (second_margin long) (whole 1700087264) (whole 1000000000) (whole 490000000000000000)
 unfolding all
 second-border-within-above = record { above = lit≤ tt; positive = lit≤ tt; below = lit≤ tt }
 
-second-border-within-below : NearSecond (secondMargin long) (whole 1699912736) (whole 1000000000) (whole 490000000000000000)
+second-border-within-below : NearSecond (second_margin long) (whole 1699912736) (whole 1000000000) (whole 490000000000000000)
 unfolding all
 second-border-within-below = record { above = lit≤ tt; positive = lit≤ tt; below = lit≤ tt }
 
-second-border-beyond-above : NearSecond (secondMargin long) (whole 1700087265) (whole 1000000000) (whole 490000000000000000) → ⊥
+second-border-beyond-above : NearSecond (second_margin long) (whole 1700087265) (whole 1000000000) (whole 490000000000000000) → ⊥
 unfolding all
 second-border-beyond-above near = not-le_of_lt (lit< tt) near.above
 
-second-border-beyond-below : NearSecond (secondMargin long) (whole 1699912735) (whole 1000000000) (whole 490000000000000000) → ⊥
+second-border-beyond-below : NearSecond (second_margin long) (whole 1699912735) (whole 1000000000) (whole 490000000000000000) → ⊥
 unfolding all
 second-border-beyond-below near = not-le_of_lt (lit< tt) near.below
 
-second-border-within-without-S : NearSecond (secondMargin long) (whole 999912736) (whole 1000000000) (whole 0)
+second-border-within-without-S : NearSecond (second_margin long) (whole 999912736) (whole 1000000000) (whole 0)
 unfolding all
 second-border-within-without-S = record { above = lit≤ tt; positive = lit≤ tt; below = lit≤ tt }
 
-second-border-beyond-without-S : NearSecond (secondMargin long) (whole 999912735) (whole 1000000000) (whole 0) → ⊥
+second-border-beyond-without-S : NearSecond (second_margin long) (whole 999912735) (whole 1000000000) (whole 0) → ⊥
 unfolding all
 second-border-beyond-without-S near = not-le_of_lt (lit< tt) near.positive
 
 -- C1 with cash 1,049,999: one euro below the first border.
 abbrev pub shortage : FileCase
 shortage = record {
-  rateBytes = 2;
+  rate_bytes = 2;
   ufr = 4200;
   days = replicate 60 (pos 0)
       ∷ [];
@@ -1118,9 +1118,9 @@ unfolding all
 shortage-verdicts = (refl, refl)
 
 -- "Else ONBESLIST, which is undecided.": C1 with flat 100, at the first border, which the exact figures do not reach.
-abbrev pub firstBelow : FileCase
-firstBelow = record {
-  rateBytes = 2;
+abbrev pub first_below : FileCase
+first_below = record {
+  rate_bytes = 2;
   ufr = 4200;
   days = replicate 60 (pos 100)
       ∷ [];
@@ -1158,15 +1158,15 @@ firstBelow = record {
   };
 }
 
-firstBelow-verdicts : (word (Rounded.verdict firstBelow) ≡ ascii "ONBESLIST")
-    × (Exact.verdict firstBelow ≡ Dekkingstekort)
+first_below-verdicts : (word (Rounded.verdict first_below) ≡ ascii "ONBESLIST")
+    × (Exact.verdict first_below ≡ Dekkingstekort)
 unfolding all
-firstBelow-verdicts = (refl, refl)
+first_below-verdicts = (refl, refl)
 
 -- "Else ONBESLIST, which is undecided.": C1 with flat 100, at the first border, which the exact figures reach.
-abbrev pub firstAbove : FileCase
-firstAbove = record {
-  rateBytes = 2;
+abbrev pub first_above : FileCase
+first_above = record {
+  rate_bytes = 2;
   ufr = 4200;
   days = replicate 60 (pos 100)
       ∷ [];
@@ -1204,15 +1204,15 @@ firstAbove = record {
   };
 }
 
-firstAbove-verdicts : (word (Rounded.verdict firstAbove) ≡ ascii "ONBESLIST")
-    × (Exact.verdict firstAbove ≡ Reservetekort)
+first_above-verdicts : (word (Rounded.verdict first_above) ≡ ascii "ONBESLIST")
+    × (Exact.verdict first_above ≡ Reservetekort)
 unfolding all
-firstAbove-verdicts = (refl, refl)
+first_above-verdicts = (refl, refl)
 
 -- "Else ONBESLIST, which is undecided.": C1 with flat 100, at the second border, which the exact figures do not reach.
-abbrev pub secondBelow : FileCase
-secondBelow = record {
-  rateBytes = 2;
+abbrev pub second_below : FileCase
+second_below = record {
+  rate_bytes = 2;
   ufr = 4200;
   days = replicate 60 (pos 100)
       ∷ [];
@@ -1250,15 +1250,15 @@ secondBelow = record {
   };
 }
 
-secondBelow-verdicts : (word (Rounded.verdict secondBelow) ≡ ascii "ONBESLIST")
-    × (Exact.verdict secondBelow ≡ Reservetekort)
+second_below-verdicts : (word (Rounded.verdict second_below) ≡ ascii "ONBESLIST")
+    × (Exact.verdict second_below ≡ Reservetekort)
 unfolding all
-secondBelow-verdicts = (refl, refl)
+second_below-verdicts = (refl, refl)
 
 -- "Else ONBESLIST, which is undecided.": C1 with flat 100, at the second border, which the exact figures reach.
-abbrev pub secondAbove : FileCase
-secondAbove = record {
-  rateBytes = 2;
+abbrev pub second_above : FileCase
+second_above = record {
+  rate_bytes = 2;
   ufr = 4200;
   days = replicate 60 (pos 100)
       ∷ [];
@@ -1296,7 +1296,7 @@ secondAbove = record {
   };
 }
 
-secondAbove-verdicts : (word (Rounded.verdict secondAbove) ≡ ascii "ONBESLIST")
-    × (Exact.verdict secondAbove ≡ VrijVermogen)
+second_above-verdicts : (word (Rounded.verdict second_above) ≡ ascii "ONBESLIST")
+    × (Exact.verdict second_above ≡ VrijVermogen)
 unfolding all
-secondAbove-verdicts = (refl, refl)
+second_above-verdicts = (refl, refl)

@@ -6,10 +6,10 @@ use lib.Dec.{lit≤}
 use Rattle.std.specs.Prelude.{ℕ, Result, Ok, Err}
 use Rattle.model.specs.Case.{FileCase}
 use Rattle.method.specs.Buffers.{answered}
-use Rattle.method.specs.Demand3.{WideAtMost, LWidthMost, BWidthMost, AWidthMost, SWidthMost}
+use Rattle.method.specs.Demand3.{WideAtMost, L_width_most, B_width_most, A_width_most, S_width_most}
 use Rattle.model.specs.declared.figures.Valuation.{Valuation}
 use Rattle.method.proofs.Computing.{all}
-use Rattle.method.proofs.Pinned.{upCase, downCase}
+use Rattle.method.proofs.Pinned.{up_case, down_case}
 
 -- 5 to 8 is 3 wide, and 5 to 9 is wider
 width-border : WideAtMost 3 (record { lower = 5; upper = 8 }) × (WideAtMost 3 (record { lower = 5; upper = 9 }) → ⊥)
@@ -19,15 +19,15 @@ width-border = (lit≤ tt, λ h. omega arith)
 abbrev pub Narrow : FileCase → Result Valuation ℕ → Type 0
 Narrow k (Err number) = ⊥
 Narrow k (Ok v) =
-    WideAtMost (LWidthMost k) v.figures.l
-    × WideAtMost (BWidthMost k) v.figures.b
-    × WideAtMost (AWidthMost k) v.figures.a
-    × WideAtMost (SWidthMost k) v.figures.s
+    WideAtMost (L_width_most k) v.figures.l
+    × WideAtMost (B_width_most k) v.figures.b
+    × WideAtMost (A_width_most k) v.figures.a
+    × WideAtMost (S_width_most k) v.figures.s
 
-up-widths : Narrow upCase (answered 0 upCase)
+up-widths : Narrow up_case (answered 0 up_case)
 unfolding all
 up-widths = (lit≤ tt, lit≤ tt, lit≤ tt, lit≤ tt)
 
-down-widths : Narrow downCase (answered 0 downCase)
+down-widths : Narrow down_case (answered 0 down_case)
 unfolding all
 down-widths = (lit≤ tt, lit≤ tt, lit≤ tt, lit≤ tt)

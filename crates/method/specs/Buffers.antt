@@ -1,7 +1,7 @@
 -- What a valuation answers, and what the lent buffers hold after it (document 01, 'Buffers, window, print' and the order of checks).
-use Rattle.std.specs.Prelude.{ℕ, zero, suc, ◌+◌, ◌*◌, ◌-◌, ◌&&◌, List, [], ◌∷◌, ◌++◌, leb, length, get_or, drop, ℤ, pos, Result, Ok, Err}
+use Rattle.std.specs.Prelude.{ℕ, zero, suc, ◌+◌, ◌*◌, ◌-◌, ◌&&◌, List, [], ◌∷◌, ◌++◌, nat_le, length, slice_index_or, drop, ℤ, pos, Result, Ok, Err}
 use Rattle.arith.specs.Rounding.{End, low, high}
-use Rattle.model.specs.Constants.{lastTerm}
+use Rattle.model.specs.Constants.{last_term}
 use Rattle.model.specs.Case.{FileCase}
 use Rattle.model.specs.Fields.{Check}
 use Rattle.model.specs.Layout.{case_of}
@@ -11,58 +11,58 @@ use Rattle.method.specs.Rounded as Rounded
 use Rattle.model.specs.declared.figures.Valuation.{Valuation}
 
 -- "13: the lent buffer for factors or for rates has fewer than 240 entries.": by the lengths of the two buffers
-abbrev pub buffersCheck : ℕ → ℕ → Check
-buffersCheck factors rates = (leb 240 factors && leb 240 rates, 13)
+abbrev pub buffers_check : ℕ → ℕ → Check
+buffers_check factors rates = (nat_le 240 factors && nat_le 240 rates, 13)
 
 -- "Order: 13; then ..": 13 or the file's own refusal
-unfoldable pub valuationRefusal : ℕ → ℕ → List ℕ → ℕ
-valuationRefusal factors rates file = first_of (buffersCheck factors rates ∷ checks file)
+unfoldable pub valuation_refusal : ℕ → ℕ → List ℕ → ℕ
+valuation_refusal factors rates file = first_of (buffers_check factors rates ∷ checks file)
 
 -- "lower, upper, term by term", of the terms 1 to t
-unfoldable pub byTerm : {A : Type 0} → (End → ℕ → A) → ℕ → List A
-byTerm figure zero = []
-byTerm figure (suc t) = byTerm figure t ++ (figure low (suc t) ∷ figure high (suc t) ∷ [])
+unfoldable pub by_term : {A : Type 0} → (End → ℕ → A) → ℕ → List A
+by_term figure zero = []
+by_term figure (suc t) = by_term figure t ++ (figure low (suc t) ∷ figure high (suc t) ∷ [])
 
 -- an end of the figure of a term, from 1, in such entries; `none` where they have no such entry
-abbrev pub entryOr : {A : Type 0} → A → List A → End → ℕ → A
-entryOr none entries low t = get_or entries (2 * (t - 1)) none
-entryOr none entries high t = get_or entries (2 * (t - 1) + 1) none
+abbrev pub entry_or : {A : Type 0} → A → List A → End → ℕ → A
+entry_or none entries low t = slice_index_or entries (2 * (t - 1)) none
+entry_or none entries high t = slice_index_or entries (2 * (t - 1) + 1) none
 
 -- of factors, and of zero rates
 abbrev pub entry_of : List ℕ → End → ℕ → ℕ
-entry_of = entryOr 0
+entry_of = entry_or 0
 
-abbrev pub rateEntryOf : List ℤ → End → ℕ → ℤ
-rateEntryOf = entryOr (pos 0)
+abbrev pub rate_entry_of : List ℤ → End → ℕ → ℤ
+rate_entry_of = entry_or (pos 0)
 
-unfoldable pub factorEntries : FileCase → List ℕ
-factorEntries k = byTerm (Rounded.factor (curve k base)) lastTerm
+unfoldable pub factor_entries : FileCase → List ℕ
+factor_entries k = by_term (Rounded.factor (curve k base)) last_term
 
-unfoldable pub rateEntries : FileCase → List ℤ
-rateEntries k = byTerm (Rounded.zeroRate (curve k base)) lastTerm
+unfoldable pub rate_entries : FileCase → List ℤ
+rate_entries k = by_term (Rounded.zero_rate (curve k base)) last_term
 
 -- "into entries 0 to 239; later entries keep their content"; "A refusal .. changes nothing lent."
 abbrev pub written : {A : Type 0} → ℕ → List A → List A → List A
 written zero entries held = entries ++ drop 240 held
 written (suc r) entries held = held
 
-unfoldable pub factorsAfter : List ℕ → List ℕ → List ℤ → List ℕ
-factorsAfter file factors rates =
-    written (valuationRefusal (length factors) (length rates) file) (factorEntries (case_of file)) factors
+unfoldable pub factors_after : List ℕ → List ℕ → List ℤ → List ℕ
+factors_after file factors rates =
+    written (valuation_refusal (length factors) (length rates) file) (factor_entries (case_of file)) factors
 
-unfoldable pub ratesAfter : List ℕ → List ℕ → List ℤ → List ℤ
-ratesAfter file factors rates =
-    written (valuationRefusal (length factors) (length rates) file) (rateEntries (case_of file)) rates
+unfoldable pub rates_after : List ℕ → List ℕ → List ℤ → List ℤ
+rates_after file factors rates =
+    written (valuation_refusal (length factors) (length rates) file) (rate_entries (case_of file)) rates
 
 -- "A refusal returns only its number"
 abbrev pub answered : ℕ → FileCase → Result Valuation ℕ
 answered zero k = Ok (record { figures = Rounded.figures k; verdict = Rounded.verdict k })
 answered (suc r) k = Err (suc r)
 
-unfoldable pub valuationOf : ℕ → ℕ → List ℕ → Result Valuation ℕ
-valuationOf factors rates file = answered (valuationRefusal factors rates file) (case_of file)
+unfoldable pub valuation_of : ℕ → ℕ → List ℕ → Result Valuation ℕ
+valuation_of factors rates file = answered (valuation_refusal factors rates file) (case_of file)
 
 -- the number that document 01 gives an answer: that of a refusal, and 0 for a case that is valued
-abbrev pub refusalNumber : Result Valuation ℕ → ℕ
-refusalNumber (Err r) = r
-refusalNumber (Ok v) = 0
+abbrev pub refusal_number : Result Valuation ℕ → ℕ
+refusal_number (Err r) = r
+refusal_number (Ok v) = 0

@@ -1,8 +1,8 @@
 -- The curve that a case is valued on: the base curve, and the up and the down curve (document 01, 'The exact working' and 'The rounded
 -- working', whose curves are those of the DNB note of 2012, source document 001, step 2: the mean over the days).
-use Rattle.std.specs.Prelude.{ℕ, zero, suc, ◌*◌, ◌-◌, List, [], ◌∷◌, get_or, ℤ, pos, negsuc, neg_ℤ, ◌+ℤ◌, ◌*ℤ◌}
-use Rattle.model.specs.Constants.{stepsPerOne}
-use Rattle.model.specs.Case.{FileCase, perStep, s}
+use Rattle.std.specs.Prelude.{ℕ, zero, suc, ◌*◌, ◌-◌, List, [], ◌∷◌, slice_index, ℤ, pos, negsuc, neg_ℤ, ◌+ℤ◌, ◌*ℤ◌}
+use Rattle.model.specs.Constants.{steps_per_one}
+use Rattle.model.specs.Case.{FileCase, per_step, s}
 
 -- N, the sums s(t) as integers, and the UFR in steps: the mean rate R(t) is s(t) ÷ N
 pub record Curve : Type 0 where
@@ -21,13 +21,13 @@ shift k down = neg_ℤ (pos k.shocks.down_shift)
 
 -- "Up and down curves add the shift to, or take it from, every mean rate at terms 1 to 60": to the sum over n days n × shift, and
 -- s(0) stays 0; document 02, request Six, of rates of four bytes: "a shift adds or takes 100 × n × shift"
-unfoldable pub movedSum : FileCase → Move → ℕ → ℤ
-movedSum k m zero = pos 0
-movedSum k m (suc t) = s k.days (suc t) +ℤ pos (perStep k) *ℤ shift k m
+unfoldable pub moved_sum : FileCase → Move → ℕ → ℤ
+moved_sum k m zero = pos 0
+moved_sum k m (suc t) = s k.days (suc t) +ℤ pos (per_step k) *ℤ shift k m
 
 -- "N = 100,000 × n"; request Six: "N is 10,000,000 × n"; "with the same UFR"
 unfoldable pub curve : FileCase → Move → Curve
-curve k m = record { N = stepsPerOne * perStep k; sum = movedSum k m; ufr = k.ufr }
+curve k m = record { N = steps_per_one * per_step k; sum = moved_sum k m; ufr = k.ufr }
 
 -- an integer as a natural number, and 0 below 0, which no N + s(t) of an accepted file is (`PUncut` of demand 3)
 abbrev pub natural : ℤ → ℕ
@@ -50,4 +50,4 @@ weights =
 
 -- w of a term from 21 to 60; no other term has a weight, and none is asked for
 unfoldable pub weight : ℕ → ℕ
-weight t = get_or weights (t - 21) 0
+weight t = slice_index weights (t - 21)

@@ -1,40 +1,40 @@
 -- The exact working, over fractions (document 01, 'The exact working'; the curve is that of the DNB note of 2012, source document 001,
 -- steps 2 to 4; the mortality margin that of source document 004, section 9.3). Money is in cents.
-use Rattle.std.specs.Prelude.{ℕ, zero, suc, ◌+◌, ◌*◌, ◌-◌, cond, List, [], ◌∷◌, leb}
-use Rattle.model.specs.Constants.{stepsPerOne, lastUnweighedTerm, lastMarketTerm}
+use Rattle.std.specs.Prelude.{ℕ, zero, suc, ◌+◌, ◌*◌, ◌-◌, if◌then◌else◌, List, [], ◌∷◌, nat_le}
+use Rattle.model.specs.Constants.{steps_per_one, last_unweighed_term, last_market_term}
 use Rattle.method.specs.Fraction.{Fraction, ◌//◌, ◌+ᶠ◌, ◌∸ᶠ◌, ◌*ᶠ◌, ◌÷ᶠ◌, ◌^ᶠ◌, square, whole, less, larger}
-use Rattle.model.specs.Case.{FileCase, allExceptCurrency, ageGap}
+use Rattle.model.specs.Case.{FileCase, all_except_currency, age_gap}
 use Rattle.method.specs.Curve.{Curve, Move, base, up, down, curve, P, weight}
 use Rattle.model.specs.declared.figures.Verdict.{Verdict}
 use Rattle.model.specs.declared.figures.Verdict.TheVariants.{Dekkingstekort, Reservetekort, VrijVermogen}
 
 -- 1 + R(t), where R(t) = s(t) ÷ (100,000 × n); and 1 + UFR
-abbrev pub onePlusR : Curve → ℕ → Fraction
-onePlusR c t = P c t // c.N
+abbrev pub one_plus_r : Curve → ℕ → Fraction
+one_plus_r c t = P c t // c.N
 
-abbrev pub onePlusUfr : Curve → Fraction
-onePlusUfr c = (stepsPerOne + c.ufr) // stepsPerOne
+abbrev pub one_plus_ufr : Curve → Fraction
+one_plus_ufr c = (steps_per_one + c.ufr) // steps_per_one
 
 -- "G(t) = (1 + R(t))^t ÷ (1 + R(t-1))^(t-1)"
 unfoldable pub G : Curve → ℕ → Fraction
-G c t = (onePlusR c t ^ᶠ t) ÷ᶠ (onePlusR c (t - 1) ^ᶠ (t - 1))
+G c t = (one_plus_r c t ^ᶠ t) ÷ᶠ (one_plus_r c (t - 1) ^ᶠ (t - 1))
 
 -- "(1 - w) × G(t) + w × (1 + UFR)"
 unfoldable pub weighed : Curve → ℕ → Fraction
-weighed c t = ((1000 - weight t) // 1000) *ᶠ G c t +ᶠ (weight t // 1000) *ᶠ onePlusUfr c
+weighed c t = ((1000 - weight t) // 1000) *ᶠ G c t +ᶠ (weight t // 1000) *ᶠ one_plus_ufr c
 
 -- "the adjusted growth is G(t) up to 20, .. for 21 to 60, and 1 + UFR for 61 to 120"
 unfoldable pub growth : Curve → ℕ → Fraction
-growth c t = cond (leb t lastUnweighedTerm) (G c t) (cond (leb t lastMarketTerm) (weighed c t) (onePlusUfr c))
+growth c t = if nat_le t last_unweighed_term then G c t else if nat_le t last_market_term then weighed c t else one_plus_ufr c
 
 -- "the product of growths 1 to t", of any growths
-unfoldable pub productOf : (ℕ → Fraction) → ℕ → Fraction
-productOf growth zero = whole 1
-productOf growth (suc t) = productOf growth t *ᶠ growth (suc t)
+unfoldable pub product_of : (ℕ → Fraction) → ℕ → Fraction
+product_of growth zero = whole 1
+product_of growth (suc t) = product_of growth t *ᶠ growth (suc t)
 
 -- of the adjusted growths. The zero rate is "the number above -1 whose (1 + rate)^t is that product".
 abbrev pub product : Curve → ℕ → Fraction
-product c = productOf (growth c)
+product c = product_of (growth c)
 
 -- "Factor: one over the product of growths 1 to t."
 unfoldable pub factor : Curve → ℕ → Fraction
@@ -43,7 +43,7 @@ factor c t = whole 1 ÷ᶠ product c t
 -- The factor that bond flows use: "the rule that document 01 gives for factors up to term 20" (document 02, request Four), at every term
 -- to 60. Up to 20 no growth is adjusted, so this is one over the product of the growths G(1) to G(t), and no UFR is in it.
 unfoldable pub unadjusted : Curve → ℕ → Fraction
-unadjusted c t = whole 1 ÷ᶠ productOf (G c) t
+unadjusted c t = whole 1 ÷ᶠ product_of (G c) t
 
 -- "flows times factors", by the factors of the terms, the first flow at term t
 unfoldable pub worth : (ℕ → Fraction) → ℕ → List ℕ → Fraction
@@ -59,7 +59,7 @@ B k m = worth (unadjusted (curve k m)) 1 k.bonds
 
 -- "B plus all amounts except currency exposure"
 abbrev pub A : FileCase → Fraction
-A k = B k base +ᶠ whole (100 * allExceptCurrency k.amounts)
+A k = B k base +ᶠ whole (100 * all_except_currency k.amounts)
 
 -- the fall of B - L from the base curve to another, (B - L) - (B' - L'), or 0 if it does not fall
 abbrev pub fall : FileCase → Move → Fraction
@@ -92,11 +92,11 @@ S4 k = loss k.amounts.commodities k.shocks.commodities_fall
 abbrev pub S5 : FileCase → Fraction
 S5 k =
     let x = k.shocks in
-    whole (100 * k.amounts.credit) *ᶠ (x.duration // 10) *ᶠ (x.spread // stepsPerOne) *ᶠ (x.spread_rise // 1000)
+    whole (100 * k.amounts.credit) *ᶠ (x.duration // 10) *ᶠ (x.spread // steps_per_one) *ᶠ (x.spread_rise // 1000)
 
 -- "TSO = 2 + 9/40 × years by which pension age exceeds mean age (0 if it doesn't)", and the square of "NSA = 60 ÷ root of H", in percent
 abbrev pub TSO : FileCase → Fraction
-TSO k = whole 2 +ᶠ (9 // 40) *ᶠ (ageGap k.people // 12)
+TSO k = whole 2 +ᶠ (9 // 40) *ᶠ (age_gap k.people // 12)
 
 abbrev pub NSA² : FileCase → Fraction
 NSA² k = 3600 // k.people.heads
@@ -115,8 +115,9 @@ S² k =
 -- A < L + S is (A - L)² < S², since A is at least L where 20 × A is at least 21 × L: A below L cannot reach the squares.
 unfoldable pub judge : Fraction → Fraction → Fraction → Verdict
 judge a l s² =
-    cond (less (whole 20 *ᶠ a) (whole 21 *ᶠ l)) Dekkingstekort
-    (cond (less (square (a ∸ᶠ l)) s²) Reservetekort VrijVermogen)
+    if less (whole 20 *ᶠ a) (whole 21 *ᶠ l) then Dekkingstekort
+    else if less (square (a ∸ᶠ l)) s² then Reservetekort
+    else VrijVermogen
 
 abbrev pub verdict : FileCase → Verdict
 verdict k = judge (A k) (L k base) (S² k)

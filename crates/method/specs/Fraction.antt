@@ -1,5 +1,5 @@
 -- Fractions of natural numbers: a numerator over a denominator, never shortened, compared by multiplying crosswise.
-use Rattle.std.specs.Prelude.{ℕ, ◌+◌, ◌*◌, ◌-◌, ◌^◌, ◌≤◌, ◌<◌, ◌≡◌, Bool, cond, leb, ltb}
+use Rattle.std.specs.Prelude.{ℕ, ◌+◌, ◌*◌, ◌-◌, ◌^◌, ◌≤◌, ◌<◌, ◌≡◌, Bool, if◌then◌else◌, nat_le, nat_lt}
 
 infix 60 ◌//◌
 infixl 50 ◌+ᶠ◌ ◌∸ᶠ◌
@@ -47,13 +47,13 @@ abbrev pub ◌≤ᶠ◌ : Fraction → Fraction → Type 0
 ◌≤ᶠ◌ x y = x.num * y.den ≤ y.num * x.den
 
 abbrev pub at_most : Fraction → Fraction → Bool
-at_most x y = leb (x.num * y.den) (y.num * x.den)
+at_most x y = nat_le (x.num * y.den) (y.num * x.den)
 
 abbrev pub less : Fraction → Fraction → Bool
-less x y = ltb (x.num * y.den) (y.num * x.den)
+less x y = nat_lt (x.num * y.den) (y.num * x.den)
 
 abbrev pub larger : Fraction → Fraction → Fraction
-larger x y = cond (at_most x y) y x
+larger x y = if at_most x y then y else x
 
 -- both are fractions, and the same number
 abbrev pub ◌≐◌ : Fraction → Fraction → Type 0

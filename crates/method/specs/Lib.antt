@@ -8,7 +8,7 @@ pub mod Rounded
 pub mod Margins
 pub mod Demand3
 pub mod Buffers
-pub mod Window
 pub mod Listing
+pub mod Window
 pub mod FourBytes
 pub mod inner

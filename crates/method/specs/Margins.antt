@@ -5,13 +5,13 @@ use Rattle.method.specs.Fraction.{Fraction, ◌+ᶠ◌, ◌∸ᶠ◌, ◌*ᶠ◌
 use Rattle.model.specs.Case.{FileCase}
 
 -- "the sum of 4 × t × t × flow", the first flow at term t
-unfoldable pub weightedSum : ℕ → List ℕ → ℕ
-weightedSum t [] = 0
-weightedSum t (euros ∷ flows) = 4 * t * t * euros + weightedSum (suc t) flows
+unfoldable pub weighted_sum : ℕ → List ℕ → ℕ
+weighted_sum t [] = 0
+weighted_sum t (euros ∷ flows) = 4 * t * t * euros + weighted_sum (suc t) flows
 
 -- "Q is the sum of 4 × t × t × flow over the m pension flows, divided by 10^10 and rounded up"
 abbrev pub Q : List ℕ → ℕ
-Q flows = divide high (weightedSum 1 flows) (10 ^ 10)
+Q flows = divide high (weighted_sum 1 flows) (10 ^ 10)
 
 -- "WL = 2 × m + Q .. WB the same over k bond flows, with 2 × k"
 abbrev pub W : List ℕ → ℕ
@@ -36,8 +36,8 @@ pub record NearSecond (margin : ℕ) (a l s² : Fraction) : Type 0 where
   pub below : s² ≤ᶠ square ((a +ᶠ whole margin) ∸ᶠ l)
 
 -- "20 × WB + 21 × WL", "4 × WL + 3 × WB + 8"
-abbrev pub firstMargin : FileCase → ℕ
-firstMargin k = 20 * WB k + 21 * WL k
+abbrev pub first_margin : FileCase → ℕ
+first_margin k = 20 * WB k + 21 * WL k
 
-abbrev pub secondMargin : FileCase → ℕ
-secondMargin k = 4 * WL k + 3 * WB k + 8
+abbrev pub second_margin : FileCase → ℕ
+second_margin k = 4 * WL k + 3 * WB k + 8

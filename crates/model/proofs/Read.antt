@@ -4,30 +4,30 @@ use mathlib.Core.Path.{◌≡◌, refl}
 use mathlib.Core.List.{List, [], ◌∷◌, ◌++◌}
 use lib.ListN.{replicate}
 use lib.IntN.{pos, neg_ℤ}
-use Rattle.model.specs.Numbers.{number, twosComplement}
-use Rattle.model.specs.Case.{allExceptCurrency}
+use Rattle.model.specs.Numbers.{number, twos_complement}
+use Rattle.model.specs.Case.{all_except_currency}
 use Rattle.model.specs.Fields.{number_of, counted}
 use Rattle.model.specs.Layout.{case_of}
 use Rattle.model.specs.Refusals.{first_of}
 use Rattle.model.proofs.Computing.{pairs, all}
 
 -- a file with no optional field, one flow and one day of the same rate, -500
-abbrev pub lowFile : List ℕ
-lowFile = 0x00 ∷ 0x66 ∷ 1 ∷ pairs 60 0xfe 0x0c ++ (1 ∷ 0x00 ∷ 0x00 ∷ 0x00 ∷ 0x07 ∷ []) ++ pairs 12 0 0 ++ (0 ∷ 0 ∷ 0 ∷ 1 ∷ 0 ∷ 0 ∷ 0 ∷ 0 ∷ [])
+abbrev pub low_file : List ℕ
+low_file = 0x00 ∷ 0x66 ∷ 1 ∷ pairs 60 0xfe 0x0c ++ (1 ∷ 0x00 ∷ 0x00 ∷ 0x00 ∷ 0x07 ∷ []) ++ pairs 12 0 0 ++ (0 ∷ 0 ∷ 0 ∷ 1 ∷ 0 ∷ 0 ∷ 0 ∷ 0 ∷ [])
 
-c3-number : twosComplement 2 (number (0xfe ∷ 0x0c ∷ []) 0 2) ≡ neg_ℤ (pos 500)
+c3-number : twos_complement 2 (number (0xfe ∷ 0x0c ∷ []) 0 2) ≡ neg_ℤ (pos 500)
 unfolding all
 c3-number = refl
 
-low-days : (case_of lowFile).days ≡ replicate 60 (neg_ℤ (pos 500)) ∷ []
+low-days : (case_of low_file).days ≡ replicate 60 (neg_ℤ (pos 500)) ∷ []
 unfolding all
 low-days = refl
 
-default-ufr : (case_of lowFile).ufr ≡ 4200
+default-ufr : (case_of low_file).ufr ≡ 4200
 unfolding all
 default-ufr = refl
 
-all-except-currency : allExceptCurrency (record { mature = 1; emerging = 2; private = 4; property = 8; commodities = 16; credit = 32; cash = 64; currency = 128 }) ≡ 127
+all-except-currency : all_except_currency (record { mature = 1; emerging = 2; private = 4; property = 8; commodities = 16; credit = 32; cash = 64; currency = 128 }) ≡ 127
 unfolding all
 all-except-currency = refl
 

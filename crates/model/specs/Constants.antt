@@ -2,25 +2,25 @@
 use Rattle.std.specs.Prelude.{ℕ, ◌^◌}
 
 -- "A file without this field has a UFR of 4,200."
-abbrev pub defaultUfr : ℕ
-defaultUfr = 4200
+abbrev pub default_ufr : ℕ
+default_ufr = 4200
 
 -- "A rate step is 0.00001.": the number of steps in 1
-abbrev pub stepsPerOne : ℕ
-stepsPerOne = 100000
+abbrev pub steps_per_one : ℕ
+steps_per_one = 100000
 
 -- "Factors count 10^-12": the number of units in 1
 abbrev pub unit : ℕ
 unit = 10 ^ 12
 
 -- "the adjusted growth is G(t) up to 20": the last term whose growth is the market's own
-abbrev pub lastUnweighedTerm : ℕ
-lastUnweighedTerm = 20
+abbrev pub last_unweighed_term : ℕ
+last_unweighed_term = 20
 
 -- "60 zero rates, terms 1 to 60"; "for 21 to 60": the last term that a file has rates of, and the last whose growth is weighed
-abbrev pub lastMarketTerm : ℕ
-lastMarketTerm = 60
+abbrev pub last_market_term : ℕ
+last_market_term = 60
 
 -- "for 61 to 120": the last term; demand 3 speaks of "every term from 1 to 120"
-abbrev pub lastTerm : ℕ
-lastTerm = 120
+abbrev pub last_term : ℕ
+last_term = 120

@@ -1,7 +1,7 @@
 -- The kinds of fields that a case file is made of (document 01, 'The case file' and 'Office errors and host errors'). A kind says at once
 -- how a value is written as bytes, how it is read from a position of a file on, and what is checked, in order. Layout puts them together.
 -- Positions are functions of the bytes, and a byte past the end counts as 0: whether a file is long enough is a matter of the checks.
-use Rattle.std.specs.Prelude.{ℕ, zero, suc, ◌+◌, ◌*◌, Bool, true, ◌&&◌, cond, List, [], ◌∷◌, ◌++◌, leb, eqb, length, get_or, ℤ}
+use Rattle.std.specs.Prelude.{ℕ, zero, suc, ◌+◌, ◌*◌, Bool, true, ◌&&◌, if◌then◌else◌, List, [], ◌∷◌, ◌++◌, nat_le, ◌==◌, length, slice_index, ℤ}
 use Rattle.std.specs.Int.Signed.{le_z}
 use Rattle.model.specs.Numbers.{number, bytes_of}
 
@@ -11,14 +11,14 @@ Check = Bool × ℕ
 
 -- the file has at least `end` bytes: else "it ends inside the map or inside a field whose bit stands"
 abbrev pub reaches : List ℕ → ℕ → Bool
-reaches file end = leb end (length file)
+reaches file end = nat_le end (length file)
 
 -- a whole number, or an integer, is within its limits
 abbrev pub within : ℕ → ℕ → ℕ → Bool
-within least most v = leb least v && leb v most
+within least most v = nat_le least v && nat_le v most
 
-abbrev pub withinZ : ℤ → ℤ → ℤ → Bool
-withinZ least most z = le_z least z && le_z z most
+abbrev pub within_z : ℤ → ℤ → ℤ → Bool
+within_z least most z = le_z least z && le_z z most
 
 -- What has the same number of bytes whatever its value: how many; the bytes of a value; the value at a position of a file; whether a
 -- value is within its limits.
@@ -47,25 +47,25 @@ pair_of x y = record {
 }
 
 -- a run of one kind
-abbrev pub bytesAll : {A : Type 0} → Fixed A → List A → List ℕ
-bytesAll x [] = []
-bytesAll x (v ∷ vs) = x.bytes v ++ bytesAll x vs
+abbrev pub bytes_all : {A : Type 0} → Fixed A → List A → List ℕ
+bytes_all x [] = []
+bytes_all x (v ∷ vs) = x.bytes v ++ bytes_all x vs
 
-abbrev pub valueAll : {A : Type 0} → Fixed A → List ℕ → ℕ → ℕ → List A
-valueAll x file at zero = []
-valueAll x file at (suc n) = x.value file at ∷ valueAll x file (at + x.size) n
+abbrev pub value_all : {A : Type 0} → Fixed A → List ℕ → ℕ → ℕ → List A
+value_all x file at zero = []
+value_all x file at (suc n) = x.value file at ∷ value_all x file (at + x.size) n
 
-abbrev pub rightAll : {A : Type 0} → Fixed A → List A → Bool
-rightAll x [] = true
-rightAll x (v ∷ vs) = x.right v && rightAll x vs
+abbrev pub right_all : {A : Type 0} → Fixed A → List A → Bool
+right_all x [] = true
+right_all x (v ∷ vs) = x.right v && right_all x vs
 
 -- n of one kind; a list that is read has n, one that a host hands in may have another number
 abbrev pub several : {A : Type 0} → ℕ → Fixed A → Fixed (List A)
 several n x = record {
   size = x.size * n;
-  bytes = bytesAll x;
-  value = λ file at. valueAll x file at n;
-  right = λ vs. eqb (length vs) n && rightAll x vs;
+  bytes = bytes_all x;
+  value = λ file at. value_all x file at n;
+  right = λ vs. length vs == n && right_all x vs;
 }
 
 -- the same bytes, under other names
@@ -99,26 +99,26 @@ field r x = record {
 -- "its count byte (1, then 4 or 7), the rest of its length (1), its numbers from the front" (r): 1 to `most` of one kind
 abbrev pub counted : {A : Type 0} → ℕ → ℕ → ℕ → Fixed A → Field (List A)
 counted most c r x = record {
-  bytes = λ vs. bytes_of 1 (length vs) ++ bytesAll x vs;
-  limits = λ vs. (within 1 most (length vs), c) ∷ (rightAll x vs, r) ∷ [];
-  value = λ file at. valueAll x file (at + 1) (get_or file at 0);
-  end = λ file at. at + 1 + x.size * get_or file at 0;
+  bytes = λ vs. bytes_of 1 (length vs) ++ bytes_all x vs;
+  limits = λ vs. (within 1 most (length vs), c) ∷ (right_all x vs, r) ∷ [];
+  value = λ file at. value_all x file (at + 1) (slice_index file at);
+  end = λ file at. at + 1 + x.size * slice_index file at;
   checks = λ file at.
       (reaches file (at + 1), 1)
-      ∷ (within 1 most (get_or file at 0), c)
-      ∷ (reaches file (at + 1 + x.size * get_or file at 0), 1)
-      ∷ (rightAll x (valueAll x file (at + 1) (get_or file at 0)), r)
+      ∷ (within 1 most (slice_index file at), c)
+      ∷ (reaches file (at + 1 + x.size * slice_index file at), 1)
+      ∷ (right_all x (value_all x file (at + 1) (slice_index file at)), r)
       ∷ [];
 }
 
 -- "only the fields whose bit stands": an absent one has no bytes and no checks, and its value is known
 abbrev pub optional : {A : Type 0} → Bool → A → Field A → Field A
 optional there absent f = record {
-  bytes = λ v. cond there (f.bytes v) [];
-  limits = λ v. cond there (f.limits v) [];
-  value = λ file at. cond there (f.value file at) absent;
-  end = λ file at. cond there (f.end file at) at;
-  checks = λ file at. cond there (f.checks file at) [];
+  bytes = λ v. if there then f.bytes v else [];
+  limits = λ v. if there then f.limits v else [];
+  value = λ file at. if there then f.value file at else absent;
+  end = λ file at. if there then f.end file at else at;
+  checks = λ file at. if there then f.checks file at else [];
 }
 
 -- "in bit order": one field after another

@@ -1,6 +1,6 @@
 -- The limits that document 01 sets to the numbers of a case ('The case file', and error 6), without the refusals.
-use Rattle.std.specs.Prelude.{ℕ, ◌*◌, ◌-◌, ◌≤◌, ◌<◌, ◌≡◌, true, List, [], length, get_or, ℤ, pos, neg_ℤ, ◌-ℤ◌, ◌*ℤ◌, ◌≤ℤ◌}
-use Rattle.model.specs.Case.{FileCase, knownForm, unitsPerStep, s}
+use Rattle.std.specs.Prelude.{ℕ, ◌*◌, ◌-◌, ◌≤◌, ◌<◌, ◌≡◌, true, List, [], length, slice_index, slice_index_or, ℤ, pos, neg_ℤ, ◌-ℤ◌, ◌*ℤ◌, ◌≤ℤ◌}
+use Rattle.model.specs.Case.{FileCase, known_form, units_per_step, s}
 use Rattle.model.specs.declared.case.Amounts.{Amounts}
 use Rattle.model.specs.declared.case.Shocks.{Shocks}
 use Rattle.model.specs.declared.case.People.{People}
@@ -11,13 +11,13 @@ pub record Between (a b z : ℤ) : Type 0 where
 
 -- each of a list of flows: "0 to 100,000,000 euros"
 pub record FlowsWithin (flows : List ℕ) : Type 0 where
-  pub each : (i : ℕ) → i < length flows → get_or flows i 0 ≤ 100000000
+  pub each : (i : ℕ) → i < length flows → slice_index flows i ≤ 100000000
 
 -- "60 zero rates, terms 1 to 60, each .. -1,000 to 10,000 steps", in units of which `units` are a step; document 02, request Six: "limits
 -- -100,000 to 1,000,000"
 pub record DayWithin (units : ℕ) (day : List ℤ) : Type 0 where
   pub terms : length day ≡ 60
-  pub each : (t : ℕ) → t < 60 → Between (neg_ℤ (pos (1000 * units))) (pos (10000 * units)) (get_or day t (pos 0))
+  pub each : (t : ℕ) → t < 60 → Between (neg_ℤ (pos (1000 * units))) (pos (10000 * units)) (slice_index_or day t (pos 0))
 
 -- "t × s(t) - (t - 1) × s(t-1)"
 abbrev pub forward : List (List ℤ) → ℕ → ℤ
@@ -27,7 +27,7 @@ forward days t = pos t *ℤ s days t -ℤ pos (t - 1) *ℤ s days (t - 1)
 pub record DaysWithin (units : ℕ) (days : List (List ℤ)) : Type 0 where
   pub some : 1 ≤ length days
   pub most : length days ≤ 70
-  pub each : (d : ℕ) → d < length days → DayWithin units (get_or days d [])
+  pub each : (d : ℕ) → d < length days → DayWithin units (slice_index_or days d [])
   pub forwards : (t : ℕ) → 1 ≤ t → t ≤ 60
       → Between (neg_ℤ (pos (2000 * (units * length days)))) (pos (12000 * (units * length days))) (forward days t)
 
@@ -45,15 +45,15 @@ pub record AmountsWithin (a : Amounts) : Type 0 where
 -- "Up shift and down shift (steps, 0 to 1,000); then in thousandths (0 to 1,000) ..; credit spread (steps, 0 to 10,000); credit
 -- duration (tenths of a year, 0 to 500)"
 pub record ShocksWithin (x : Shocks) : Type 0 where
-  pub upShift : x.up_shift ≤ 1000
-  pub downShift : x.down_shift ≤ 1000
-  pub matureFall : x.mature_fall ≤ 1000
-  pub emergingFall : x.emerging_fall ≤ 1000
-  pub privateFall : x.private_fall ≤ 1000
-  pub propertyFall : x.property_fall ≤ 1000
-  pub currencyFall : x.currency_fall ≤ 1000
-  pub commoditiesFall : x.commodities_fall ≤ 1000
-  pub spreadRise : x.spread_rise ≤ 1000
+  pub up_shift : x.up_shift ≤ 1000
+  pub down_shift : x.down_shift ≤ 1000
+  pub mature_fall : x.mature_fall ≤ 1000
+  pub emerging_fall : x.emerging_fall ≤ 1000
+  pub private_fall : x.private_fall ≤ 1000
+  pub property_fall : x.property_fall ≤ 1000
+  pub currency_fall : x.currency_fall ≤ 1000
+  pub commodities_fall : x.commodities_fall ≤ 1000
+  pub spread_rise : x.spread_rise ≤ 1000
   pub correlation : x.correlation ≤ 1000
   pub spread : x.spread ≤ 10000
   pub duration : x.duration ≤ 500
@@ -62,17 +62,17 @@ pub record ShocksWithin (x : Shocks) : Type 0 where
 pub record PeopleWithin (p : People) : Type 0 where
   pub some : 1 ≤ p.heads
   pub most : p.heads ≤ 1000000
-  pub pensionAge : p.pension_age ≤ 1200
-  pub meanAge : p.mean_age ≤ 1200
+  pub pension_age : p.pension_age ≤ 1200
+  pub mean_age : p.mean_age ≤ 1200
 
 pub record WithinLimits (k : FileCase) : Type 0 where
-  pub form : knownForm k.rateBytes ≡ true
+  pub form : known_form k.rate_bytes ≡ true
   pub ufr : k.ufr ≤ 5000
-  pub days : DaysWithin (unitsPerStep k.rateBytes) k.days
-  pub somePension : 1 ≤ length k.pension
-  pub mostPension : length k.pension ≤ 120
+  pub days : DaysWithin (units_per_step k.rate_bytes) k.days
+  pub some_pension : 1 ≤ length k.pension
+  pub most_pension : length k.pension ≤ 120
   pub pension : FlowsWithin k.pension
-  pub mostBonds : length k.bonds ≤ 60
+  pub most_bonds : length k.bonds ≤ 60
   pub bonds : FlowsWithin k.bonds
   pub amounts : AmountsWithin k.amounts
   pub shocks : ShocksWithin k.shocks

@@ -1,14 +1,14 @@
 -- Numbers in a file of bytes, and runs of them (document 01, 'The case file': "Big-endian; unsigned unless said").
-use Rattle.std.specs.Prelude.{ℕ, zero, suc, ◌+◌, ◌*◌, ◌-◌, ◌/◌, ◌%◌, ◌^◌, ◌<◌, Bool, true, ◌&&◌, cond, List, [], ◌∷◌, ◌++◌, ltb, get_or, ℤ, pos, negsuc, ◌-ℤ◌}
+use Rattle.std.specs.Prelude.{ℕ, zero, suc, ◌+◌, ◌*◌, ◌-◌, ◌/◌, ◌%◌, ◌^◌, ◌<◌, Bool, true, ◌&&◌, if◌then◌else◌, List, [], ◌∷◌, ◌++◌, nat_lt, slice_index, ℤ, pos, negsuc, ◌-ℤ◌}
 
 -- the big-endian number of w bytes at a position; a byte past the end counts as 0
 unfoldable pub number : List ℕ → ℕ → ℕ → ℕ
 number file at zero = 0
-number file at (suc w) = number file at w * 256 + get_or file (at + w) 0
+number file at (suc w) = number file at w * 256 + slice_index file (at + w)
 
 -- w bytes as two's complement
-abbrev pub twosComplement : ℕ → ℕ → ℤ
-twosComplement w v = cond (ltb (2 * v) (256 ^ w)) (pos v) (pos v -ℤ pos (256 ^ w))
+abbrev pub twos_complement : ℕ → ℕ → ℤ
+twos_complement w v = if nat_lt (2 * v) (256 ^ w) then pos v else pos v -ℤ pos (256 ^ w)
 
 -- the other way: the w bytes of a number, and the number whose two's complement is z
 unfoldable pub bytes_of : ℕ → ℕ → List ℕ
@@ -31,4 +31,4 @@ table f (suc n) = table f n ++ (f n ∷ [])
 
 -- a list of bytes
 pub record Bytes (file : List ℕ) : Type 0 where
-  pub small : (i : ℕ) → get_or file i 0 < 256
+  pub small : (i : ℕ) → slice_index file i < 256

@@ -1,61 +1,61 @@
 -- Which number a file is refused with (document 01, 'Office errors and host errors'); 0 where it is accepted.
-use Rattle.std.specs.Prelude.{ℕ, zero, suc, ◌+◌, ◌*◌, Bool, ◌&&◌, not, cond, List, [], ◌∷◌, ◌++◌, leb, length, get_or, take, drop, ℤ, pos, neg_ℤ}
+use Rattle.std.specs.Prelude.{ℕ, zero, suc, ◌+◌, ◌*◌, Bool, ◌&&◌, not, if◌then◌else◌, List, [], ◌∷◌, ◌++◌, nat_le, length, slice_index, take, drop, ℤ, pos, neg_ℤ}
 use Rattle.model.specs.Numbers.{every}
 use Rattle.model.specs.Limits.{forward}
-use Rattle.model.specs.Fields.{Check, reaches, withinZ}
-use Rattle.model.specs.Constants.{lastMarketTerm}
-use Rattle.model.specs.Case.{perStep}
-use Rattle.model.specs.Layout.{stands, rateBytesIn, presentIn, fileMap, firstFields, fields_of, case_of}
+use Rattle.model.specs.Fields.{Check, reaches, within_z}
+use Rattle.model.specs.Constants.{last_market_term}
+use Rattle.model.specs.Case.{per_step}
+use Rattle.model.specs.Layout.{stands, rate_bytes_in, present_in, file_map, first_fields, fields_of, case_of}
 
 -- "The first that applies is given."
 unfoldable pub first_of : List Check → ℕ
 first_of [] = 0
-first_of (check ∷ checks) = let rest = first_of checks in cond check.0 rest check.1
+first_of (check ∷ checks) = let rest = first_of checks in if check.0 then rest else check.1
 
 -- "Exactly one of"
-abbrev pub exactlyOne : Bool → Bool → Bool
-exactlyOne a b = cond a (not b) b
+abbrev pub exactly_one : Bool → Bool → Bool
+exactly_one a b = if a then not b else b
 
 -- "Bits 1, 2, 5 and 6 must stand; bits 7 to 15 must not."; document 02, request Six: "Exactly one of bits 1 and 7 stands, otherwise it's 3."
-abbrev pub bitsRight : ℕ → Bool
-bitsRight map =
-    exactlyOne (stands 1 map) (stands 7 map) && stands 2 map && stands 5 map && stands 6 map && every (λ i. not (stands (8 + i) map)) 8
+abbrev pub bits_right : ℕ → Bool
+bits_right map =
+    exactly_one (stands 1 map) (stands 7 map) && stands 2 map && stands 5 map && stands 6 map && every (λ i. not (stands (8 + i) map)) 8
 
 -- "then the map (1, then 3)"
-abbrev pub mapChecks : List ℕ → List Check
-mapChecks file = (reaches file 2, 1) ∷ (bitsRight (fileMap file), 3) ∷ []
+abbrev pub map_checks : List ℕ → List Check
+map_checks file = (reaches file 2, 1) ∷ (bits_right (file_map file), 3) ∷ []
 
 -- "some t × s(t) - (t - 1) × s(t-1) is below -2,000 × n or above 12,000 × n", where one step adds n to a sum; request Six: "The limits of
 -- refusals 5 and 6 are multiplied by 100", where one step adds 100 × n
-unfoldable pub forwardsRight : ℕ → List (List ℤ) → Bool
-forwardsRight n days = every (λ t. withinZ (neg_ℤ (pos (2000 * n))) (pos (12000 * n)) (forward days (suc t))) 60
+unfoldable pub forwards_right : ℕ → List (List ℤ) → Bool
+forwards_right n days = every (λ t. within_z (neg_ℤ (pos (2000 * n))) (pos (12000 * n)) (forward days (suc t))) 60
 
 -- the checks of a file, in order: "the map ..; then each field in bit order ..; then 2; then 6"
 unfoldable pub checks : List ℕ → List Check
 checks file =
-    mapChecks file
+    map_checks file
     ++ (fields_of file).checks file 2
-    ++ ((leb (length file) ((fields_of file).end file 2), 2) ∷ (forwardsRight (perStep (case_of file)) (case_of file).days, 6) ∷ [])
+    ++ ((nat_le (length file) ((fields_of file).end file 2), 2) ∷ (forwards_right (per_step (case_of file)) (case_of file).days, 6) ∷ [])
 
 unfoldable pub refusal : List ℕ → ℕ
 refusal file = first_of (checks file)
 
 -- where the UFR ends, after the map and, if it is there, its two bytes
-unfoldable pub ufrEnd : List ℕ → ℕ
-ufrEnd file = cond (stands 0 (fileMap file)) 4 2
+unfoldable pub ufr_end : List ℕ → ℕ
+ufr_end file = if stands 0 (file_map file) then 4 else 2
 
 -- where the count n of the days stands, after the UFR or, of rates of four bytes, after the fields of bits 0 to 6; and n
-unfoldable pub daysAt : List ℕ → ℕ
-daysAt file = cond (stands 7 (fileMap file)) ((firstFields 4 (presentIn (fileMap file))).end file 2) (ufrEnd file)
+unfoldable pub days_at : List ℕ → ℕ
+days_at file = if stands 7 (file_map file) then (first_fields 4 (present_in (file_map file))).end file 2 else ufr_end file
 
-unfoldable pub dayCount : List ℕ → ℕ
-dayCount file = get_or file (daysAt file) 0
+unfoldable pub day_count : List ℕ → ℕ
+day_count file = slice_index file (days_at file)
 
 -- "the part of the file that holds the rates: all n × 120 bytes; of a file that 1 to 12 refuse, an empty part"; request Six, of rates of
 -- four bytes: "the part handed back is n × 240 bytes"
-abbrev pub ratesPartAfter : ℕ → List ℕ → List ℕ
-ratesPartAfter zero file = take (rateBytesIn (fileMap file) * lastMarketTerm * dayCount file) (drop (daysAt file + 1) file)
-ratesPartAfter (suc r) file = []
+abbrev pub rates_part_after : ℕ → List ℕ → List ℕ
+rates_part_after zero file = take (rate_bytes_in (file_map file) * last_market_term * day_count file) (drop (days_at file + 1) file)
+rates_part_after (suc r) file = []
 
-unfoldable pub ratesPart : List ℕ → List ℕ
-ratesPart file = ratesPartAfter (refusal file) file
+unfoldable pub rates_part : List ℕ → List ℕ
+rates_part file = rates_part_after (refusal file) file

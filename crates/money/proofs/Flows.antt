@@ -17,7 +17,7 @@ use Rattle.arith.specs.Brackets.{bracket, end_of}
 use Rattle.arith.specs.declared.bracket.Bracket.{Bracket}
 use Rattle.arith.specs.inner.Range.{BothIn, UpTo}
 use Rattle.theory.proofs.general.ByEnds.{by-ends, end_is}
-use Rattle.curves.specs.inner.ByTerm.{factorAt}
+use Rattle.curves.specs.inner.ByTerm.{factor_at}
 use Rattle.money.specs.inner.Ranges.{FlowsFit, FactorsFit}
 use Rattle.money.proofs.Products.{up_to}
 
@@ -32,10 +32,10 @@ abbrev none : Bracket
 none = record { lower = 0; upper = 0 }
 
 -- the worth of the first i flows
-abbrev pub worthTo : List ℕ → List Bracket → ℕ → Bracket
-worthTo flows factors i = bracket (λ e. worth e (factorAt factors e) 1 (take i flows))
+abbrev pub worth_to : List ℕ → List Bracket → ℕ → Bracket
+worth_to flows factors i = bracket (λ e. worth e (factor_at factors e) 1 (take i flows))
 
-pub no-worth : (flows : List ℕ) (factors : List Bracket) (r : Bracket) → r ≡ bracket (λ e. 0) → r ≡ worthTo flows factors 0
+pub no-worth : (flows : List ℕ) (factors : List Bracket) (r : Bracket) → r ≡ bracket (λ e. 0) → r ≡ worth_to flows factors 0
 unfolding worth
 no-worth flows factors r p = p
 
@@ -55,7 +55,7 @@ flow-range f x h k = record {
 -- flow i, at term i + 1, and the worth with it
 module _ (flows : List ℕ) (factors : List Bracket) (i : ℕ) (x : ℕ) (f : Bracket) (fits : FlowsFit flows) (within : FactorsFit factors (length flows))
     (h : i < length flows) (flow : x ≡ get_or flows i 0) (factor : f ≡ get_or factors i none) where
-  factor-is : (e : End) → end_of f e ≡ factorAt factors e (suc i)
+  factor-is : (e : End) → end_of f e ≡ factor_at factors e (suc i)
   factor-is e = let q : suc i - 1 ≡ i = omega arith in rw (factor, q)
 
   factor-most : (e : End) → end_of f e ≤ 34 * 10 ^ 11
@@ -71,36 +71,36 @@ module _ (flows : List ℕ) (factors : List Bracket) (i : ℕ) (x : ℕ) (f : Br
       range {n} k = flow-range n x k flow-few
 
   module _ (v : Bracket) (is : v ≡ bracket (λ e. divide e (end_of f e * x) 10000000000)) where
-    flow-is : (e : End) → end_of v e ≡ divide e (get_or flows i 0 * factorAt factors e (suc i)) (10 ^ 10)
+    flow-is : (e : End) → end_of v e ≡ divide e (get_or flows i 0 * factor_at factors e (suc i)) (10 ^ 10)
     flow-is e =
         end_is v (λ e. divide e (end_of f e * x) 10000000000) is e
-        ∙ ap (λ (n : ℕ). divide e n 10000000000) (rw (factor-is e, flow) (mul_comm (factorAt factors e (suc i)) (get_or flows i 0)))
+        ∙ ap (λ (n : ℕ). divide e n 10000000000) (rw (factor-is e, flow) (mul_comm (factor_at factors e (suc i)) (get_or flows i 0)))
 
     pub flow-most : UpTo (34 * 10 ^ 9) v
     flow-most =
         up_to v (λ e. divide e (end_of f e * x) 10000000000) is
         (λ e. divide-le e (end_of f e * x) 10000000000 (34 * 10 ^ 9) (lit< tt) (le_trans (mul-le-mul (factor-most e) flow-few) (lit≤ tt)))
 
-    pub worth-next : (t r : Bracket) → t ≡ worthTo flows factors i → r ≡ bracket (λ e. end_of t e + end_of v e) → r ≡ worthTo flows factors (i + 1)
+    pub worth-next : (t r : Bracket) → t ≡ worth_to flows factors i → r ≡ bracket (λ e. end_of t e + end_of v e) → r ≡ worth_to flows factors (i + 1)
     worth-next t r p q =
         let n : length (take i flows) ≡ i = length-take-le i flows (omega arith) in
         let m : 1 + i ≡ suc i = omega arith in
-        q ∙ by-ends (λ e. end_of t e + end_of v e) (λ e. worth e (factorAt factors e) 1 (take (i + 1) flows))
+        q ∙ by-ends (λ e. end_of t e + end_of v e) (λ e. worth e (factor_at factors e) 1 (take (i + 1) flows))
         (λ e. rw (
           add-one,
           take-suc flows i 0 h,
-          worth-last e (factorAt factors e) 1 (take i flows) (get_or flows i 0),
+          worth-last e (factor_at factors e) 1 (take i flows) (get_or flows i 0),
           n,
           m,
-          end_is t (λ e. worth e (factorAt factors e) 1 (take i flows)) p e,
+          end_is t (λ e. worth e (factor_at factors e) 1 (take i flows)) p e,
           flow-is e,
         ))
 
 -- the loop over flows: one turn more, and after the last
-pub one-more : {A : Type 0} (flows : List ℕ) (factors : List Bracket) (done : List A) (x : A) (r : Bracket) {t v : Bracket} → r ≡ worthTo flows factors (length done + 1)
+pub one-more : {A : Type 0} (flows : List ℕ) (factors : List Bracket) (done : List A) (x : A) (r : Bracket) {t v : Bracket} → r ≡ worth_to flows factors (length done + 1)
     → UpTo (34 * 10 ^ 9 * length done) t → UpTo (34 * 10 ^ 9) v → r ≡ bracket (λ e. end_of t e + end_of v e)
     → record {
-      total : r ≡ worthTo flows factors (length (done ++ (x ∷ [])));
+      total : r ≡ worth_to flows factors (length (done ++ (x ∷ [])));
       most : UpTo (34 * 10 ^ 9 * length (done ++ (x ∷ []))) r;
     }
 one-more flows factors done x r p k l q =

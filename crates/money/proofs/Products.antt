@@ -11,7 +11,7 @@ use Rattle.theory.proofs.general.ByEnds.{by-ends}
 use Rattle.arith.specs.Rounding.{End, low, high, divide}
 use Rattle.arith.proofs.Rounding.{divide-le, divide-common}
 use Rattle.model.specs.Limits.{AmountsWithin, ShocksWithin}
-use Rattle.method.specs.Rounded.{creditLoss}
+use Rattle.method.specs.Rounded.{credit_loss}
 use Rattle.model.specs.declared.case.Amounts.{Amounts}
 use Rattle.model.specs.declared.case.Shocks.{Shocks}
 use Rattle.arith.specs.inner.Range.{UpTo}
@@ -29,7 +29,7 @@ pub thousandths-most : (r : Bracket) (n : ℕ) → n ≤ 5 * 10 ^ 16 → r ≡ b
 thousandths-most r n h p = up_to r (λ e. divide e n 1000) p (λ e. divide-le e n 1000 (50 * 10 ^ 12) (lit< tt) (omega arith))
 
 -- S5: 100 ÷ 10^9 is 1 ÷ 10^7
-pub credit-is : (a : Amounts) (x : Shocks) (e : End) → divide e (a.credit * (x.duration * x.spread * x.spread_rise)) 10000000 ≡ creditLoss a x e
+pub credit-is : (a : Amounts) (x : Shocks) (e : End) → divide e (a.credit * (x.duration * x.spread * x.spread_rise)) 10000000 ≡ credit_loss a x e
 credit-is a x e =
     sym (divide-common e 100 (a.credit * (x.duration * x.spread * x.spread_rise)) 10000000 (lit< tt) (lit< tt))
     ∙ ap (λ (n : ℕ). divide e n (10 ^ 9)) (omega arith)
@@ -39,7 +39,7 @@ module _ {a : Amounts} {x : Shocks} (w : AmountsWithin a × ShocksWithin x) wher
   years-most = le_trans (mul-le-mul w.1.duration w.1.spread) (lit≤ tt)
 
   pub widened-most : x.duration * x.spread * x.spread_rise ≤ 5 * 10 ^ 9
-  widened-most = le_trans (mul-le-mul years-most w.1.spreadRise) (lit≤ tt)
+  widened-most = le_trans (mul-le-mul years-most w.1.spread_rise) (lit≤ tt)
 
   pub credit-range : InRange a.credit (x.duration * x.spread * x.spread_rise) 10000000
   credit-range = record {
@@ -50,7 +50,7 @@ module _ {a : Amounts} {x : Shocks} (w : AmountsWithin a × ShocksWithin x) wher
     fits = lt_of_le_of_lt (mul-le-mul w.0.credit widened-most) (lit< tt);
   }
 
-  pub credit-most : (e : End) → creditLoss a x e ≤ 50 * 10 ^ 12
+  pub credit-most : (e : End) → credit_loss a x e ≤ 50 * 10 ^ 12
   credit-most e = rw (← credit-is a x e)
       (divide-le e (a.credit * (x.duration * x.spread * x.spread_rise)) 10000000 (50 * 10 ^ 12) (lit< tt)
       (le_trans (mul-le-mul w.0.credit widened-most) (lit≤ tt)))
@@ -59,5 +59,5 @@ module _ {a : Amounts} {x : Shocks} (w : AmountsWithin a × ShocksWithin x) wher
   credit-both = record { lower = credit-range; upper = credit-range }
 
 pub credit-of : (a : Amounts) (x : Shocks) (c r : Bracket) → c ≡ bracket (λ e. a.credit)
-    → r ≡ bracket (λ e. divide e (end_of c e * (x.duration * x.spread * x.spread_rise)) 10000000) → r ≡ bracket (creditLoss a x)
-credit-of a x c r p q = rw p at q ∙ by-ends (λ e. divide e (a.credit * (x.duration * x.spread * x.spread_rise)) 10000000) (creditLoss a x) (credit-is a x)
+    → r ≡ bracket (λ e. divide e (end_of c e * (x.duration * x.spread * x.spread_rise)) 10000000) → r ≡ bracket (credit_loss a x)
+credit-of a x c r p q = rw p at q ∙ by-ends (λ e. divide e (a.credit * (x.duration * x.spread * x.spread_rise)) 10000000) (credit_loss a x) (credit-is a x)

@@ -3,7 +3,7 @@ ghost use Rattle.std.specs.Prelude.{◌≡◌, ◌*◌, ◌^◌, ◌≤◌};
 ghost use Rattle.arith.specs.Brackets.{bracket, end_of};
 ghost use Rattle.method.specs.Rounded as Rounded;
 ghost use Rattle.arith.specs.inner.Range.{UpTo};
-ghost use Rattle.money.specs.inner.Buffer.{bufferOf};
+ghost use Rattle.money.specs.inner.Buffer.{buffer_of};
 ghost use Rattle.money.specs.inner.Ranges.{LossesFit};
 
 use arith::bracket::Bracket;
@@ -22,15 +22,17 @@ pub struct Losses {
 
 fn square(s: u64) -> u128
     requires { s ≤ 50 * 10 ^ 12 }
-    ensures { (result ≡ s * s) × (result ≤ 25 * 10 ^ 26) }
+    ensures value { result ≡ s * s }
+    ensures bound { result ≤ 25 * 10 ^ 26 }
 {
     s as u128 * s as u128
 }
 
 // An end of S: the root of the six squares, and of twice the correlation times the first two losses, over 1,000 for the thousandths.
 fn root_of_squares<E: End>(correlation: u64, s: &Losses) -> u64
-    requires { (correlation ≤ 1000) × LossesFit s.now }
-    ensures value { result ≡ bufferOf correlation s.now E.end }
+    requires correlation { correlation ≤ 1000 }
+    requires losses { LossesFit s.now }
+    ensures value { result ≡ buffer_of correlation s.now E.end }
     ensures bound { result ≤ 2 ^ 56 }
 {
     let first = E::of(s.s1);
@@ -47,8 +49,9 @@ fn root_of_squares<E: End>(correlation: u64, s: &Losses) -> u64
 
 /// S, with the correlation in thousandths. An end is a line of its own: a closure cannot be generic over `End`.
 pub fn buffer(correlation: u64, s: &Losses) -> Bracket
-    requires { (correlation ≤ 1000) × LossesFit s.now }
-    ensures value { result ≡ bracket (bufferOf correlation s.now) }
+    requires correlation { correlation ≤ 1000 }
+    requires losses { LossesFit s.now }
+    ensures value { result ≡ bracket (buffer_of correlation s.now) }
     ensures bound { UpTo (2 ^ 56) result }
 {
     Bracket {

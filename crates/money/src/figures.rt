@@ -3,9 +3,9 @@ ghost use Rattle.std.specs.Prelude.{◌≡◌};
 ghost use Rattle.arith.specs.Brackets.{bracket, end_of};
 ghost use Rattle.model.specs.Limits.{AmountsWithin, ShocksWithin, PeopleWithin};
 ghost use Rattle.method.specs.Rounded as Rounded;
-ghost use Rattle.method.specs.Rounded.{figuresOf};
+ghost use Rattle.method.specs.Rounded.{figures_of};
 ghost use Rattle.money.specs.inner.OnCurves.{ends};
-ghost use Rattle.money.specs.inner.ByWorths.{moneyBy};
+ghost use Rattle.money.specs.inner.ByWorths.{money_by};
 ghost use Rattle.money.specs.inner.Ranges.{WorthFits, WorthsFit, Judgeable};
 
 use super::buffer::{Losses, buffer};
@@ -30,7 +30,7 @@ fn assets(bonds: Bracket, a: &Amounts) -> Bracket
 // All ten figures, from the worth of the pension flows and the bonds on the three curves.
 fn figures(l: Three<Bracket>, b: Three<Bracket>, a: &Amounts, x: &Shocks, p: &People) -> Figures
     requires { WorthsFit l × WorthsFit b × AmountsWithin a.now × ShocksWithin x.now × PeopleWithin p.now }
-    ensures value { result ≡ figuresOf (ends l) (ends b) a.now x.now p.now }
+    ensures value { result ≡ figures_of (ends l) (ends b) a.now x.now p.now }
     ensures bound { Judgeable result.a result.l result.s }
 {
     let losses = Losses {
@@ -66,7 +66,7 @@ pub fn money_by(
     p: &People,
 ) -> Valuation
     requires { WorthsFit l × WorthsFit b × AmountsWithin a.now × ShocksWithin x.now × PeopleWithin p.now }
-    ensures { result ≡ moneyBy (ends l) (ends b) a.now x.now p.now }
+    ensures { result ≡ money_by (ends l) (ends b) a.now x.now p.now }
 {
     let figures = figures(l, b, a, x, p);
     let verdict = verdict_of(figures.a, figures.l, figures.s);

@@ -3,8 +3,8 @@ ghost use Rattle.std.specs.Prelude.{◌≡◌, ◌*◌, ◌^◌, ◌≤◌, ◌<
 ghost use Rattle.arith.specs.Root.{root};
 ghost use Rattle.arith.specs.Brackets.{bracket, end_of};
 ghost use Rattle.model.specs.Limits.{AmountsWithin, ShocksWithin, PeopleWithin};
-ghost use Rattle.model.specs.Case.{ageGap};
-ghost use Rattle.method.specs.Rounded.{fallOf, interestLoss, equityLoss, currencyLoss, commodityLoss, creditLoss, mortality, mortalityLoss};
+ghost use Rattle.model.specs.Case.{age_gap};
+ghost use Rattle.method.specs.Rounded.{fall_of, interest_loss, equity_loss, currency_loss, commodity_loss, credit_loss, mortality, mortality_loss};
 ghost use Rattle.curves.specs.inner.Three.{on};
 ghost use Rattle.money.specs.inner.OnCurves.{ends};
 ghost use Rattle.money.specs.inner.Ranges.{LossFits, WorthFits, WorthsFit};
@@ -18,7 +18,7 @@ use model::case::{Amounts, People, Shocks};
 // (B - L) - (Bm - Lm), or 0, where Bm and Lm are the worths on a moved curve.
 fn fall(b: Bracket, l: Bracket, bm: Bracket, lm: Bracket) -> Bracket
     requires { WorthFits b × WorthFits l × WorthFits bm × WorthFits lm }
-    ensures { result ≡ bracket (fallOf (end_of l) (end_of b) (end_of lm) (end_of bm)) }
+    ensures { result ≡ bracket (fall_of (end_of l) (end_of b) (end_of lm) (end_of bm)) }
 {
     b.plus(lm).less(bm.plus(l))
 }
@@ -27,7 +27,7 @@ fn fall(b: Bracket, l: Bracket, bm: Bracket, lm: Bracket) -> Bracket
 // That the worths fit is asked of the caller: a `Three` of brackets is one of factors too, of other sizes.
 pub fn s1(l: Three<Bracket>, b: Three<Bracket>) -> Bracket
     requires { WorthsFit l × WorthsFit b }
-    ensures value { result ≡ bracket (interestLoss (ends l) (ends b)) }
+    ensures value { result ≡ bracket (interest_loss (ends l) (ends b)) }
     ensures bound { LossFits result }
 {
     let up = fall(b.base, l.base, b.up, l.up);
@@ -38,7 +38,8 @@ pub fn s1(l: Three<Bracket>, b: Three<Bracket>) -> Bracket
 // The loss on an amount in euros, in thousandths of a euro.
 fn loss(euros: u64, thousandths: u64) -> u64
     requires { (euros ≤ 100000000000) × (thousandths ≤ 1000) }
-    ensures { (result ≡ euros * thousandths) × (result ≤ 10 ^ 14) }
+    ensures value { result ≡ euros * thousandths }
+    ensures bound { result ≤ 10 ^ 14 }
 {
     euros * thousandths
 }
@@ -49,7 +50,7 @@ fn loss(euros: u64, thousandths: u64) -> u64
 /// S2: the four equity and property amounts times their thousandths, summed and then rounded.
 pub fn s2(a: &Amounts, x: &Shocks) -> Bracket
     requires { AmountsWithin a.now × ShocksWithin x.now }
-    ensures value { result ≡ bracket (equityLoss a.now x.now) }
+    ensures value { result ≡ bracket (equity_loss a.now x.now) }
     ensures bound { LossFits result }
 {
     let equity = loss(a.mature, x.mature_fall)
@@ -62,7 +63,7 @@ pub fn s2(a: &Amounts, x: &Shocks) -> Bracket
 /// S3: the currency exposure times its thousandths.
 pub fn s3(a: &Amounts, x: &Shocks) -> Bracket
     requires { AmountsWithin a.now × ShocksWithin x.now }
-    ensures value { result ≡ bracket (currencyLoss a.now x.now) }
+    ensures value { result ≡ bracket (currency_loss a.now x.now) }
     ensures bound { LossFits result }
 {
     Bracket::quotient(100 * loss(a.currency, x.currency_fall), 1_000)
@@ -72,7 +73,7 @@ pub fn s3(a: &Amounts, x: &Shocks) -> Bracket
 // S3 and S4 are a line each, with a definition each: a function for both would save nothing.
 pub fn s4(a: &Amounts, x: &Shocks) -> Bracket
     requires { AmountsWithin a.now × ShocksWithin x.now }
-    ensures value { result ≡ bracket (commodityLoss a.now x.now) }
+    ensures value { result ≡ bracket (commodity_loss a.now x.now) }
     ensures bound { LossFits result }
 {
     Bracket::quotient(100 * loss(a.commodities, x.commodities_fall), 1_000)
@@ -81,7 +82,7 @@ pub fn s4(a: &Amounts, x: &Shocks) -> Bracket
 /// S5: credit × duration × spread × spread rise, by 100 ÷ 10^9, which is 1 ÷ 10^7. The product of all four can pass 64 bits.
 pub fn s5(a: &Amounts, x: &Shocks) -> Bracket
     requires { AmountsWithin a.now × ShocksWithin x.now }
-    ensures value { result ≡ bracket (creditLoss a.now x.now) }
+    ensures value { result ≡ bracket (credit_loss a.now x.now) }
     ensures bound { LossFits result }
 {
     let widened = x.duration * x.spread * x.spread_rise;
@@ -91,7 +92,7 @@ pub fn s5(a: &Amounts, x: &Shocks) -> Bracket
 // An end of S6.
 fn mortality_loss<E: End>(l: Bracket, p: &People) -> u64
     requires { WorthFits l × PeopleWithin p.now }
-    ensures value { result ≡ mortalityLoss (end_of l) p.now E.end }
+    ensures value { result ≡ mortality_loss (end_of l) p.now E.end }
     ensures bound { result ≤ 50 * 10 ^ 12 }
 {
     let gap = p.pension_age.saturating_sub(p.mean_age);
@@ -104,7 +105,7 @@ fn mortality_loss<E: End>(l: Bracket, p: &People) -> u64
 /// S6: the liabilities times the root of TSO² + NSA², which are one fraction of whole numbers. An end is a line of its own, as in `buffer`.
 pub fn s6(l: Bracket, p: &People) -> Bracket
     requires { WorthFits l × PeopleWithin p.now }
-    ensures value { result ≡ bracket (mortalityLoss (end_of l) p.now) }
+    ensures value { result ≡ bracket (mortality_loss (end_of l) p.now) }
     ensures bound { LossFits result }
 {
     Bracket {

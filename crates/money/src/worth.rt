@@ -2,7 +2,7 @@
 ghost use Rattle.std.specs.Prelude.{◌≡◌, length};
 ghost use Rattle.arith.specs.Brackets.{bracket};
 ghost use Rattle.method.specs.Rounded.{worth};
-ghost use Rattle.curves.specs.inner.ByTerm.{factorAt};
+ghost use Rattle.curves.specs.inner.ByTerm.{factor_at};
 ghost use Rattle.money.specs.inner.Ranges.{FlowsFit, FactorsFit, WorthFits};
 
 use arith::bracket::Bracket;
@@ -14,7 +14,7 @@ const UNITS_PER_CENT: u64 = 10_000_000_000;
 /// Flows, the first at term 1, times the factors of their terms: each rounded, then summed.
 pub fn worth_of(flows: &[u64], factors: &[Bracket]) -> Bracket
     requires { FlowsFit flows.now × FactorsFit factors.now (length flows.now) }
-    ensures value { result ≡ bracket (λ e. worth e (factorAt factors.now e) 1 flows.now) }
+    ensures value { result ≡ bracket (λ e. worth e (factor_at factors.now e) 1 flows.now) }
     ensures bound { WorthFits result }
 {
     let mut total = Bracket::exactly(0);

@@ -11,13 +11,13 @@ use lib.IntN.{ℤ}
 use lib.ListN.{length, drop}
 use Rattle.std.proofs.lemmas.Bool.{and_right}
 use Rattle.std.specs.Prelude.{Result, Ok, Err}
-use Rattle.method.specs.Buffers.{valuationRefusal}
-use Rattle.model.specs.Case.{FileCase, perStep, withUfr}
+use Rattle.method.specs.Buffers.{valuation_refusal}
+use Rattle.model.specs.Case.{FileCase, per_step, with_ufr}
 use Rattle.method.specs.Curve.{base, curve, P}
 use Rattle.heldcase.specs.Held.{held}
 use Rattle.model.specs.Layout.{case_of}
 use Rattle.model.specs.Limits.{WithinLimits}
-use Rattle.monthsmodel.specs.Months.{ufrRefusal, ufrFound, foundOr, ufrAnswer, monthsRefusal, monthsCase, monthsValuation, monthsFactorsAfter, monthsRatesAfter}
+use Rattle.monthsmodel.specs.Months.{ufr_refusal, ufr_found, found_or, ufr_answer, months_refusal, months_case, months_valuation, months_factors_after, months_rates_after}
 use Rattle.model.specs.Refusals.{first_of, refusal}
 use Rattle.heldcase.specs.declared.Case.{Case}
 use Rattle.model.specs.declared.figures.Valuation.{Valuation}
@@ -26,18 +26,18 @@ use Rattle.theory.proofs.general.Lists.{table_same}
 use Rattle.theory.proofs.months.Valued.{own_first, history-after, within-limits}
 use Rattle.refusal.specs.Numbered.{number_of}
 use Rattle.refusal.specs.declared.Refusal.{Refusal}
-use Rattle.reader.proofs.Steps.{some_number}
+use Rattle.fields.proofs.Steps.{some_number}
 use Rattle.working.specs.inner.Ranges.{CaseFits}
-use Rattle.working.specs.inner.Working.{factorsOn, ratesOn, moneyOf}
+use Rattle.working.specs.inner.Working.{factors_on, rates_on, money_of}
 use Rattle.working.proofs.HeldCase.{held_fits, held-valued}
 use Rattle.months.specs.inner.Changed.{changed}
 
 -- ---- the case with another UFR
 
-changed-held : (ufr : ℕ) (k : FileCase) → changed ufr (held k) ≡ held (withUfr ufr k)
-unfolding held perStep
+changed-held : (ufr : ℕ) (k : FileCase) → changed ufr (held k) ≡ held (with_ufr ufr k)
+unfolding held per_step
 changed-held ufr k =
-    rw (table_same (λ i. P (curve k base) (suc i)) (λ i. P (curve (withUfr ufr k) base) (suc i)) 60 (λ i l. sym (ufr-P ufr k base (suc i))))
+    rw (table_same (λ i. P (curve k base) (suc i)) (λ i. P (curve (with_ufr ufr k) base) (suc i)) 60 (λ i l. sym (ufr-P ufr k base (suc i))))
 
 -- ---- what a history gives
 
@@ -46,33 +46,33 @@ abbrev number_in : Result ℕ ℕ → ℕ
 number_in (Ok ufr) = ufr
 number_in (Err number) = number
 
-found_of : (r ufr n : ℕ) → foundOr r ufr ≡ Ok n → (r ≡ 0) × (ufr ≡ n)
+found_of : (r ufr n : ℕ) → found_or r ufr ≡ Ok n → (r ≡ 0) × (ufr ≡ n)
 found_of zero ufr n e = (refl, ap number_in e)
 found_of (suc r) ufr n e = let x : ◌≡◌ {A = ℕ} 0 1 = cc in let never : ⊥ = omega arith in absurd never
 
-refused-of : (r ufr n : ℕ) → foundOr r ufr ≡ Err n → (r ≡ n) × (0 < n)
+refused-of : (r ufr n : ℕ) → found_or r ufr ≡ Err n → (r ≡ n) × (0 < n)
 refused-of zero ufr n e = let x : ◌≡◌ {A = ℕ} 0 1 = cc in let never : ⊥ = omega arith in absurd never
 refused-of (suc r) ufr n e = let is = ap number_in e in (is, omega arith)
 
 module _ (file history : List ℕ) (start : ℕ) (f₀ : List ℕ) (z₀ : List ℤ) where
   abbrev number : ℕ
-  number = monthsRefusal file history start (length f₀) (length z₀)
+  number = months_refusal file history start (length f₀) (length z₀)
 
   -- the contract of `value_with_months`: the answer, and both buffers at the end
   abbrev pub Meets : Result Valuation ℕ → List ℕ → List ℤ → Type 0
   Meets answer fs zs = record {
-    value : answer ≡ monthsValuation file history start (length f₀) (length z₀);
-    factors : fs ≡ monthsFactorsAfter file history start f₀ z₀;
-    rates : zs ≡ monthsRatesAfter file history start f₀ z₀;
+    value : answer ≡ months_valuation file history start (length f₀) (length z₀);
+    factors : fs ≡ months_factors_after file history start f₀ z₀;
+    rates : zs ≡ months_rates_after file history start f₀ z₀;
   }
 
   refused-with : (n : ℕ) → number ≡ n → 0 < n → Meets (Err n) f₀ z₀
-  unfolding monthsValuation monthsFactorsAfter monthsRatesAfter
+  unfolding months_valuation months_factors_after months_rates_after
   refused-with zero e l = let never : ⊥ = omega arith in absurd never
   refused-with (suc n) e l = record { value = rw e; factors = rw e; rates = rw e }
 
   short : (leb 240 (length f₀) && leb 240 (length z₀)) ≡ false → Meets (Err 13) f₀ z₀
-  unfolding monthsRefusal first_of
+  unfolding months_refusal first_of
   short h = refused-with 13 (rw h) (lit< tt)
 
   pub short-factors : length f₀ < 240 → Meets (Err 13) f₀ z₀
@@ -82,8 +82,8 @@ module _ (file history : List ℕ) (start : ℕ) (f₀ : List ℕ) (z₀ : List 
   short-rates h = short (and_right (leb 240 (length f₀)) (leb 240 (length z₀)) (lt-leb 240 (length z₀) h))
 
   module _ (hf : 240 ≤ length f₀) (hz : 240 ≤ length z₀) where
-    own : valuationRefusal (length f₀) (length z₀) file ≡ refusal file
-    unfolding valuationRefusal refusal first_of
+    own : valuation_refusal (length f₀) (length z₀) file ≡ refusal file
+    unfolding valuation_refusal refusal first_of
     own = rw (le-leb 240 (length f₀) hf, le-leb 240 (length z₀) hz)
 
     pub refused-file : (e : Refusal) → number_of e ≡ refusal file → Meets (Err (number_of e)) f₀ z₀
@@ -93,39 +93,39 @@ module _ (file history : List ℕ) (start : ℕ) (f₀ : List ℕ) (z₀ : List 
         go zero is some = let never : ⊥ = omega arith in absurd never
         go (suc m) is some = refused-with (suc m) (own_first file history start (length f₀) (length z₀) m (own ∙ is)) (omega arith)
 
-    module _ (accepted : 0 ≡ refusal file) {found : Result ℕ ℕ} (given : found ≡ ufrAnswer history start) where
-      later : number ≡ ufrRefusal history start
+    module _ (accepted : 0 ≡ refusal file) {found : Result ℕ ℕ} (given : found ≡ ufr_answer history start) where
+      later : number ≡ ufr_refusal history start
       later = history-after file history start (length f₀) (length z₀) (own ∙ sym accepted)
 
       pub refused-history : (n : ℕ) → found ≡ Err n → Meets (Err n) f₀ z₀
-      unfolding ufrAnswer
+      unfolding ufr_answer
       refused-history n e =
-          let (is, some) = refused-of (ufrRefusal history start) (ufrFound history) n (sym given ∙ e) in
+          let (is, some) = refused-of (ufr_refusal history start) (ufr_found history) n (sym given ∙ e) in
           refused-with n (later ∙ is) some
 
       module _ {ufr : ℕ} {case : Case} (e : found ≡ Ok ufr) {k : Case} (holds : k ≡ held (case_of file)) (made : case ≡ changed ufr k) where
-        none : (number ≡ 0) × (ufrFound history ≡ ufr)
-        unfolding ufrAnswer
+        none : (number ≡ 0) × (ufr_found history ≡ ufr)
+        unfolding ufr_answer
         none =
-            let (is, steps) = found_of (ufrRefusal history start) (ufrFound history) ufr (sym given ∙ e) in
+            let (is, steps) = found_of (ufr_refusal history start) (ufr_found history) ufr (sym given ∙ e) in
             (later ∙ is, steps)
 
-        case-holds : case ≡ held (monthsCase file history)
+        case-holds : case ≡ held (months_case file history)
         case-holds =
-            made ∙ ap₂ changed (sym none.1) holds ∙ changed-held (ufrFound history) (case_of file)
+            made ∙ ap₂ changed (sym none.1) holds ∙ changed-held (ufr_found history) (case_of file)
 
-        limits : WithinLimits (monthsCase file history)
+        limits : WithinLimits (months_case file history)
         limits = within-limits file history start (length f₀) (length z₀) none.0
 
         pub case-fits : CaseFits case
-        case-fits = subst CaseFits (sym case-holds) (held_fits (monthsCase file history) limits)
+        case-fits = subst CaseFits (sym case-holds) (held_fits (months_case file history) limits)
 
         pub valued-months : {v : Valuation} {factors : List ℕ} {rates : List ℤ}
-            → v ≡ moneyOf case
-            → factors ≡ factorsOn case base ++ drop 240 f₀
-            → rates ≡ ratesOn case ++ drop 240 z₀
+            → v ≡ money_of case
+            → factors ≡ factors_on case base ++ drop 240 f₀
+            → rates ≡ rates_on case ++ drop 240 z₀
             → Meets (Ok v) factors rates
-        unfolding monthsValuation monthsFactorsAfter monthsRatesAfter
+        unfolding months_valuation months_factors_after months_rates_after
         valued-months p q t =
-            let (x, (y, z)) = held-valued (monthsCase file history) limits f₀ z₀ case-holds p q t in
+            let (x, (y, z)) = held-valued (months_case file history) limits f₀ z₀ case-holds p q t in
             record { value = rw none.0 x; factors = rw none.0 y; rates = rw none.0 z }

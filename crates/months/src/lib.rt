@@ -1,15 +1,17 @@
-// The valuation of a case file with the UFR from ten years of months, as a host calls it.
+// The UFR from ten years of months, and the valuation of a case file with it, as a host calls them.
 #![tactic(auto)]
 
+pub mod ufr;
+
 ghost use Rattle.std.specs.Prelude.{◌≡◌, length};
-ghost use Rattle.monthsmodel.specs.Months.{monthsValuation, monthsFactorsAfter, monthsRatesAfter};
+ghost use Rattle.monthsmodel.specs.Months.{months_valuation, months_factors_after, months_rates_after};
 ghost use Rattle.refusal.specs.Numbered.{answer_of};
 
 use heldcase::Case;
-use history::ufr_of;
 use model::figures::Valuation;
 use reader::file::read;
 use refusal::Refusal;
+use ufr::ufr_of;
 use working::value_case;
 
 /// Values a case file with the UFR that a history gives into two lent buffers, as `engine::value` does a file that has that UFR in its
@@ -21,9 +23,9 @@ pub fn value_with_months(
     factors: &mut [u64],
     rates: &mut [i64],
 ) -> Result<Valuation, Refusal>
-    ensures value { answer_of result ≡ monthsValuation file.now history.now start (length factors.old) (length rates.old) }
-    ensures factors { factors.new ≡ monthsFactorsAfter file.now history.now start factors.old rates.old }
-    ensures rates { rates.new ≡ monthsRatesAfter file.now history.now start factors.old rates.old }
+    ensures value { answer_of result ≡ months_valuation file.now history.now start (length factors.old) (length rates.old) }
+    ensures factors { factors.new ≡ months_factors_after file.now history.now start factors.old rates.old }
+    ensures rates { rates.new ≡ months_rates_after file.now history.now start factors.old rates.old }
 {
     let factors = factors.first_chunk_mut().ok_or(Refusal::Buffers)?;
     let rates = rates.first_chunk_mut().ok_or(Refusal::Buffers)?;

@@ -11,13 +11,13 @@ use Rattle.method.specs.Fraction.{◌//◌, ◌≐◌}
 use Rattle.method.specs.Curve.{base, up, down, curve}
 use Rattle.method.specs.Exact as Exact
 use Rattle.method.specs.Rounded as Rounded
-use Rattle.method.specs.Buffers.{valuationOf}
+use Rattle.method.specs.Buffers.{valuation_of}
 use Rattle.method.specs.Listing.{listing}
 use Rattle.method.proofs.Computing.{text, all}
-use Rattle.method.proofs.Pinned.{bentCurve, upFile, downFile, deepestFile, deepestCase, long}
+use Rattle.method.proofs.Pinned.{bent_curve, up_file, down_file, deepest_file, deepest_case, long}
 
-abbrev pub upListing : List String
-upListing =
+abbrev pub up_listing : List String
+up_listing =
     "L 7444567283 7444567286"
     ∷ "B 8921231953 8921231956"
     ∷ "A 9383071053 9383071056"
@@ -31,12 +31,12 @@ upListing =
     ∷ "V RESERVETEKORT"
     ∷ []
 
-up-listing : listing (valuationOf 240 240 upFile) ≡ text upListing
+up-listing : listing (valuation_of 240 240 up_file) ≡ text up_listing
 unfolding all
 up-listing = refl
 
-abbrev pub downListing : List String
-downListing =
+abbrev pub down_listing : List String
+down_listing =
     "L 12074946603 12074946606"
     ∷ "B 1586365554 1586365557"
     ∷ "A 25007319254 25007319257"
@@ -50,12 +50,12 @@ downListing =
     ∷ "V VRIJ VERMOGEN"
     ∷ []
 
-down-listing : listing (valuationOf 240 240 downFile) ≡ text downListing
+down-listing : listing (valuation_of 240 240 down_file) ≡ text down_listing
 unfolding all
 down-listing = refl
 
-abbrev pub deepestListing : List String
-deepestListing =
+abbrev pub deepest_listing : List String
+deepest_listing =
     "L 222632984298 222632984320"
     ∷ "B 18276301930 18276301932"
     ∷ "A 248276301930 248276301932"
@@ -69,46 +69,46 @@ deepestListing =
     ∷ "V VRIJ VERMOGEN"
     ∷ []
 
-deepest-listing : listing (valuationOf 240 240 deepestFile) ≡ text deepestListing
+deepest-listing : listing (valuation_of 240 240 deepest_file) ≡ text deepest_listing
 unfolding all
 deepest-listing = refl
 
-bent-factor-40 : (Rounded.factor bentCurve low 40 ≡ 536796712985)
-    × (Rounded.factor bentCurve high 40 ≡ 536796713129)
+bent-factor-40 : (Rounded.factor bent_curve low 40 ≡ 536796712985)
+    × (Rounded.factor bent_curve high 40 ≡ 536796713129)
 unfolding all
 bent-factor-40 = (refl, refl)
 
-bent-factor-60 : (Rounded.factor bentCurve low 60 ≡ 235189661055)
-    × (Rounded.factor bentCurve high 60 ≡ 235189661143)
+bent-factor-60 : (Rounded.factor bent_curve low 60 ≡ 235189661055)
+    × (Rounded.factor bent_curve high 60 ≡ 235189661143)
 unfolding all
 bent-factor-60 = (refl, refl)
 
-bent-factor-61 : (Rounded.factor bentCurve low 61 ≡ 225448050780)
-    × (Rounded.factor bentCurve high 61 ≡ 225448050866)
+bent-factor-61 : (Rounded.factor bent_curve low 61 ≡ 225448050780)
+    × (Rounded.factor bent_curve high 61 ≡ 225448050866)
 unfolding all
 bent-factor-61 = (refl, refl)
 
-bent-factor-120 : (Rounded.factor bentCurve low 120 ≡ 18582910617)
-    × (Rounded.factor bentCurve high 120 ≡ 18582910646)
+bent-factor-120 : (Rounded.factor bent_curve low 120 ≡ 18582910617)
+    × (Rounded.factor bent_curve high 120 ≡ 18582910646)
 unfolding all
 bent-factor-120 = (refl, refl)
 
-bent-zero-rate-1 : (Rounded.zeroRate bentCurve low 1 ≡ neg_ℤ (pos 298))
-    × (Rounded.zeroRate bentCurve high 1 ≡ neg_ℤ (pos 297))
+bent-zero-rate-1 : (Rounded.zero_rate bent_curve low 1 ≡ neg_ℤ (pos 298))
+    × (Rounded.zero_rate bent_curve high 1 ≡ neg_ℤ (pos 297))
 unfolding all
 bent-zero-rate-1 = (refl, refl)
 
-bent-zero-rate-2 : (Rounded.zeroRate bentCurve low 2 ≡ neg_ℤ (pos 238))
-    × (Rounded.zeroRate bentCurve high 2 ≡ neg_ℤ (pos 236))
+bent-zero-rate-2 : (Rounded.zero_rate bent_curve low 2 ≡ neg_ℤ (pos 238))
+    × (Rounded.zero_rate bent_curve high 2 ≡ neg_ℤ (pos 236))
 unfolding all
 bent-zero-rate-2 = (refl, refl)
 
-bent-zero-rate-3 : (Rounded.zeroRate bentCurve low 3 ≡ neg_ℤ (pos 178))
-    × (Rounded.zeroRate bentCurve high 3 ≡ neg_ℤ (pos 177))
+bent-zero-rate-3 : (Rounded.zero_rate bent_curve low 3 ≡ neg_ℤ (pos 178))
+    × (Rounded.zero_rate bent_curve high 3 ≡ neg_ℤ (pos 177))
 unfolding all
 bent-zero-rate-3 = (refl, refl)
 
-bent-zero-rate-21 : Rounded.zeroRate bentCurve high 21 ≡ pos 409
+bent-zero-rate-21 : Rounded.zero_rate bent_curve high 21 ≡ pos 409
 unfolding all
 bent-zero-rate-21 = refl
 
@@ -137,21 +137,21 @@ long-down-B : (Rounded.B long down low ≡ 369506823026)
 unfolding all
 long-down-B = (refl, refl)
 
-deepest-down-exact-unadjusted-60 : Exact.unadjusted (curve deepestCase down) 60 ≐ 867361737988403547205962240695953369140625000000000000000000000000000000000000000000000000000000000000 // 258086210989349276047917817413172383631691140276099547911280598425927853437317437263620645695945672001
+deepest-down-exact-unadjusted-60 : Exact.unadjusted (curve deepest_case down) 60 ≐ 867361737988403547205962240695953369140625000000000000000000000000000000000000000000000000000000000000 // 258086210989349276047917817413172383631691140276099547911280598425927853437317437263620645695945672001
 unfolding all
 deepest-down-exact-unadjusted-60 = (lit< tt, lit< tt, refl)
 
-deepest-base-B : (Rounded.B deepestCase base low ≡ 18276301930)
-    × (Rounded.B deepestCase base high ≡ 18276301932)
+deepest-base-B : (Rounded.B deepest_case base low ≡ 18276301930)
+    × (Rounded.B deepest_case base high ≡ 18276301932)
 unfolding all
 deepest-base-B = (refl, refl)
 
-deepest-up-B : (Rounded.B deepestCase up low ≡ 15520963843)
-    × (Rounded.B deepestCase up high ≡ 15520963845)
+deepest-up-B : (Rounded.B deepest_case up low ≡ 15520963843)
+    × (Rounded.B deepest_case up high ≡ 15520963845)
 unfolding all
 deepest-up-B = (refl, refl)
 
-deepest-down-B : (Rounded.B deepestCase down low ≡ 33607442050)
-    × (Rounded.B deepestCase down high ≡ 33607442052)
+deepest-down-B : (Rounded.B deepest_case down low ≡ 33607442050)
+    × (Rounded.B deepest_case down high ≡ 33607442052)
 unfolding all
 deepest-down-B = (refl, refl)

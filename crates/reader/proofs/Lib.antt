@@ -1,13 +1,3 @@
-pub mod Bits
-pub mod Counted
-pub mod DayRates
-pub mod DaySums
-pub mod Digits
-pub mod Fields
 pub mod Exactly
-pub mod Forwards
 pub mod InOrder
-pub mod Runs
-pub mod Steps
-pub mod Until
 pub mod Whole

@@ -1,142 +1,74 @@
--- The whole file: the days that it has, the end, the limits of 6, and the case.
-use Rattle.std.proofs.Common.{◌≡◌, ◌∙◌, ℕ, zero, suc, ◌+◌, ◌-◌, ◌*◌, Bool, true, false, not, cond, List, [], ◌∷◌, ◌++◌, length, get_or, take, drop, leb, ap, refl, subst, Option, Some, None, Result, Ok, Err, arith, ◌<◌, ℤ, pos, neg_ℤ, ◌+ℤ◌, ◌-ℤ◌, ◌*ℤ◌}
-use Rattle.std.specs.Prelude.{MatchOption, IsErr, IsErrAnd}
+-- The whole file: the fields that its map announces, and the case that they hold.
+use Rattle.std.proofs.Common.{◌≡◌, ◌∙◌, ℕ, ◌+◌, ◌*◌, Bool, true, false, not, cond, List, [], ◌∷◌, length, get_or, take, drop, leb, ap, refl, sym, subst, Option, Some, None, Ok, Err, ℤ}
+use Rattle.std.specs.Prelude.{MatchOption}
+use Rattle.std.specs.Option.{option_or, unwrap_or}
 use Rattle.std.specs.Borrow.{Bor}
 use mathlib.Core.Path.{ap₂}
 use lib.Dec.{eqb}
-use Rattle.model.specs.Constants.{stepsPerOne}
-use Rattle.model.specs.Numbers.{every, table}
-use Rattle.model.specs.Case.{FileCase, perStep, s}
-use Rattle.model.specs.Fields.{Check, Field, optional, withinZ}
-use Rattle.model.specs.Layout.{day, days, fileMap, rateBytesIn}
-use Rattle.model.specs.Refusals.{forwardsRight, refusal, ratesPart, daysAt, dayCount}
-use Rattle.method.specs.Curve.{base, curve, natural, P}
+use Rattle.model.specs.Constants.{default_ufr}
+use Rattle.model.specs.Numbers.{every, number}
+use Rattle.model.specs.Case.{per_step}
+use Rattle.model.specs.Fields.{number_of, Field, field, optional}
+use Rattle.model.specs.Layout.{Parts, no_amounts, case_of, case_from, day, days, fields_of, file_map, rate_bytes_in, stands}
+use Rattle.model.specs.Refusals.{day_count, days_at, forwards_right, rates_part, refusal, ufr_end}
+use Rattle.model.specs.declared.case.Amounts.{Amounts}
+use Rattle.model.specs.declared.case.Shocks.{Shocks}
+use Rattle.model.specs.declared.case.People.{People}
 use Rattle.theory.proofs.acceptance.Runs.{values_length}
-use Rattle.theory.proofs.curve.CaseCurves.{base_sum}
-use Rattle.theory.proofs.general.Lists.{every-same, getD-table, table_same}
-use Rattle.refusal.specs.Numbered.{number_of}
-use Rattle.reader.specs.Answers.{RatesPart, Read}
-use Rattle.reader.specs.declared.file.Reading.{Reading}
-use Rattle.reader.specs.inner.Reading.{Moved, IsPart, Reads}
-use Rattle.reader.specs.inner.IsDays.{IsDays}
-use Rattle.reader.specs.inner.Sums.{Sums, sumAt, forwardRight, raised}
+use Rattle.heldcase.specs.Held.{held}
+use Rattle.refusal.specs.Numbered.{number_of as refusal_number}
 use Rattle.refusal.specs.declared.Refusal.{Refusal}
-use Rattle.reader.specs.declared.cursor.Cursor.{Cursor}
-use Rattle.reader.specs.declared.days.Days.{Days}
-use Rattle.reader.proofs.InOrder.{At, halt, step, value-there}
+use Rattle.fields.specs.Failing.{failing}
+use Rattle.fields.specs.IsDays.{IsDays}
+use Rattle.fields.specs.MapField.{map_field}
+use Rattle.fields.specs.Reading.{IfThere, IsPart, Moved, Reads}
+use Rattle.fields.specs.Sums.{forward_right, raised}
+use Rattle.fields.specs.declared.cursor.Cursor.{Cursor}
+use Rattle.fields.specs.declared.map.Map.{Map}
+use Rattle.fields.specs.declared.sums.FileDays.{FileDays}
+use Rattle.fields.proofs.DaySums.{forwards-are, sums-held}
+use Rattle.fields.proofs.Laid.{announced-are, first_laid, laid, read-or-absent}
+use Rattle.reader.specs.Answers.{RatesPart, Read}
+use Rattle.reader.proofs.InOrder.{map-refused, field-refused, end-refused, last-is}
 
 -- ---- the days, of two bytes or else of four
 
-pub days-there : {file : Bor (List ℕ)} {old : Cursor} {at w : ℕ} {rest : List Check} {v : Days} {ds : List (List ℤ)} → At file old at rest
-    → IsDays w old.file old.at v ds → IsDays w file at v ds
-days-there {w = w} {v = v} {ds = ds} a h = record {
-  sums = h.sums;
-  place = h.place ∙ ap (λ i. i + 1) a.there;
-  part = record {
-    bytes = h.part.bytes ∙ ap₂ (λ b i. take (w * 60 * length ds) (drop (i + 1) b.now)) a.same a.there;
-    place = h.part.place ∙ ap₂ (λ b i. (b.ref_ptr.0, i + 1 + b.ref_ptr.1)) a.same a.there;
-    whole = h.part.whole;
-  };
-}
+abbrev DaysRead : Bool → ℕ → Bor (List ℕ) → ℕ → Option FileDays → Type 0
+DaysRead there w file at v =
+    let x = cond there ((days w).value file.now at) [] in
+    IfThere there (MatchOption v ⊥ (λ d. IsDays w file at d x)) ((v ≡ None) × (x ≡ []))
 
 -- the days of a file with four-byte days, or without, where the two fields start at i and j
-abbrev pub daysIn : Bool → List ℕ → ℕ → ℕ → List (List ℤ)
-daysIn t file i j = cond (eqb (cond t 4 2) 4) ((optional t [] (days 4)).value file j) ((optional (not t) [] (days 2)).value file i)
+abbrev pub days_in : Bool → List ℕ → ℕ → ℕ → List (List ℤ)
+days_in t file i j = cond (eqb (cond t 4 2) 4) ((optional t [] (days 4)).value file j) ((optional (not t) [] (days 2)).value file i)
 
-pub record Told (t : Bool) (file : Bor (List ℕ)) (i j : ℕ) (v : Days) : Type 0 where
-  pub days : IsDays (cond t 4 2) file (cond t j i) v (daysIn t file.now i j)
-  pub count : length (daysIn t file.now i j) ≡ get_or file.now (cond t j i) 0
+pub record Told (t : Bool) (file : Bor (List ℕ)) (i j : ℕ) (v : FileDays) : Type 0 where
+  pub days : IsDays (cond t 4 2) file (cond t j i) v (days_in t file.now i j)
+  pub count : length (days_in t file.now i j) ≡ get_or file.now (cond t j i) 0
 
--- the two-byte days that have been read, where a file has these
-abbrev pub Short : Bool → Bor (List ℕ) → ℕ → Option Days → Type 0
-Short t file i short = MatchOption short (not t ≡ false) (λ d. (not t ≡ true) × IsDays 2 file i d ((days 2).value file.now i))
-
-pub short-told : (t : Bool) (short : Option Days) {file : Bor (List ℕ)} {old : Cursor} {i : ℕ} {rest : List Check} → At file old i rest
-    → MatchOption short (not t ≡ false) (λ d. (not t ≡ true) × IsDays 2 old.file old.at d ((days 2).value file.now i)) → Short t file i short
-short-told t None a h = h
-short-told t (Some d) a h = (h.0, days-there a h.1)
-
--- what reads the days answers
-abbrev pub Answer : Option Days → Cursor → Cursor → Result Days Refusal → Type 0
-Answer short old new r = MatchOption short (Reads (days 4) (IsDays 4 old.file old.at) old new r) (λ d. (r ≡ Ok d) × Moved old new old.at)
-
-pub long-told : (t : Bool) (short : Option Days) {file : Bor (List ℕ)} {old : Cursor} (new : Cursor) (v : Days) (i : ℕ) {j : ℕ} (rest : List Check)
-    → At file old j ((optional t [] (days 4)).checks file.now j ++ rest) → Short t file i short → Answer short old new (Ok v)
-    → At file new ((optional t [] (days 4)).end file.now j) rest × Told t file i j v
-long-told false (Some d) {file} new v i rest a h m =
-    let e : d ≡ v = cc in (
-      record { same = m.1.same ∙ a.same; there = m.1.behind ∙ a.there; left = a.left },
-      record {
-        days = subst (λ x. IsDays 2 file i x ((days 2).value file.now i)) e h.1;
-        count = values_length (day 2) file.now (i + 1) (get_or file.now i 0);
-      },
-    )
-long-told false None new v i rest a h m = let never : ⊥ = cc in absurd never
-long-told true (Some d) new v i rest a h m = let never : ⊥ = cc in absurd never
-long-told true None {file} new v i {j} rest a h m = (
-  step (days 4) rest a tt m.0 m.1.1,
-  record {
-    days = subst (IsDays 4 file j v) (value-there (days 4) rest a) (days-there a m.1.0);
-    count = values_length (day 4) file.now (j + 1) (get_or file.now j 0);
-  },
-)
-
-pub long-halt : (t : Bool) (short : Option Days) {file : Bor (List ℕ)} {old : Cursor} (new : Cursor) (i : ℕ) {j : ℕ} (rest : List Check) (e : Refusal)
-    → At file old j ((optional t [] (days 4)).checks file.now j ++ rest) → Short t file i short → Answer short old new (Err e)
-    → number_of e ≡ refusal file.now
-long-halt t (Some d) new i rest e a h m = let never : ⊥ = cc in absurd never
-long-halt false None new i rest e a h m = let never : ⊥ = cc in absurd never
-long-halt true None new i rest e a h m = halt (days 4) rest a e m
-
--- ---- the end of the file
-
-abbrev pub endField : Field ℕ
-endField = record {
-  bytes = λ v. [];
-  limits = λ v. [];
-  value = λ file at. 0;
-  end = λ file at. at;
-  checks = λ file at. (leb (length file) at, 2) ∷ [];
-}
-
-pub unmoved : (cursor : Cursor) → Moved cursor cursor cursor.at
-unmoved cursor = record { same = refl; behind = refl }
-
--- ---- the limits of 6
-
-pub forwards-are : {w : ℕ} {ds : List (List ℤ)} {u : ℕ} {sums : List ℤ} → Sums w ds u sums → every (forwardRight u sums) 60 ≡ forwardsRight u ds
-unfolding forwardsRight s
-forwards-are {w} {ds} {u} {sums} h =
-    every-same _ _ 60
-    (λ t l.
-    ap₂ (λ a b. withinZ (neg_ℤ (pos (2000 * u))) (pos (12000 * u)) (b -ℤ a)) (last t l) (ap (λ z. pos (suc t) *ℤ z) (sum t l)))
+days-told : (t : Bool) {s l : Bool} → s ≡ not t → l ≡ t → {file : Bor (List ℕ)} {i j : ℕ} (short long : Option FileDays) {o : Option FileDays} (v : FileDays)
+    → DaysRead s 2 file i short → DaysRead l 4 file j long → o ≡ option_or short long → o ≡ Some v → Told t file i j v
+days-told t es el {file} {i} {j} short long v hs hl eo ev =
+    go t short long (subst (λ s. DaysRead s 2 file i short) es hs) (subst (λ l. DaysRead l 4 file j long) el hl) (sym eo ∙ ev)
   where
-    sum : (t : ℕ) → t < 60 → get_or sums t (pos 0) ≡ s ds (suc t)
-    sum t l = ap (λ xs. get_or xs t (pos 0)) h.terms ∙ getD-table (λ t. s ds (suc t)) 60 t (pos 0) l
+    go : (t : Bool) (short long : Option FileDays) → DaysRead (not t) 2 file i short → DaysRead t 4 file j long → option_or short long ≡ Some v → Told t file i j v
+    go false (Some d) long h k e =
+        let is : d ≡ v = cc in record {
+          days = subst (λ x. IsDays 2 file i x ((days 2).value file.now i)) is h;
+          count = values_length (day 2) file.now (i + 1) (get_or file.now i 0);
+        }
+    go false None long h k e = absurd h
+    go true (Some d) long h k e = let none = h.0 in let never : ⊥ = cc in absurd never
+    go true None (Some d) h k e =
+        let is : d ≡ v = cc in record {
+          days = subst (λ x. IsDays 4 file j x ((days 4).value file.now j)) is k;
+          count = values_length (day 4) file.now (j + 1) (get_or file.now j 0);
+        }
+    go true None None h k e = absurd k
 
-    before : (t : ℕ) → t < 60 → sumAt sums t ≡ s ds t
-    before zero l = refl
-    before (suc t) l = sum t (omega arith)
-
-    last : (t : ℕ) → t < 60 → pos t *ℤ sumAt sums t ≡ pos (suc t - 1) *ℤ s ds (suc t - 1)
-    last t l = let e : t ≡ suc t - 1 = omega arith in ap (λ z. pos t *ℤ z) (before t l) ∙ ap (λ k. pos k *ℤ s ds k) e
-
--- ---- the case
-
-pub sums-held : (k : FileCase) {u : ℕ} {sums : List ℤ} → Sums k.rateBytes k.days u sums → raised u sums ≡ table (λ i. P (curve k base) (suc i)) 60
-unfolding perStep
-sums-held k {u} {sums} h =
-    table_same _ _ 60
-    (λ t l.
-    ap₂ (λ v z. natural (pos (stepsPerOne * v) +ℤ z)) h.step
-    (ap (λ xs. get_or xs t (pos 0)) h.terms ∙ getD-table (λ t. s k.days (suc t)) 60 t (pos 0) l)
-    ∙ base_sum k t)
-
--- ---- the rates
-
-pub rates-told : (file part : Bor (List ℕ)) (w at n : ℕ) → refusal file.now ≡ 0 → w ≡ rateBytesIn (fileMap file.now) → at ≡ daysAt file.now → n ≡ get_or file.now at 0
+pub rates-told : (file part : Bor (List ℕ)) (w at n : ℕ) → refusal file.now ≡ 0 → w ≡ rate_bytes_in (file_map file.now) → at ≡ days_at file.now → n ≡ get_or file.now at 0
     → IsPart file part (at + 1) (w * 60 * n) → RatesPart file part
-unfolding ratesPart dayCount
+unfolding rates_part day_count
 rates-told file part w at n z ew ea en h =
     let count = en ∙ ap (λ i. get_or file.now i 0) ea in
     record {
@@ -144,8 +76,168 @@ rates-told file part w at n z ew ea en h =
       place = rw z (h.place ∙ ap (λ i. (file.ref_ptr.0, i + 1 + file.ref_ptr.1)) ea);
     }
 
--- the answer of a `?` that gives up
-pub read-refused : (file : Bor (List ℕ)) (r : Result Reading Refusal) (e : Refusal) → IsErr r × IsErrAnd r (λ f. f ≡ e) → number_of e ≡ refusal file.now
-    → Read file r
-read-refused file (Ok v) e h k = absurd h.1
-read-refused file (Err f) e h k = record { number = ap number_of h.1 ∙ k; given = tt; there = tt }
+-- ---- the map, and the fields that it announces
+
+module _ {file : Bor (List ℕ)} {start c1 : Cursor} {map : Map} (begun : (start.file ≡ file) × (start.at ≡ 0))
+    (read : Reads map_field (λ v x. v.bits ≡ x) start c1 (Ok map)) where
+  abbrev bits : ℕ
+  bits = file_map file.now
+
+  file-is : c1.file ≡ file
+  file-is = read.1.1.same ∙ begun.0
+
+  at-is : c1.at ≡ 2
+  at-is = read.1.1.behind ∙ ap (λ i. i + 2) begun.1
+
+  bits-are : map.bits ≡ bits
+  unfolding file_map
+  bits-are = read.1.0 ∙ ap₂ (λ b i. number b.now i 2) begun.0 begun.1
+
+  map-right : failing (map_field.checks file.now 0) ≡ None
+  map-right = ap₂ (λ b i. failing (map_field.checks b.now i)) (sym begun.0) (sym begun.1) ∙ read.0
+
+  module _ {u s b a l : Bool} (eu : u ≡ stands 0 map.bits) (es : s ≡ not (stands 7 map.bits)) (eb : b ≡ stands 3 map.bits) (ea : a ≡ stands 4 map.bits)
+      (el : l ≡ stands 7 map.bits) where
+    abbrev t : Bool
+    t = stands 7 bits
+
+    ku : u ≡ stands 0 bits
+    ku = eu ∙ ap (stands 0) bits-are
+
+    ks : s ≡ not t
+    ks = es ∙ ap (λ n. not (stands 7 n)) bits-are
+
+    kb : b ≡ stands 3 bits
+    kb = eb ∙ ap (stands 3) bits-are
+
+    ka : a ≡ stands 4 bits
+    ka = ea ∙ ap (stands 4) bits-are
+
+    kl : l ≡ t
+    kl = el ∙ ap (stands 7) bits-are
+
+    abbrev fields : Field Parts
+    fields = laid u s b a l
+
+    fields-are : fields ≡ fields_of file.now
+    fields-are = (λ k. laid (ku k) (ks k) (kb k) (ka k) (kl k)) ∙ announced-are bits
+
+    checks-are : fields.checks c1.file.now c1.at ≡ (fields_of file.now).checks file.now 2
+    checks-are = λ k. (fields-are k).checks (file-is k).now (at-is k)
+
+    pub fields-refused : (e : Refusal) → Some (refusal_number e) ≡ failing (fields.checks c1.file.now c1.at) → refusal_number e ≡ refusal file.now
+    fields-refused e h = field-refused file.now map-right e (h ∙ ap failing checks-are)
+
+    module _ {c2 : Cursor} (right : failing (fields.checks c1.file.now c1.at) ≡ None) (moved : Moved c1 c2 (fields.end c1.file.now c1.at)) where
+      end-is : leb (length c2.file.now) c2.at ≡ leb (length file.now) ((fields_of file.now).end file.now 2)
+      end-is = ap₂ (λ b i. leb (length b.now) i) (moved.same ∙ file-is) (moved.behind ∙ (λ k. (fields-are k).end (file-is k).now (at-is k)))
+
+      fields-right : failing ((fields_of file.now).checks file.now 2) ≡ None
+      fields-right = ap failing (sym checks-are) ∙ right
+
+      pub more-refused : (e : Refusal) → Some (refusal_number e) ≡ failing ((leb (length c2.file.now) c2.at, 2) ∷ []) → refusal_number e ≡ refusal file.now
+      more-refused e h = end-refused file.now map-right fields-right e (h ∙ ap (λ b. failing ((b, 2) ∷ [])) end-is)
+
+      -- where the two days fields start
+      abbrev ufr_field : Bool → Field ℕ
+      ufr_field u = optional u default_ufr (field 9 (number_of 2 0 5000))
+
+      abbrev short_at : ℕ
+      short_at = (ufr_field (stands 0 bits)).end file.now 2
+
+      abbrev long_at : ℕ
+      long_at = (first_laid (stands 0 bits) (not t) (stands 3 bits) (stands 4 bits)).end file.now 2
+
+      days-at : days_at file.now ≡ cond t long_at short_at
+      unfolding days_at ufr_end
+      days-at = go t
+        where
+          go : (t : Bool) → cond t ((first_laid (stands 0 bits) (not true) (stands 3 bits) (stands 4 bits)).end file.now 2) (cond (stands 0 bits) 4 2)
+              ≡ cond t ((first_laid (stands 0 bits) (not t) (stands 3 bits) (stands 4 bits)).end file.now 2) short_at
+          go true = refl
+          go false = refl
+
+      abbrev parts : Parts
+      parts = (laid (stands 0 bits) (not t) (stands 3 bits) (stands 4 bits) t).value file.now 2
+
+      case-is : case_of file.now ≡ case_from (rate_bytes_in bits) parts
+      unfolding case_of
+      case-is = ap (λ (f : Field Parts). case_from (rate_bytes_in bits) (f.value file.now 2)) (sym (announced-are bits))
+
+      module _ (short long : Option FileDays) {o : Option FileDays} {v : FileDays} (hs : DaysRead s 2 c1.file ((ufr_field u).end c1.file.now c1.at) short)
+          (hl : DaysRead l 4 c1.file ((first_laid u s b a).end c1.file.now c1.at) long) (eo : o ≡ option_or short long) (ev : o ≡ Some v) where
+        told : Told t file short_at long_at v
+        told =
+            subst {A = Bor (List ℕ) × (ℕ × ℕ)} (λ p. Told t p.0 p.1.0 p.1.1 v)
+            (λ k. (file-is k, ((ufr_field (ku k)).end (file-is k).now (at-is k), (first_laid (ku k) (ks k) (kb k) (ka k)).end (file-is k).now (at-is k))))
+            (days-told t ks kl short long v hs hl eo ev)
+
+        -- 6, by the sums
+        six-is : every (forward_right v.summed.per_step v.summed.sums) 60 ≡ forwards_right (per_step (case_of file.now)) (case_of file.now).days
+        unfolding per_step
+        six-is =
+            forwards-are told.days.sums
+            ∙ ap (λ n. forwards_right n (days_in t file.now short_at long_at)) told.days.sums.step
+            ∙ ap (λ x. forwards_right (per_step x) x.days) (sym case-is)
+
+        module _ (ended : failing ((leb (length c2.file.now) c2.at, 2) ∷ []) ≡ None) where
+          last : {o : Option ℕ} → o ≡ failing ((every (forward_right v.summed.per_step v.summed.sums) 60, 6) ∷ []) → unwrap_or o 0 ≡ refusal file.now
+          last h =
+              last-is file.now map-right fields-right (ap (λ b. failing ((b, 2) ∷ [])) (sym end-is) ∙ ended)
+              (h ∙ ap (λ b. failing ((b, 6) ∷ [])) six-is)
+
+          pub six-refused : (e : Refusal) → Some (refusal_number e) ≡ failing ((every (forward_right v.summed.per_step v.summed.sums) 60, 6) ∷ [])
+              → refusal_number e ≡ refusal file.now
+          six-refused e h = last h
+
+          -- the case is made of what was read
+          module _ (within : failing ((every (forward_right v.summed.per_step v.summed.sums) 60, 6) ∷ []) ≡ None) where
+            accepted : 0 ≡ refusal file.now
+            accepted = last (sym within)
+
+            abbrev was : Parts
+            was = fields.value c1.file.now c1.at
+
+            parts-are : was ≡ parts
+            parts-are = λ k. (laid (ku k) (ks k) (kb k) (ka k) (kl k)).value (file-is k).now (at-is k)
+
+            pub all-read : {ufr : ℕ} {pension bonds sums : List ℕ} {a' : Amounts} {x : Shocks} {p : People}
+                → IfThere u (ufr ≡ was.0.0) ((ufr ≡ default_ufr) × (was.0.0 ≡ default_ufr))
+                → pension ≡ was.0.1.1.0
+                → IfThere b (bonds ≡ was.0.1.1.1.0) ((bonds ≡ []) × (was.0.1.1.1.0 ≡ []))
+                → IfThere a (a' ≡ was.0.1.1.1.1.0) ((a' ≡ no_amounts) × (was.0.1.1.1.1.0 ≡ no_amounts))
+                → x ≡ was.0.1.1.1.1.1.0
+                → p ≡ was.0.1.1.1.1.1.1
+                → sums ≡ raised v.summed.per_step v.summed.sums
+                → Read file (Ok record {
+                  «case» = record { ufr = ufr; per_step = v.summed.per_step; sums = sums; pension = pension; bonds = bonds; amounts = a'; shocks = x; people = p };
+                  rates = v.rates;
+                  rates_at = v.rates_at;
+                })
+            unfolding held per_step
+            all-read hu hp hb ha hx hg es = record {
+              number = accepted;
+              given = (
+                (λ j. record {
+                  ufr = (read-or-absent u _ _ _ hu ∙ ap (λ y. y.0.0) parts-are) j;
+                  per_step = told.days.sums.step j;
+                  sums = (es ∙ sums-held (case_from (rate_bytes_in bits) parts) told.days.sums) j;
+                  pension = (hp ∙ ap (λ y. y.0.1.1.0) parts-are) j;
+                  bonds = (read-or-absent b _ _ _ hb ∙ ap (λ y. y.0.1.1.1.0) parts-are) j;
+                  amounts = (read-or-absent a _ _ _ ha ∙ ap (λ y. y.0.1.1.1.1.0) parts-are) j;
+                  shocks = (hx ∙ ap (λ y. y.0.1.1.1.1.1.0) parts-are) j;
+                  people = (hg ∙ ap (λ y. y.0.1.1.1.1.1.1) parts-are) j;
+                }) ∙ ap held (sym case-is),
+                rates-told file v.rates (rate_bytes_in bits) (cond t long_at short_at) (length (days_in t file.now short_at long_at)) (sym accepted) refl (sym days-at)
+                    told.count told.days.part,
+              );
+              there = told.days.place ∙ ap (λ i. i + 1) (sym days-at);
+            }
+
+pub map-is-refused : {file : Bor (List ℕ)} (start : Cursor) (begun : (start.file ≡ file) × (start.at ≡ 0)) (e : Refusal)
+    → Some (refusal_number e) ≡ failing (map_field.checks start.file.now start.at) → refusal_number e ≡ refusal file.now
+map-is-refused {file} start begun e h = map-refused file.now e (h ∙ ap₂ (λ b i. failing (map_field.checks b.now i)) begun.0 begun.1)
+
+-- the answer where a step refuses
+pub read-refused : (file : Bor (List ℕ)) (e : Refusal) → refusal_number e ≡ refusal file.now → Read file (Err e)
+read-refused file e h = record { number = h; given = tt; there = tt }

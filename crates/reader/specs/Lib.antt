@@ -1,3 +1,2 @@
--- What the reader answers. All of it has to be believed, except what is in inner.
+-- What the reader answers. All of it has to be believed.
 pub mod Answers
-pub mod inner

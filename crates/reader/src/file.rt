@@ -1,15 +1,13 @@
-// Reading a whole file: the map, then each field in bit order, then that nothing follows, then what only the sums show.
+// Reading a whole file: the map, then each field of the layout that it announces, then that nothing follows, then what only the sums show.
 ghost use Rattle.std.specs.Prelude.{◌≡◌};
 ghost use Rattle.model.specs.Refusals.{refusal};
 ghost use Rattle.reader.specs.Answers.{Read, ReadExactly, RatesPart};
 
-use crate::cursor::Cursor;
-use crate::field::{
-    read_amounts, read_days, read_flows, read_if, read_long_days, read_map, read_people,
-    read_shocks, read_ufr,
-};
+use fields::cursor::Cursor;
+use fields::field::Field;
+use fields::layout::layout;
+use fields::map::MapField;
 use heldcase::Case;
-use rates::TwoBytes;
 use refusal::Refusal;
 
 // The case of an accepted file, the caller's own bytes that hold its rates, and where in the file these stand.
@@ -17,7 +15,7 @@ use refusal::Refusal;
 pub struct Reading<'a> {
     pub case: Case,
     pub rates: &'a [u8],
-    // For hosts, as in `Days`.
+    // For hosts, as in `FileDays`.
     pub rates_at: usize,
 }
 
@@ -26,24 +24,24 @@ impl<'a> Reading<'a> {
         ensures { Read file.entry result }
     {
         let mut cursor = Cursor::new(file);
-        let map = read_map(&mut cursor)?;
-        let ufr = read_if(&mut cursor, map.stands(0), read_ufr)?;
-        let short = read_if(&mut cursor, !map.stands(7), read_days::<TwoBytes>)?;
-        let pension = read_flows::<120>(&mut cursor)?;
-        let bonds = read_if(&mut cursor, map.stands(3), read_flows::<60>)?;
-        let amounts = read_if(&mut cursor, map.stands(4), read_amounts)?;
-        let shocks = read_shocks(&mut cursor)?;
-        let people = read_people(&mut cursor)?;
-        let days = read_long_days(&mut cursor, short)?;
+        let map = MapField.read(&mut cursor)?;
+        // No proof was found of `?` on a result whose value holds a slice beside flows.
+        let parts = match layout(map).read(&mut cursor) {
+            Ok(parts) => parts,
+            Err(refusal) => return Err(refusal),
+        };
+        let ((ufr, (short, (pension, (bonds, (amounts, (shocks, people)))))), long) = parts;
         cursor.finish()?;
+        // A right map announces one of the two days fields.
+        let days = short.or(long).unwrap();
         days.summed.forwards_within()?;
         let case = Case {
-            ufr: ufr.unwrap_or(Case::DEFAULT_UFR),
+            ufr,
             per_step: days.summed.per_step,
             sums: days.summed.raised(),
             pension,
-            bonds: bonds.unwrap_or_default(),
-            amounts: amounts.unwrap_or_default(),
+            bonds,
+            amounts,
             shocks,
             people,
         };

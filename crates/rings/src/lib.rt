@@ -1,4 +1,5 @@
-// Where the entries of a ring of slots stand. A host keeps the slots and what lies in them: a ring of days, of months, of ratios.
+// Where the entries of a ring of slots stand. A host keeps the slots and what lies in them: a ring of days, of months, of ratios. What a
+// ring holds after a change, whatever an entry is, is in theory/proofs/general/Ring.antt.
 #![tactic(auto)]
 
 ghost use Rattle.std.specs.Prelude.{◌≡◌, ◌<◌, ◌≤◌, ◌↔◌, IsSome, IfSome, MatchOption};
@@ -17,7 +18,8 @@ impl<const SLOTS: usize> Place<SLOTS> {
     // The place that a host tells, if it is one of a ring of this size.
     pub fn new(count: u64, start: u64) -> Option<Self>
         ensures right { IsSome result ↔ ((count ≤ SLOTS) × (start < SLOTS)) }
-        ensures told { IfSome result (λ p. (p.count ≡ count) × (p.start ≡ start)) }
+        ensures count { IfSome result (λ p. p.count ≡ count) }
+        ensures start { IfSome result (λ p. p.start ≡ start) }
     {
         let count = count as usize;
         let start = start as usize;
@@ -57,7 +59,8 @@ impl<const SLOTS: usize> Place<SLOTS> {
     // The slot for an entry behind the newest, if one is left.
     pub fn free(&self) -> Option<usize>
         ensures some { IsSome result ↔ (self.now.count < SLOTS) }
-        ensures slot { IfSome result (λ j. (j ≡ slot SLOTS self.now.start self.now.count) × (j < SLOTS)) }
+        ensures slot { IfSome result (λ j. j ≡ slot SLOTS self.now.start self.now.count) }
+        ensures within { IfSome result (λ j. j < SLOTS) }
     {
         if self.count < SLOTS {
             Some(self.slot(self.count))

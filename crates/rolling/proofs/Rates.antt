@@ -1,7 +1,7 @@
--- Rates that are right, one more at a time; rates that are copied, one more at a time; and a day among the chunks of the rates.
+-- Rates that are copied, one more at a time; and a day among the chunks of the rates.
 use Prim.Native.Nat.{ℕ, zero, suc, ◌+◌, ◌*◌, ◌<◌}
 use mathlib.Core.Path.{◌≡◌, refl, ap, sym, ◌∙◌}
-use mathlib.Core.Bool.{Bool, true, false, ◌&&◌}
+use mathlib.Core.Bool.{Bool, ◌&&◌}
 use mathlib.Core.List.{List, [], ◌∷◌, ◌++◌}
 use native.Mathlib.Nat.{not-suc-le-zero, le_of_suc-le-suc}
 use native.Mathlib.Numerals.{add-one}
@@ -12,29 +12,15 @@ use lib.ListN.{length, get_or, take, drop, set}
 use lib.Seq.{take-suc, drop-drop, length-take-le}
 use Rattle.std.specs.List.{list_all}
 use Rattle.std.specs.Simd.{first_chunks}
-use Rattle.std.proofs.lemmas.Bool.{and_from, and_right}
-use Rattle.model.specs.Fields.{Fixed, rightAll}
-use Rattle.model.specs.Layout.{dailyRate, day}
-use Rattle.theory.proofs.acceptance.Runs.{right-front}
+use Rattle.model.specs.Fields.{Fixed, right_all}
+use Rattle.model.specs.Layout.{daily_rate, day}
 use Rattle.theory.proofs.general.Lists.{one-filled}
 
 module _ {A : Type 0} (x : Fixed A) where
   -- the test of each is what `all` answers
-  pub all_right : (vs : List A) → list_all x.right vs ≡ rightAll x vs
+  pub all_right : (vs : List A) → list_all x.right vs ≡ right_all x vs
   all_right [] = refl
   all_right (v ∷ vs) = ap (λ b. x.right v && b) (all_right vs)
-
-  pub right-next : (vs : List A) (i : ℕ) (d : A) → i < length vs → rightAll x (take i vs) ≡ true → x.right (get_or vs i d) ≡ true
-      → rightAll x (take (i + 1) vs) ≡ true
-  right-next vs i d l h k =
-      ap (λ (n : ℕ). rightAll x (take n vs)) (add-one i)
-      ∙ right-front x vs i d l
-      ∙ and_from (rightAll x (take i vs)) (x.right (get_or vs i d)) h k
-
-  pub wrong-at : (vs : List A) (i : ℕ) (d : A) → i < length vs → x.right (get_or vs i d) ≡ false → rightAll x vs ≡ false
-  wrong-at [] i d l h = absurd (not-suc-le-zero l)
-  wrong-at (v ∷ vs) zero d l h = ap (λ b. b && rightAll x vs) h
-  wrong-at (v ∷ vs) (suc i) d l h = and_right (x.right v) (rightAll x vs) (wrong-at vs i d (le_of_suc-le-suc l) h)
 
 pub copy-filled : {A : Type 0} (xs held out : List A) (i : ℕ) (v d : A) → i < length xs → i < length held → v ≡ get_or xs i d
     → out ≡ take i xs ++ drop i held → set out i v ≡ take (i + 1) xs ++ drop (i + 1) held
@@ -45,8 +31,8 @@ copy-filled {A} xs held out i v d l h k e =
     ∙ ap (λ (n : ℕ). take n xs ++ drop (i + 1) held) (sym (add-one i))
 
 -- a day of 60 rates is right if each of them is
-pub day-right : (new : List ℤ) {b : Bool} → length new ≡ 60 → rightAll (dailyRate 2) new ≡ b → (day 2).right new ≡ b
-day-right new long h = ap (λ a. a && rightAll (dailyRate 2) new) (eq-eqb (length new) 60 long) ∙ h
+pub day-right : (new : List ℤ) {b : Bool} → length new ≡ 60 → right_all (daily_rate 2) new ≡ b → (day 2).right new ≡ b
+day-right new long h = ap (λ a. a && right_all (daily_rate 2) new) (eq-eqb (length new) 60 long) ∙ h
 
 -- chunk i of a list that is cut into chunks of n
 pub chunk-at : {A : Type 0} (n k : ℕ) (xs : List A) (i : ℕ) (d : List A) → i < k → get_or (first_chunks n k xs) i d ≡ take n (drop (n * i) xs)

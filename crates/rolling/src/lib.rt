@@ -1,15 +1,18 @@
-// A rolling window of up to 70 trading days.
+// A rolling window of up to 70 trading days, and its valuation with the other fields of a case.
 #![tactic(auto)]
 
-ghost use Rattle.std.specs.Prelude.{◌≡◌, true, false, ◌<◌, ◌≤◌, length, IfOk, IfErr};
-ghost use Rattle.model.specs.Fields.{rightAll};
-ghost use Rattle.model.specs.Layout.{dailyRate, day};
-ghost use Rattle.rollingmodel.specs.Rolling.{dayIn, withDayIn, windowRight, addDay, dropDay, emptyWindow};
+pub mod valued;
+
+ghost use Rattle.std.specs.Prelude.{◌≡◌, ◌<◌, is_ok, IfOk, IfErr};
+ghost use Rattle.model.specs.Fields.{right_all};
+ghost use Rattle.model.specs.Layout.{daily_rate, day};
+ghost use Rattle.fields.specs.Sums.{Bounded};
+ghost use Rattle.rollingmodel.specs.Rolling.{day_in, with_day_in, rolling_right, add_day, drop_day, empty_window};
 ghost use Rattle.refusal.specs.declared.Refusal.TheVariants.{Damaged, Rate};
 ghost use Rattle.refusal.specs.Numbered.{refused_by};
-ghost use Rattle.rolling.specs.inner.Sums.{EachWithin, plus, minus};
+ghost use Rattle.rolling.specs.inner.Sums.{plus, minus};
 
-use rates::{RateForm, TwoBytes};
+use fields::rates::{RateForm, TwoBytes};
 use refusal::Refusal;
 use rings::Place;
 use rollingmodel::{Day, RollingWindow};
@@ -17,7 +20,7 @@ use rollingmodel::{Day, RollingWindow};
 const TERMS: usize = 60;
 
 pub fn empty() -> RollingWindow
-    ensures { result ≡ emptyWindow }
+    ensures { result ≡ empty_window }
 {
     RollingWindow {
         count: 0,
@@ -30,7 +33,7 @@ pub fn empty() -> RollingWindow
 // The rates in a slot.
 fn day_in(rates: &[i16; 4200], slot: usize) -> &[i16; 60]
     requires { slot < 70 }
-    ensures { result.now ≡ dayIn rates.now slot }
+    ensures { result.now ≡ day_in rates.now slot }
 {
     &rates.as_chunks::<TERMS>().0[slot]
 }
@@ -38,22 +41,23 @@ fn day_in(rates: &[i16; 4200], slot: usize) -> &[i16; 60]
 // Writes a day into a slot. By a range, since the contract of `as_chunks_mut` says nothing of what the array ends as.
 fn put_day(rates: &mut [i16; 4200], slot: usize, new: &[i16; 60])
     requires { slot < 70 }
-    ensures { rates.new ≡ withDayIn rates.old slot new.now }
+    ensures { rates.new ≡ with_day_in rates.old slot new.now }
 {
     rates[TERMS * slot..TERMS * slot + TERMS].copy_from_slice(new);
 }
 
 // Whether each rate of a day that is held is within the limits.
 fn is_right(held: &[i16; 60]) -> bool
-    ensures { result ≡ rightAll (dailyRate 2) held.now }
+    ensures { result ≡ right_all (daily_rate 2) held.now }
 {
     held.iter().all(|rate| TwoBytes::is_rate(i32::from(*rate)))
 }
 
 // The rates of a day that a host hands in, if each is within the limits. By an index, as `add`.
 fn checked(new: &Day) -> Result<[i16; 60], Refusal>
-    ensures ok { IfOk result (λ r. (r ≡ new.now.rates) × ((day 2).right r ≡ true)) }
-    ensures err { IfErr result (λ e. (e ≡ Rate) × ((day 2).right new.now.rates ≡ false)) }
+    ensures right { is_ok result ≡ (day 2).right new.now.rates }
+    ensures same { IfOk result (λ rates. rates ≡ new.now.rates) }
+    ensures refusal { IfErr result (λ e. e ≡ Rate) }
 {
     let mut rates = [0; 60];
     for (t, rate) in new.rates.iter().enumerate() {
@@ -69,7 +73,7 @@ fn checked(new: &Day) -> Result<[i16; 60], Refusal>
 // its invariant has to speak. One function for the days of files and of cases too would be no plainer: these come as bytes and as `i32`, and
 // are tested in the same loop, while a day here is added only after all of it is tested. Only `add` and `subtract` ask for small sums.
 fn add(sums: &mut [i64; 60], new: &[i16; 60])
-    requires { EachWithin 1000000 sums.old }
+    requires { Bounded 1000000 sums.old }
     ensures { sums.new ≡ plus sums.old new.now }
 {
     for (t, sum) in sums.iter_mut().enumerate() {
@@ -79,7 +83,7 @@ fn add(sums: &mut [i64; 60], new: &[i16; 60])
 
 // Takes a day from the sums per term, as `add` adds it. A sign as a parameter of `add` would hide which way it goes.
 fn subtract(sums: &mut [i64; 60], oldest: &[i16; 60])
-    requires { EachWithin 1000000 sums.old }
+    requires { Bounded 1000000 sums.old }
     ensures { sums.new ≡ minus sums.old oldest.now }
 {
     for (t, sum) in sums.iter_mut().enumerate() {
@@ -89,8 +93,10 @@ fn subtract(sums: &mut [i64; 60], oldest: &[i16; 60])
 
 // Where the days of a window stand. Refusal 27 for one with a count or place out of range, a held rate out of limits or a wrong sum.
 pub fn place_of(w: &RollingWindow) -> Result<Place<70>, Refusal>
-    ensures ok { IfOk result (λ p. (windowRight w.now ≡ true) × (p.count ≡ w.now.count) × (p.start ≡ w.now.start)) }
-    ensures err { IfErr result (λ e. (e ≡ Damaged) × (windowRight w.now ≡ false)) }
+    ensures right { is_ok result ≡ rolling_right w.now }
+    ensures count { IfOk result (λ place. place.count ≡ w.now.count) }
+    ensures start { IfOk result (λ place. place.start ≡ w.now.start) }
+    ensures refusal { IfErr result (λ e. e ≡ Damaged) }
 {
     let place = Place::<70>::new(w.count, w.start).ok_or(Refusal::Damaged)?;
     let mut sums = [0i64; 60];
@@ -111,7 +117,7 @@ pub fn place_of(w: &RollingWindow) -> Result<Place<70>, Refusal>
 // Adds a trading day behind the newest: 27 for a window that is not right, 15 for one of 70 days, 5 for a rate out of limits. A refused
 // day changes nothing.
 pub fn add_day(w: &mut RollingWindow, new: &Day) -> Result<(), Refusal>
-    ensures { record { refusal = refused_by result; window = w.new } ≡ addDay w.old new.now.rates }
+    ensures { record { refusal = refused_by result; window = w.new } ≡ add_day w.old new.now.rates }
 {
     let place = place_of(w)?;
     let slot = place.free().ok_or(Refusal::WindowFull)?;
@@ -124,7 +130,7 @@ pub fn add_day(w: &mut RollingWindow, new: &Day) -> Result<(), Refusal>
 
 // Drops the oldest day: 27 for a window that is not right, 16 for an empty one. A refused drop changes nothing.
 pub fn drop_day(w: &mut RollingWindow) -> Result<(), Refusal>
-    ensures { record { refusal = refused_by result; window = w.new } ≡ dropDay w.old }
+    ensures { record { refusal = refused_by result; window = w.new } ≡ drop_day w.old }
 {
     let place = place_of(w)?;
     let slot = place.oldest().ok_or(Refusal::WindowEmpty)?;

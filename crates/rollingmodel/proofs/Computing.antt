@@ -2,12 +2,12 @@
 use Prim.Native.Nat.{ℕ}
 use Rattle.method.proofs.Computing as Method
 use Rattle.savingmodel.proofs.Computing as Saving
-use Rattle.rollingmodel.specs.Rolling.{daysHeld, sumsOf, windowRight, addRefusal, dropRefusal, added, dropped, addDay, dropDay, changedBy, queuedBy}
-use Rattle.rollingmodel.specs.Rolling.{windowRefusal, windowValuation, windowFactorsAfter, windowRatesAfter}
+use Rattle.rollingmodel.specs.Rolling.{days_held, sums_of, rolling_right, add_refusal, drop_refusal, added, dropped, add_day, drop_day, changed_by, queued_by}
+use Rattle.rollingmodel.specs.Rolling.{rolling_refusal, rolling_valuation, rolling_factors_after, rolling_rates_after}
 
 unfoldable pub all : ℕ
 unfolding
     Method.all Saving.all
-    daysHeld sumsOf windowRight addRefusal dropRefusal added dropped addDay dropDay changedBy queuedBy
-    windowRefusal windowValuation windowFactorsAfter windowRatesAfter
+    days_held sums_of rolling_right add_refusal drop_refusal added dropped add_day drop_day changed_by queued_by
+    rolling_refusal rolling_valuation rolling_factors_after rolling_rates_after
 all = 0

@@ -8,14 +8,14 @@ use lib.ListN.{replicate, take}
 use lib.IntN.{pos}
 use Rattle.method.specs.Listing.{listing}
 use Rattle.method.proofs.Computing.{text}
-use Rattle.model.proofs.FourByteCases.{finerCase}
-use Rattle.rollingmodel.specs.Rolling.{windowValuation, windowFactorsAfter}
+use Rattle.model.proofs.FourByteCases.{finer_case}
+use Rattle.rollingmodel.specs.Rolling.{rolling_valuation, rolling_factors_after}
 use Rattle.rollingmodel.proofs.Computing.{all}
-use Rattle.rollingmodel.proofs.RollingCases.{flatDays}
+use Rattle.rollingmodel.proofs.RollingCases.{flat_days}
 
 -- The fund with the days of a window.
-abbrev pub inWindowListing : List String
-inWindowListing =
+abbrev pub in_window_listing : List String
+in_window_listing =
     "L 7464430164 7464430167"
     ∷ "B 5540809346 5540809348"
     ∷ "A 6002648446 6002648448"
@@ -29,10 +29,10 @@ inWindowListing =
     ∷ "V DEKKINGSTEKORT"
     ∷ []
 
-in-window-listing : listing (windowValuation flatDays finerCase 240 240) ≡ text inWindowListing
+in-window-listing : listing (rolling_valuation flat_days finer_case 240 240) ≡ text in_window_listing
 unfolding all
 in-window-listing = refl
 
-in-window-factors : take 2 (windowFactorsAfter flatDays finerCase (replicate 240 7) (replicate 240 (pos 7))) ≡ (998996009010 ∷ 998996009011 ∷ [])
+in-window-factors : take 2 (rolling_factors_after flat_days finer_case (replicate 240 7) (replicate 240 (pos 7))) ≡ (998996009010 ∷ 998996009011 ∷ [])
 unfolding all
 in-window-factors = refl

@@ -1,93 +1,91 @@
 -- Which number a case is refused with, check by check, and the bytes of its shortest file.
-use Prim.Native.Nat.{ℕ, ◌*◌}
+use Prim.Native.Nat.{ℕ}
 use mathlib.Core.Path.{◌≡◌, refl, ap, ap₂, sym, ◌∙◌}
-use mathlib.Core.Bool.{true, false, cond}
+use mathlib.Core.Bool.{Bool, true, false, cond, not}
 use mathlib.Core.List.{List, [], ◌∷◌, ◌++◌}
 use lib.Dec.{eqb}
-use lib.ListN.{length}
 use lib.IntN.{ℤ}
 use Rattle.std.proofs.Common.{Option, Some, None}
 use Rattle.std.specs.Option.{unwrap_or}
+use Rattle.theory.proofs.acceptance.Bitmap.{announced}
 use Rattle.theory.proofs.acceptance.Form.{by_form}
-use Rattle.model.specs.Case.{FileCase, knownForm, perStep, unitsPerStep}
-use Rattle.model.specs.Fields.{Check}
-use Rattle.model.specs.Layout.{Present, layout, parts_of, days, shocks, people, fileOf, mapOf}
+use Rattle.model.specs.Case.{FileCase, known_form, per_step}
+use Rattle.model.specs.Fields.{Check, Field}
+use Rattle.model.specs.Layout.{Parts, Present, layout, parts_of, days, shocks, people, file_of, map_of, present_in, rate_bytes_in, stands}
 use Rattle.model.specs.Numbers.{bytes_of}
-use Rattle.model.specs.inner.Positions.{ufrField, pensionField, bondsField, amountsField}
-use Rattle.model.specs.Refusals.{first_of, forwardsRight}
+use Rattle.model.specs.inner.Positions.{ufr_field, pension_field, bonds_field, amounts_field}
+use Rattle.model.specs.Refusals.{bits_right, forwards_right}
 use Rattle.model.specs.declared.case.CaseFields.{CaseFields}
-use Rattle.savingmodel.specs.Saving.{daysOf, given, needed, shortest, caseChecks, caseRefusal}
+use Rattle.savingmodel.specs.Saving.{days_of, given, needed, shortest, case_checks, case_refusal}
 use Rattle.refusal.specs.declared.Refusal.{Refusal}
-use Rattle.refusal.specs.declared.Refusal.TheVariants.{WrongFields}
 use Rattle.refusal.specs.Numbered.{number_of}
-use Rattle.saving.specs.Checked.{failing}
-use Rattle.saving.proofs.Checked.{fails-first, holds-first, both-hold}
+use Rattle.fields.specs.Failing.{failing}
+use Rattle.fields.specs.Sums.{days_checks}
+use Rattle.fields.proofs.Failing.{first-failing, holds-first, both-hold}
+use Rattle.fields.proofs.Laid.{laid, announced-are}
+use Rattle.fields.proofs.Steps.{go, stop}
 
--- ---- the first check that fails, as a number
+-- no days of a list that is not there
+pub days-if : (there : Bool) (rates : List ℤ) → days_of (cond there rates []) ≡ cond there (days_of rates) []
+unfolding days_of
+days-if true rates = refl
+days-if false rates = refl
 
-abbrev number-is : Option ℕ → ℕ
-number-is o = unwrap_or o 0
-
-first-failing : (cs : List Check) → first_of cs ≡ number-is (failing cs)
-unfolding first_of
-first-failing [] = refl
-first-failing ((true, n) ∷ cs) = first-failing cs
-first-failing ((false, n) ∷ cs) = refl
+-- ---- the first check that fails
 
 module _ (k : FileCase) where
-  case-number : {o : Option ℕ} → failing (caseChecks k) ≡ o → number-is o ≡ caseRefusal k
-  unfolding caseRefusal
-  case-number h = sym (first-failing (caseChecks k) ∙ ap number-is h)
+  abbrev form : List Check
+  form = (known_form k.rate_bytes, 3) ∷ []
 
-  form-unknown : knownForm k.rateBytes ≡ false → failing (caseChecks k) ≡ Some 3
-  unfolding caseChecks
-  form-unknown h =
-      let behind = failing ((layout k.rateBytes (needed k)).limits (parts_of k) ++ ((forwardsRight (perStep k) k.days, 6) ∷ [])) in
-      ap (λ b. cond b behind (Some 3)) h
+  abbrev limits : List Check
+  limits = (layout k.rate_bytes (needed k)).limits (parts_of k)
 
-  module _ (known : knownForm k.rateBytes ≡ true) where
-    abbrev limits : List Check
-    limits = (layout k.rateBytes (needed k)).limits (parts_of k)
+  abbrev six : List Check
+  six = (forwards_right (per_step k) k.days, 6) ∷ []
 
-    abbrev six : List Check
-    six = (forwardsRight (perStep k) k.days, 6) ∷ []
+  in_order : {o : Option ℕ} → o ≡ failing (form ++ (limits ++ six)) → unwrap_or o 0 ≡ case_refusal k
+  unfolding case_refusal case_checks
+  in_order h = ap (λ o. unwrap_or o 0) h ∙ sym (first-failing (form ++ (limits ++ six)))
 
-    behind-form : failing (caseChecks k) ≡ failing (limits ++ six)
-    unfolding caseChecks
-    behind-form = ap (λ b. cond b (failing (limits ++ six)) (Some 3)) known
+  pub form-refused : (e : Refusal) {b : Bool} → b ≡ known_form k.rate_bytes → Some (number_of e) ≡ failing ((b, 3) ∷ []) → number_of e ≡ case_refusal k
+  form-refused e is h = in_order (stop e form (limits ++ six) (h ∙ ap (λ b. failing ((b, 3) ∷ [])) is))
 
-    field-fails : (n : ℕ) → failing limits ≡ Some n → failing (caseChecks k) ≡ Some n
-    field-fails n h = behind-form ∙ fails-first limits six n h
+  module _ {b : Bool} (is : b ≡ known_form k.rate_bytes) (right : failing ((b, 3) ∷ []) ≡ None) where
+    form-right : failing form ≡ None
+    form-right = ap (λ b. failing ((b, 3) ∷ [])) (sym is) ∙ right
 
-    forwards-are : failing limits ≡ None → failing (caseChecks k) ≡ failing six
-    forwards-are hold = behind-form ∙ holds-first limits six hold
+    limit-fails : (e : Refusal) → Some (number_of e) ≡ failing limits → number_of e ≡ case_refusal k
+    limit-fails e h = in_order (go form (limits ++ six) form-right (stop e limits six h))
+
+    last-is : failing limits ≡ None → {o : Option ℕ} → o ≡ failing six → unwrap_or o 0 ≡ case_refusal k
+    last-is hold h = in_order (go form (limits ++ six) form-right (go limits six hold h))
 
 -- ---- the days, among the fields
 
 module _ (f : CaseFields) (d : List (List ℤ)) (pension bonds : List ℕ) (p : Present) where
-  abbrev limitsOf : ℕ → List Check
-  limitsOf w =
+  abbrev limits_of : ℕ → List Check
+  limits_of w =
       (layout w p).limits
       ((f.ufr, (cond (eqb w 2) d [], (pension, (bonds, (f.amounts, (f.shocks, f.people)))))), cond (eqb w 4) d [])
 
   -- the fields behind the two-byte days
   abbrev behind : List Check
   behind =
-      pensionField.limits pension
-      ++ ((bondsField p).limits bonds
-      ++ ((amountsField p).limits f.amounts ++ ((shocks.right f.shocks, 11) ∷ (people.right f.people, 12) ∷ [])))
+      pension_field.limits pension
+      ++ ((bonds_field p).limits bonds
+      ++ ((amounts_field p).limits f.amounts ++ ((shocks.right f.shocks, 11) ∷ (people.right f.people, 12) ∷ [])))
 
-  days-among : (w : ℕ) → knownForm w ≡ true → failing (limitsOf w) ≡ None → failing ((days w).limits d) ≡ None
-  days-among w known = by_form (λ v. failing (limitsOf v) ≡ None → failing ((days v).limits d) ≡ None) w known two four
+  days-among : (w : ℕ) → known_form w ≡ true → failing (limits_of w) ≡ None → failing ((days w).limits d) ≡ None
+  days-among w known = by_form (λ v. failing (limits_of v) ≡ None → failing ((days v).limits d) ≡ None) w known two four
     where
-      two : failing (limitsOf 2) ≡ None → failing ((days 2).limits d) ≡ None
+      two : failing (limits_of 2) ≡ None → failing ((days 2).limits d) ≡ None
       two h =
-          let u = (ufrField p).limits f.ufr in
+          let u = (ufr_field p).limits f.ufr in
           let first = (both-hold (u ++ ((days 2).limits d ++ behind)) [] h).0 in
           (both-hold ((days 2).limits d) behind (both-hold u ((days 2).limits d ++ behind) first).1).0
 
-      four : failing (limitsOf 4) ≡ None → failing ((days 4).limits d) ≡ None
-      four h = (both-hold ((ufrField p).limits f.ufr ++ behind) ((days 4).limits d) h).1
+      four : failing (limits_of 4) ≡ None → failing ((days 4).limits d) ≡ None
+      four h = (both-hold ((ufr_field p).limits f.ufr ++ behind) ((days 4).limits d) h).1
 
 -- ---- what each step tells
 
@@ -98,39 +96,57 @@ module _ (f : CaseFields) (rates : List ℤ) (pension bonds : List ℕ) where
   abbrev w : ℕ
   w = f.rate_bytes
 
-  pub form-refused : {r : Refusal} → r ≡ WrongFields → knownForm w ≡ false → number_of r ≡ caseRefusal case
-  form-refused e h = ap number_of e ∙ case-number case (form-unknown case h)
-
   abbrev ds : List (List ℤ)
-  ds = daysOf rates
+  ds = days_of rates
 
-  abbrev sixOf : List Check
-  sixOf = (forwardsRight (unitsPerStep w * length ds) ds, 6) ∷ []
+  module _ {known : Bool} (is : known ≡ known_form w) (right : failing ((known, 3) ∷ []) ≡ None) (q : Present) (present : q ≡ needed case) {map : ℕ} (map-is : map ≡ map_of w q)
+      {u s b a l : Bool} (eu : u ≡ stands 0 map) (es : s ≡ not (stands 7 map)) (eb : b ≡ stands 3 map) (ea : a ≡ stands 4 map) (el : l ≡ stands 7 map)
+      {x : Parts} (parts-are : x ≡ parts_of case) where
+    form-known : known_form w ≡ true
+    form-known = go-known known (known_form w) is right
+      where
+        go-known : (b c : Bool) → b ≡ c → failing ((b, 3) ∷ []) ≡ None → c ≡ true
+        go-known true c e h = sym e
+        go-known false c e h = cc
 
-  module _ (known : knownForm w ≡ true) {q : Present} (present : q ≡ needed case) where
-    module _ {checks : List Check} (are : checks ≡ (layout w q).limits (parts_of case)) where
-      needed-limits : checks ≡ (layout w (needed case)).limits (parts_of case)
-      needed-limits = are ∙ ap (λ (p : Present). (layout w p).limits (parts_of case)) present
+    abbrev fields : Field Parts
+    fields = laid u s b a l
 
-      pub field-refused : (r : Refusal) → Some (number_of r) ≡ failing checks → number_of r ≡ caseRefusal case
-      field-refused r h = case-number case (field-fails case known (number_of r) (sym (ap failing needed-limits) ∙ sym h))
+    fields-are : fields ≡ layout w (needed case)
+    fields-are =
+        let known = announced w q form-known in
+        (λ k. laid (eu k) (es k) (eb k) (ea k) (el k))
+        ∙ announced-are map
+        ∙ ap (λ (n : ℕ). layout (rate_bytes_in n) (present_in n)) map-is
+        ∙ ap₂ layout known.3 (known.2 ∙ present)
 
-      module _ (hold : None ≡ failing checks) where
-        -- where the fields are within their limits, the days are: what is left is the check of their forward rates
-        six-checked : failing (caseChecks case) ≡ failing ((days w).limits ds ++ sixOf)
-        unfolding perStep
-        six-checked =
-            forwards-are case known (sym (ap failing needed-limits) ∙ sym hold)
-            ∙ sym (holds-first ((days w).limits ds) sixOf (days-among f ds pension bonds q w known (sym (ap failing are) ∙ sym hold)))
+    limits-are : fields.limits x ≡ limits case
+    limits-are = λ k. (fields-are k).limits (parts-are k)
 
-        pub six-refused : (r : Refusal) → Some (number_of r) ≡ failing ((days w).limits ds ++ sixOf) → number_of r ≡ caseRefusal case
-        six-refused r h = case-number case (six-checked ∙ sym h)
+    pub field-refused : (e : Refusal) → Some (number_of e) ≡ failing (fields.limits x) → number_of e ≡ case_refusal case
+    field-refused e h = limit-fails case is right e (h ∙ ap failing limits-are)
 
-        pub accepted : None ≡ failing ((days w).limits ds ++ sixOf) → 0 ≡ caseRefusal case
-        accepted h = case-number case (six-checked ∙ sym h)
+    module _ (hold : failing (fields.limits x) ≡ None) where
+      -- where the fields are within their limits, the days are: what is left is the check of their forward rates
+      forwards-are : {o : Option ℕ} → o ≡ cond (eqb w 2) (failing (days_checks 2 x.0.1.0)) (failing (days_checks 4 x.1)) → unwrap_or o 0 ≡ case_refusal case
+      unfolding per_step
+      forwards-are h =
+          let holds = ap failing (sym limits-are) ∙ hold in
+          last-is case is right holds
+          (h
+          ∙ ap (λ (y : Parts). cond (eqb w 2) (failing (days_checks 2 y.0.1.0)) (failing (days_checks 4 y.1))) parts-are
+          ∙ by_form (λ v. cond (eqb v 2) (failing (days_checks 2 (cond (eqb v 2) ds []))) (failing (days_checks 4 (cond (eqb v 4) ds []))) ≡ failing (days_checks v ds)) w form-known refl refl
+          ∙ holds-first ((days w).limits ds) (six case) (days-among f ds pension bonds (needed case) w form-known holds))
 
-    pub file_is : {map : ℕ} {fields : List ℕ} → map ≡ mapOf w q → fields ≡ (layout w q).bytes (parts_of case) → bytes_of 2 map ++ fields ≡ shortest case
-    unfolding shortest fileOf
-    file_is mapIs fieldsAre =
-        ap₂ (λ (n : ℕ) (t : List ℕ). bytes_of 2 n ++ t) mapIs fieldsAre
-        ∙ ap (λ (p : Present). bytes_of 2 (mapOf w p) ++ (layout w p).bytes (parts_of case)) present
+      pub six-refused : (e : Refusal) → Some (number_of e) ≡ cond (eqb w 2) (failing (days_checks 2 x.0.1.0)) (failing (days_checks 4 x.1)) → number_of e ≡ case_refusal case
+      six-refused e h = forwards-are h
+
+      pub accepted : None ≡ cond (eqb w 2) (failing (days_checks 2 x.0.1.0)) (failing (days_checks 4 x.1)) → 0 ≡ case_refusal case
+      accepted h = forwards-are h
+
+      pub limits-hold : failing ((bits_right map, 3) ∷ fields.limits x) ≡ None
+      limits-hold = ap (λ (b : Bool). failing ((b, 3) ∷ fields.limits x)) (ap bits_right map-is ∙ (announced w q form-known).0) ∙ hold
+
+    pub file_is : bytes_of 2 map ++ fields.bytes x ≡ shortest case
+    unfolding shortest file_of
+    file_is = ap₂ (λ (n : ℕ) (t : List ℕ). bytes_of 2 n ++ t) (map-is ∙ ap (map_of w) present) (λ k. (fields-are k).bytes (parts-are k))

@@ -6,32 +6,38 @@ use mathlib.Core.List.{List, ◌++◌}
 use native.Mathlib.Omega.{arith}
 use lib.ListN.{length, drop}
 use lib.Seq.{sets, sets-eq}
-use Rattle.std.specs.Prelude.{Result, Ok, Err}
+use Rattle.std.specs.Prelude.{Option, Some, None, IsSome, Result, Ok, Err}
+use Rattle.std.specs.Option.{ok_or}
 use Rattle.model.specs.Case.{FileCase}
-use Rattle.savingmodel.specs.Saving.{shortest, caseRefusal, saveRefusal, saveAnswer, savedAfter}
+use Rattle.savingmodel.specs.Saving.{shortest, case_refusal, save_refusal, save_answer, saved_after}
 use Rattle.theory.proofs.saving.Saved.{case-within, refused-first, saved-fits, saved-too-long}
-use Rattle.reader.proofs.Steps.{some_number}
+use Rattle.fields.proofs.Steps.{some_number}
 use Rattle.refusal.specs.declared.Refusal.{Refusal}
 use Rattle.refusal.specs.declared.Refusal.TheVariants.{Room}
 use Rattle.refusal.specs.Numbered.{number_of}
 
+-- an error that stands for a missing value
+pub none-told : {A E : Type 0} (o : Option A) (e r : E) → ok_or o e ≡ Err r → (r ≡ e) × (IsSome o → ⊥)
+none-told None e r h = (cc, λ k. cc)
+none-told (Some x) e r h = cc
+
 abbrev pub SavedAs : FileCase → List ℕ → Result ℕ ℕ → List ℕ → Type 0
-SavedAs k held r after = (r ≡ saveAnswer k (length held)) × (after ≡ savedAfter k held)
+SavedAs k held r after = (r ≡ save_answer k (length held)) × (after ≡ saved_after k held)
 
 abbrev ok_of : ℕ → Result ℕ ℕ
 ok_of count = Ok count
 
 module _ (k : FileCase) (held : List ℕ) where
-  not_saved : (r : ℕ) → saveRefusal k (length held) ≡ suc r → SavedAs k held (Err (suc r)) held
-  unfolding saveAnswer savedAfter
+  not_saved : (r : ℕ) → save_refusal k (length held) ≡ suc r → SavedAs k held (Err (suc r)) held
+  unfolding save_answer saved_after
   not_saved r h = (rw h, rw h)
 
-  pub refused : (r : Refusal) → number_of r ≡ caseRefusal k → SavedAs k held (Err (number_of r)) held
+  pub refused : (r : Refusal) → number_of r ≡ case_refusal k → SavedAs k held (Err (number_of r)) held
   refused r h =
       let some : number_of r ≡ suc (number_of r - 1) = omega (arith, some_number r) in
       subst (λ (m : ℕ). SavedAs k held (Err m) held) (sym some) (not_saved (number_of r - 1) (refused-first k (length held) (number_of r - 1) (sym h ∙ some)))
 
-  module _ (accepted : 0 ≡ caseRefusal k) {bytes : List ℕ} (is : bytes ≡ shortest k) where
+  module _ (accepted : 0 ≡ case_refusal k) {bytes : List ℕ} (is : bytes ≡ shortest k) where
     pub room-refused : {r : Refusal} → r ≡ Room → (length bytes ≤ length held → ⊥) → SavedAs k held (Err (number_of r)) held
     room-refused e h =
         let short : length held < length bytes = omega (arith, h) in
@@ -40,7 +46,7 @@ module _ (k : FileCase) (held : List ℕ) where
 
     pub written : {left : ℕ} {after : List ℕ} → (length bytes ≤ length held) × (left ≡ length held - length bytes) → after ≡ sets held 0 bytes
         → SavedAs k held (Ok (length held - left)) after
-    unfolding saveAnswer savedAfter
+    unfolding save_answer saved_after
     written {left} {after} (room, e) h =
         let fits = saved-fits k (length held) (case-within k (sym accepted)) (rw is at room) in
         let front : after ≡ bytes ++ drop (length bytes) held = h ∙ sets-eq bytes held 0 room' ∙ ap (λ (n : ℕ). bytes ++ drop n held) none in

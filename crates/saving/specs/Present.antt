@@ -2,5 +2,5 @@
 use Rattle.model.specs.Layout.{Present}
 use Rattle.saving.specs.declared.included.Included.{Included}
 
-abbrev pub presentOf : Included → Present
-presentOf p = record { ufr = p.ufr; bonds = p.bonds; amounts = p.amounts }
+abbrev pub present_of : Included → Present
+present_of p = record { ufr = p.ufr; bonds = p.bonds; amounts = p.amounts }

@@ -1,122 +1,99 @@
-// A case as a host hands it in: its fields in bit order, and its checks.
-ghost use Rattle.std.specs.Prelude.{◌≡◌, true, IfOk, None};
-ghost use Rattle.std.specs.Option.{option_map};
-ghost use Rattle.model.specs.Case.{knownForm};
-ghost use Rattle.model.specs.Layout.{layout, parts_of};
+// A case as a host hands it in: the file that it makes, and its checks.
+ghost use Rattle.std.specs.Prelude.{◌≡◌, cond, if◌then◌else◌, nat_eq, [], IfOk, None};
+ghost use Rattle.model.specs.Case.{known_form};
+ghost use Rattle.model.specs.Layout.{parts_of as fields_in};
 ghost use Rattle.refusal.specs.Numbered.{refusal_in, refused_by};
-ghost use Rattle.saving.specs.Checked.{daysChecks, failing};
-ghost use Rattle.saving.specs.Present.{presentOf};
-ghost use Rattle.saving.specs.Said.{inField, said};
-ghost use Rattle.savingmodel.specs.Saving.{caseRefusal, shortest};
+ghost use Rattle.fields.specs.Failing.{failing};
+ghost use Rattle.fields.specs.Sums.{days_checks};
+ghost use Rattle.saving.specs.Said.{said};
+ghost use Rattle.savingmodel.specs.Saving.{case_refusal, shortest};
 
-use crate::days::Days;
-use crate::field::Field;
-use crate::fixed::Ufr;
-use crate::flows::Flows;
 use crate::given::GivenCase;
-use crate::included::{Included, map_of, needed};
-use crate::writer::Writer;
-use model::case::{Amounts, People, Shocks};
-use rates::{FourBytes, TwoBytes};
-use reader::field::Map;
+use crate::included::{map_of, needed};
+use fields::check::check;
+use fields::field::{Field, Then};
+use fields::given_days::GivenDays;
+use fields::layout::{Layout, layout};
+use fields::map::{Map, MapField};
 use refusal::Refusal;
 
-// The fields of bits 0 to 6, and that of bit 7.
-pub type FirstParts<'a> = (
-    Option<Ufr>,
-    (
-        Option<Days<'a, TwoBytes>>,
-        (
-            Flows<'a>,
-            (Option<Flows<'a>>, (Option<Amounts>, (Shocks, People))),
-        ),
-    ),
-);
+// What a host hands in, field by field.
+pub type Parts<'a> = <Layout as Field<'a>>::Given;
 
-pub type Parts<'a> = (FirstParts<'a>, Option<Days<'a, FourBytes>>);
+pub type Fields = Then<MapField, Layout>;
 
-// A file: the map, and the fields that it announces.
-pub type File<'a> = (Map, Parts<'a>);
+// The file that a case makes: its map and the fields that it announces, and what is written of each.
+#[derive(Drop)]
+pub struct File<'a> {
+    pub fields: Fields,
+    pub given: (Map, Parts<'a>),
+}
 
-// The fields of a case in bit order, of which its days are one.
-fn parts_in<'a>(
-    case: &GivenCase<'a>,
-    p: Included,
-    short_days: Option<Days<'a, TwoBytes>>,
-    long_days: Option<Days<'a, FourBytes>>,
-) -> Parts<'a>
-    requires short { option_map (λ d. d.held.now) short_days ≡ inField (said case.now) 2 }
-    requires long { option_map (λ d. d.held.now) long_days ≡ inField (said case.now) 4 }
-    ensures bytes { ⟦<Parts<'a> as Field>⟧.bytes result
-        ≡ (layout case.now.fields.now.rate_bytes (presentOf p)).bytes (parts_of (said case.now)) }
-    ensures limits { ⟦<Parts<'a> as Field>⟧.limits result
-        ≡ (layout case.now.fields.now.rate_bytes (presentOf p)).limits (parts_of (said case.now)) }
+// Whether rates of so many bytes have a days field.
+fn is_form(rate_bytes: u64) -> bool
+    ensures { result ≡ known_form rate_bytes }
+{
+    matches!(rate_bytes, 2 | 4)
+}
+
+// A list, or an empty one.
+fn list_if(there: bool, rates: &[i32]) -> &[i32]
+    ensures { result.now ≡ cond there rates.now [] }
+{
+    if there { rates } else { &[] }
+}
+
+// The fields of a case in the order of the layout. Its days stand in the field of their form, and the other has none.
+fn parts_of<'a>(case: &GivenCase<'a>) -> Parts<'a>
+    ensures { ⟦<Layout as Field<'static>>⟧.said result ≡ fields_in (said case.now) }
 {
     let f = case.fields;
-    let ufr = p.ufr.then_some(Ufr { steps: f.ufr });
-    let pension = Flows {
-        flows: case.pension,
-        most: 120,
-    };
-    let bonds = p.bonds.then_some(Flows {
-        flows: case.bonds,
-        most: 60,
-    });
-    let amounts = p.amounts.then_some(f.amounts);
+    let short = GivenDays::of(list_if(f.rate_bytes == 2, case.rates));
+    let long = GivenDays::of(list_if(f.rate_bytes == 4, case.rates));
     (
         (
-            ufr,
+            f.ufr,
             (
-                short_days,
-                (pension, (bonds, (amounts, (f.shocks, f.people)))),
+                short,
+                (
+                    case.pension,
+                    (case.bonds, (f.amounts, (f.shocks, f.people))),
+                ),
             ),
         ),
-        long_days,
+        long,
     )
 }
 
-// The file of a case whose days stand in the place of their form, if each field is within its limits and the forward rates are. That the
-// form is known is asked here alone: the caller has one arm for each.
-fn file_of<'a>(
-    case: &GivenCase<'a>,
-    forwards: Result<(), Refusal>,
-    short_days: Option<Days<'a, TwoBytes>>,
-    long_days: Option<Days<'a, FourBytes>>,
-) -> Result<File<'a>, Refusal>
-    requires known { knownForm case.now.fields.now.rate_bytes ≡ true }
-    requires forwards { let k = said case.now in refusal_in forwards ≡ failing (daysChecks k.rateBytes k.days) }
-    requires short { option_map (λ d. d.held.now) short_days ≡ inField (said case.now) 2 }
-    requires long { option_map (λ d. d.held.now) long_days ≡ inField (said case.now) 4 }
-    ensures refusal { refused_by result ≡ caseRefusal (said case.now) }
-    ensures bytes { IfOk result (λ file. ⟦<File<'a> as Field>⟧.bytes file ≡ shortest (said case.now)) }
-    ensures limits { IfOk result (λ file. failing (⟦<File<'a> as Field>⟧.limits file) ≡ None) }
+// The limits of the days and of their forward rates, of days of the form that the case has.
+fn forwards_of(rate_bytes: u64, parts: &Parts<'_>) -> Result<(), Refusal>
+    ensures { refusal_in result ≡ (if nat_eq rate_bytes 2 then failing (days_checks 2 parts.now.0.1.0.held.now) else failing (days_checks 4 parts.now.1.held.now)) }
 {
-    let present = needed(case);
-    let parts = parts_in(case, present, short_days, long_days);
-    parts.check()?;
-    forwards?;
-    let map = Map {
-        bits: map_of(case.fields.rate_bytes, present),
-    };
-    Ok((map, parts))
+    if rate_bytes == 2 {
+        parts.0.1.0.forwards
+    } else {
+        parts.1.forwards
+    }
 }
 
-// The fields of the shortest file of a case, or the first of its checks that fails: `WrongFields` where a rate has neither 2 nor 4 bytes,
-// then each field's limits in bit order, then `Forward`.
+// The shortest file of a case, or the first of its checks that fails: `WrongFields` where a rate has neither 2 nor 4 bytes, then each
+// field's limits in bit order, then `Forward`.
 pub fn checked_file<'a>(case: &GivenCase<'a>) -> Result<File<'a>, Refusal>
-    ensures refusal { refused_by result ≡ caseRefusal (said case.now) }
-    ensures bytes { IfOk result (λ file. ⟦<File<'a> as Field>⟧.bytes file ≡ shortest (said case.now)) }
-    ensures limits { IfOk result (λ file. failing (⟦<File<'a> as Field>⟧.limits file) ≡ None) }
+    ensures refusal { refused_by result ≡ case_refusal (said case.now) }
+    ensures bytes { IfOk result (λ file. (⟦<Fields as Field<'static>>⟧.told file.fields).bytes (⟦<Fields as Field<'static>>⟧.said file.given) ≡ shortest (said case.now)) }
+    ensures limits { IfOk result (λ file. failing ((⟦<Fields as Field<'static>>⟧.told file.fields).limits (⟦<Fields as Field<'static>>⟧.said file.given)) ≡ None) }
 {
-    match case.fields.rate_bytes {
-        2 => {
-            let days = Days::<TwoBytes>::of(case.rates);
-            file_of(case, days.forwards, Some(days), None)
-        }
-        4 => {
-            let days = Days::<FourBytes>::of(case.rates);
-            file_of(case, days.forwards, None, Some(days))
-        }
-        _ => Err(Refusal::WrongFields),
-    }
+    let rate_bytes = case.fields.rate_bytes;
+    check(is_form(rate_bytes), Refusal::WrongFields)?;
+    let map = Map {
+        bits: map_of(rate_bytes, needed(case)),
+    };
+    let parts = parts_of(case);
+    let announced = layout(map);
+    announced.check(&parts)?;
+    forwards_of(rate_bytes, &parts)?;
+    Ok(File {
+        fields: Then(MapField, announced),
+        given: (map, parts),
+    })
 }

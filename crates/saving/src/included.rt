@@ -1,14 +1,14 @@
 // The shortest form of a case: which optional fields it has, and its map.
 ghost use Rattle.std.specs.Prelude.{◌≡◌, nat_eq};
 ghost use Rattle.std.specs.List.{list_all};
-ghost use Rattle.model.specs.Layout.{mapOf};
+ghost use Rattle.model.specs.Layout.{map_of};
 ghost use Rattle.savingmodel.specs.Saving.{needed};
-ghost use Rattle.saving.specs.Present.{presentOf};
+ghost use Rattle.saving.specs.Present.{present_of};
 ghost use Rattle.saving.specs.Said.{said};
 
 use crate::given::GivenCase;
+use fields::amounts::amounts_in_order;
 use heldcase::Case;
-use reader::limits::amounts_in_order;
 
 // Which of the optional fields are written: the three answers of the definition's `Present`, from which both the map and the fields follow.
 #[derive(Clone, Copy)]
@@ -25,7 +25,7 @@ fn all_zero(numbers: &[u64]) -> bool
 }
 
 pub fn needed(case: &GivenCase) -> Included
-    ensures { presentOf result ≡ needed (said case.now) }
+    ensures { present_of result ≡ needed (said case.now) }
 {
     Included {
         ufr: case.fields.ufr != Case::DEFAULT_UFR,
@@ -36,7 +36,7 @@ pub fn needed(case: &GivenCase) -> Included
 
 // Bits 2, 5 and 6, which always stand, that of the days field, which a host tells by its bytes, and those of the optional fields.
 pub fn map_of(rate_bytes: u64, p: Included) -> u16
-    ensures { result ≡ mapOf rate_bytes (presentOf p) }
+    ensures { result ≡ map_of rate_bytes (present_of p) }
 {
     100 + u16::from(p.ufr)
         + 2 * u16::from(rate_bytes == 2)

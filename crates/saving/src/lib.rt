@@ -2,33 +2,31 @@
 #![tactic(auto)]
 
 pub mod case;
-pub mod days;
-pub mod field;
-pub mod fixed;
-pub mod flows;
 pub mod given;
 pub mod included;
-pub mod writer;
 
 ghost use Rattle.std.specs.Prelude.{◌≡◌, length};
-ghost use Rattle.savingmodel.specs.Saving.{saveAnswer, savedAfter};
+ghost use Rattle.savingmodel.specs.Saving.{save_answer, saved_after};
 ghost use Rattle.refusal.specs.Numbered.{answer_of};
 ghost use Rattle.saving.specs.Said.{said};
 
 use case::checked_file;
-use field::{Field, write_front};
+use fields::field::{Field, write_front};
 use given::GivenCase;
 use refusal::Refusal;
 
 // Writes the shortest file of a case to the front of a lent buffer, and answers its length. A refusal writes no byte: the case is checked,
 // and the room, before the first is written.
 pub fn save(case: &GivenCase, out: &mut [u8]) -> Result<usize, Refusal>
-    ensures value { answer_of result ≡ saveAnswer (said case.now) (length out.old) }
-    ensures buffer { out.new ≡ savedAfter (said case.now) out.old }
+    ensures value { answer_of result ≡ save_answer (said case.now) (length out.old) }
+    ensures buffer { out.new ≡ saved_after (said case.now) out.old }
 {
     let file = checked_file(case)?;
-    let left = file.room_after(out.len()).ok_or(Refusal::Room)?;
+    let left = file
+        .fields
+        .room_after(&file.given, out.len())
+        .ok_or(Refusal::Room)?;
     let length = out.len() - left;
-    write_front(&file, out);
+    write_front(&file.fields, &file.given, out);
     Ok(length)
 }

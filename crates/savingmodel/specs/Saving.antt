@@ -1,29 +1,29 @@
 -- A case written back in its shortest form (document 02, request One). Its checks and its bytes are those of the layout of document 01.
-use Rattle.std.specs.Prelude.{ℕ, zero, suc, ◌/◌, ◌%◌, Bool, true, ◌&&◌, not, cond, List, [], ◌∷◌, ◌++◌, leb, ltb, eqb, length, take, drop, ℤ, Result, Ok, Err}
-use Rattle.model.specs.Constants.{defaultUfr, lastMarketTerm}
-use Rattle.model.specs.Case.{FileCase, knownForm, perStep}
+use Rattle.std.specs.Prelude.{ℕ, zero, suc, ◌/◌, ◌%◌, Bool, true, ◌&&◌, not, if◌then◌else◌, List, [], ◌∷◌, ◌++◌, nat_le, nat_lt, ◌==◌, length, take, drop, ℤ, Result, Ok, Err}
+use Rattle.model.specs.Constants.{default_ufr, last_market_term}
+use Rattle.model.specs.Case.{FileCase, known_form, per_step}
 use Rattle.model.specs.Fields.{Check}
-use Rattle.model.specs.Layout.{amountsInOrder, Present, layout, parts_of, fileOf}
-use Rattle.model.specs.Refusals.{first_of, forwardsRight}
+use Rattle.model.specs.Layout.{amounts_in_order, Present, layout, parts_of, file_of}
+use Rattle.model.specs.Refusals.{first_of, forwards_right}
 use Rattle.model.specs.declared.case.CaseFields.{CaseFields}
 
 -- ---- a case as a host hands it in: the fields that are no lists, and the rates, the pension flows and the bond flows as lists. It says how
 -- many bytes a rate has, 2 or 4, and the rates are in the units of that days field.
 
 -- n days from the front of a list of rates
-abbrev pub daysIn : ℕ → List ℤ → List (List ℤ)
-daysIn zero rates = []
-daysIn (suc n) rates = take lastMarketTerm rates ∷ daysIn n (drop lastMarketTerm rates)
+abbrev pub days_in : ℕ → List ℤ → List (List ℤ)
+days_in zero rates = []
+days_in (suc n) rates = take last_market_term rates ∷ days_in n (drop last_market_term rates)
 
 -- "n days of 60 zero rates", one day after another; a list that is no whole number of days has no n, which refusal 4 covers
-unfoldable pub daysOf : List ℤ → List (List ℤ)
-daysOf rates = cond (eqb (length rates % lastMarketTerm) 0) (daysIn (length rates / lastMarketTerm) rates) []
+unfoldable pub days_of : List ℤ → List (List ℤ)
+days_of rates = if length rates % last_market_term == 0 then days_in (length rates / last_market_term) rates else []
 
 abbrev pub given : CaseFields → List ℤ → List ℕ → List ℕ → FileCase
 given fields rates pension bonds = record {
-  rateBytes = fields.rate_bytes;
+  rate_bytes = fields.rate_bytes;
   ufr = fields.ufr;
-  days = daysOf rates;
+  days = days_of rates;
   pension = pension;
   bonds = bonds;
   amounts = fields.amounts;
@@ -33,54 +33,54 @@ given fields rates pension bonds = record {
 
 -- ---- its bytes
 
-abbrev pub allZero : List ℕ → Bool
-allZero [] = true
-allZero (v ∷ vs) = eqb v 0 && allZero vs
+abbrev pub all_zero : List ℕ → Bool
+all_zero [] = true
+all_zero (v ∷ vs) = v == 0 && all_zero vs
 
 -- "A UFR of 4,200, an all-zero amounts field and an empty bond list are left out."
 abbrev pub needed : FileCase → Present
 needed k = record {
-  ufr = not (eqb k.ufr defaultUfr);
-  bonds = ltb 0 (length k.bonds);
-  amounts = not (allZero (amountsInOrder k.amounts));
+  ufr = not (k.ufr == default_ufr);
+  bonds = nat_lt 0 (length k.bonds);
+  amounts = not (all_zero (amounts_in_order k.amounts));
 }
 
 -- "writes the layout of document 01"
 unfoldable pub shortest : FileCase → List ℕ
-shortest k = fileOf (needed k) k
+shortest k = file_of (needed k) k
 
 -- ---- its checks
 
 -- "a case outside the limits gets document 01's number in its order": "each field in bit order ..; then 6". The fields are those of its
 -- shortest file: without bond flows there is no count of them to check. The lengths of a file (1, 2) are no matter of a case, and of its
 -- map (3) only which days field it has: a case whose rates have neither 2 nor 4 bytes has neither.
-unfoldable pub caseChecks : FileCase → List Check
-caseChecks k =
-    (knownForm k.rateBytes, 3)
-    ∷ ((layout k.rateBytes (needed k)).limits (parts_of k) ++ ((forwardsRight (perStep k) k.days, 6) ∷ []))
+unfoldable pub case_checks : FileCase → List Check
+case_checks k =
+    (known_form k.rate_bytes, 3)
+    ∷ ((layout k.rate_bytes (needed k)).limits (parts_of k) ++ ((forwards_right (per_step k) k.days, 6) ∷ []))
 
-unfoldable pub caseRefusal : FileCase → ℕ
-caseRefusal k = first_of (caseChecks k)
+unfoldable pub case_refusal : FileCase → ℕ
+case_refusal k = first_of (case_checks k)
 
 -- "then 14 when the lent buffer is shorter than the bytes needed": by the length of the buffer
-unfoldable pub saveRefusal : FileCase → ℕ → ℕ
-saveRefusal k room = first_of (caseChecks k ++ ((leb (length (shortest k)) room, 14) ∷ []))
+unfoldable pub save_refusal : FileCase → ℕ → ℕ
+save_refusal k room = first_of (case_checks k ++ ((nat_le (length (shortest k)) room, 14) ∷ []))
 
 -- ---- what is answered, and what the lent buffer holds afterwards
 
 -- "The writer returns the count of bytes written."
-abbrev pub savedOf : ℕ → ℕ → Result ℕ ℕ
-savedOf zero count = Ok count
-savedOf (suc r) count = Err (suc r)
+abbrev pub saved_of : ℕ → ℕ → Result ℕ ℕ
+saved_of zero count = Ok count
+saved_of (suc r) count = Err (suc r)
 
 -- the count of bytes written, or the number of a refusal
-unfoldable pub saveAnswer : FileCase → ℕ → Result ℕ ℕ
-saveAnswer k room = savedOf (saveRefusal k room) (length (shortest k))
+unfoldable pub save_answer : FileCase → ℕ → Result ℕ ℕ
+save_answer k room = saved_of (save_refusal k room) (length (shortest k))
 
 -- "The buffer's bytes past the written ones keep their content."; "a refusal writes no byte"
-abbrev pub storedIn : ℕ → List ℕ → List ℕ → List ℕ
-storedIn zero bytes held = bytes ++ drop (length bytes) held
-storedIn (suc r) bytes held = held
+abbrev pub stored_in : ℕ → List ℕ → List ℕ → List ℕ
+stored_in zero bytes held = bytes ++ drop (length bytes) held
+stored_in (suc r) bytes held = held
 
-unfoldable pub savedAfter : FileCase → List ℕ → List ℕ
-savedAfter k held = storedIn (saveRefusal k (length held)) (shortest k) held
+unfoldable pub saved_after : FileCase → List ℕ → List ℕ
+saved_after k held = stored_in (save_refusal k (length held)) (shortest k) held

@@ -1,5 +1,5 @@
--- Laws that speak of no curve and no file: lists and tests, parts of lists, the slots of a ring, brackets by their ends, entries by term,
--- integers as differences, powers, searches.
+-- Laws that speak of no curve and no file: lists and tests, parts of lists, the slots of a ring and its entries, brackets by their ends,
+-- entries by term, integers as differences, powers, searches.
 pub mod Conditions
 pub mod Lists
 pub mod Parts

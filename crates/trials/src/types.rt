@@ -2,10 +2,12 @@
 use arith::end::{End, High, Low};
 use arith::scale::{Long, Quotient, Short};
 use curves::three::Three;
+use fields::cursor::Cursor;
+use fields::field::{Field, Optional};
+use fields::flows;
+use fields::rates::{FourBytes, RateForm, TwoBytes};
+use fields::ufr::Ufr;
 use heldcase::flows::Flows;
-use rates::{FourBytes, RateForm, TwoBytes};
-use reader::cursor::Cursor;
-use reader::field::{read_flows, read_if, read_ufr};
 use refusal::Refusal;
 use rings::Place;
 
@@ -93,7 +95,7 @@ fn flows_of_another_length(rt: HostRuntime) {
         [7u64, 8, 9].as_slice()
     );
     let mut cursor = Cursor::new(b"\x02\0\0\0\x05\0\x0f\x42\x40!");
-    match read_flows::<3>(&mut cursor) {
+    match flows::Flows::<3>.read(&mut cursor) {
         Ok(flows) => assert_eq!(rt; flows.as_slice(), [5u64, 1_000_000].as_slice()),
         Err(_) => panic!(rt; "two flows are refused"),
     }
@@ -103,12 +105,13 @@ fn flows_of_another_length(rt: HostRuntime) {
 #[test]
 fn a_field_is_read_where_it_is_there(rt: HostRuntime) {
     for (there, bytes, answer, at) in [
-        (true, b"\x10\x68", Ok(Some(4_200)), 2),
-        (false, b"\x10\x68", Ok(None), 0),
+        (true, b"\x10\x69", Ok(4_201), 2),
+        (false, b"\x10\x69", Ok(4_200), 0),
         (true, b"\x13\x89", Err(Refusal::Ufr), 2),
     ] {
         let mut cursor = Cursor::new(bytes);
-        assert_eq!(rt; read_if(&mut cursor, there, read_ufr), answer);
+        let field = Optional { there, field: Ufr };
+        assert_eq!(rt; field.read(&mut cursor), answer);
         assert_eq!(rt; cursor.at, at);
     }
 }

@@ -8,7 +8,7 @@ use lib.ListN.{length, get_or, take, drop, set, length-append}
 use lib.Seq.{take-suc, length-take-le, append_snoc}
 use Rattle.arith.specs.Rounding.{End, low, high}
 use Rattle.model.specs.Numbers.{table}
-use Rattle.method.specs.Buffers.{byTerm}
+use Rattle.method.specs.Buffers.{by_term}
 use Rattle.theory.proofs.general.Lists.{one-filled}
 use Rattle.working.specs.inner.Entries.{entries}
 
@@ -41,7 +41,7 @@ module _ {A B : Type 0} (l h : B → A) where
 
   -- brackets of a figure
   pub entries-by : (f : End → ℕ → A) (g : ℕ → B) → ((i : ℕ) → l (g i) ≡ f low (suc i)) → ((i : ℕ) → h (g i) ≡ f high (suc i)) → (n : ℕ)
-      → entries l h (table g n) ≡ byTerm f n
-  unfolding table entries byTerm
+      → entries l h (table g n) ≡ by_term f n
+  unfolding table entries by_term
   entries-by f g p q zero = refl
   entries-by f g p q (suc n) = entries-snoc (table g n) (g n) ∙ rw (entries-by f g p q n, p n, q n)

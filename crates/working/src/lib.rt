@@ -9,11 +9,11 @@ ghost use Rattle.arith.specs.Brackets.{bracket};
 ghost use Rattle.method.specs.Curve.{base, Move};
 ghost use Rattle.method.specs.Rounded as Rounded;
 ghost use Rattle.method.specs.Rounded.{worth};
-ghost use Rattle.curves.specs.inner.Shifted.{curveOf};
-ghost use Rattle.curves.specs.inner.ByTerm.{brackets, factorAt};
+ghost use Rattle.curves.specs.inner.Shifted.{curve_of};
+ghost use Rattle.curves.specs.inner.ByTerm.{brackets, factor_at};
 ghost use Rattle.curves.specs.inner.Ranges.{FactorsWithin};
 ghost use Rattle.money.specs.inner.Ranges.{FlowsFit, FactorsFit, WorthFits};
-ghost use Rattle.working.specs.inner.Working.{sumsOn, adjustedBy, factorsOn, ratesOn, moneyOf};
+ghost use Rattle.working.specs.inner.Working.{sums_on, adjusted_by, factors_on, rates_on, money_of};
 ghost use Rattle.working.specs.inner.Ranges.{CaseFits};
 
 use arith::bracket::Bracket;
@@ -30,7 +30,7 @@ use zerorates::rates::zero_rates;
 // is out of these ranges.
 fn sums_of(case: &Case) -> Three<CurveSums>
     requires { CaseFits case.now }
-    ensures { result ≡ sumsOn case.now }
+    ensures { result ≡ sums_on case.now }
 {
     Three {
         base: shifted(case, 0, 0),
@@ -41,8 +41,11 @@ fn sums_of(case: &Case) -> Three<CurveSums>
 
 // What bond flows are worth on a curve, by its sums and its adjusted factors.
 fn bonds_worth(bonds: &[u64], sums: &CurveSums, adjusted: &[Bracket; 120]) -> Bracket
-    requires { FlowsFit bonds.now × FactorsWithin sums.now × (length bonds.now ≤ 60) × (adjusted.now ≡ brackets (Rounded.factor (curveOf sums.now)) 120) }
-    ensures value { result ≡ bracket (λ e. worth e (Rounded.unadjusted (curveOf sums.now) e) 1 bonds.now) }
+    requires flows { FlowsFit bonds.now }
+    requires few { length bonds.now ≤ 60 }
+    requires sums { FactorsWithin sums.now }
+    requires adjusted { adjusted.now ≡ brackets (Rounded.factor (curve_of sums.now)) 120 }
+    ensures value { result ≡ bracket (λ e. worth e (Rounded.unadjusted (curve_of sums.now) e) 1 bonds.now) }
     ensures bound { WorthFits result }
 {
     worth_of(bonds, &sums.unadjusted_factors(adjusted, bonds.len()))
@@ -50,22 +53,24 @@ fn bonds_worth(bonds: &[u64], sums: &CurveSums, adjusted: &[Bracket; 120]) -> Br
 
 // The figures and the verdict of a case, by its sums and its adjusted factors.
 fn money_at(case: &Case, sums: &Three<CurveSums>, adjusted: &Three<[Bracket; 120]>) -> Valuation
-    requires { CaseFits case.now × (sums.now ≡ sumsOn case.now) × (adjusted.now ≡ adjustedBy sums.now) }
-    ensures { result ≡ moneyOf case.now }
+    requires case { CaseFits case.now }
+    requires sums { sums.now ≡ sums_on case.now }
+    requires adjusted { adjusted.now ≡ adjusted_by sums.now }
+    ensures { result ≡ money_of case.now }
 {
     let pension = case.pension.as_slice();
     let bonds = case.bonds.as_slice();
     let owed = adjusted.map(
         |factors: &[Bracket; 120]| -> Bracket
             requires { FlowsFit pension.now × FactorsFit factors.now (length pension.now) }
-            ensures { (result ≡ bracket (λ e. worth e (factorAt factors.now e) 1 pension.entry.now)) × WorthFits result }
+            ensures { (result ≡ bracket (λ e. worth e (factor_at factors.now e) 1 pension.entry.now)) × WorthFits result }
         { worth_of(pension, factors) },
     );
     let invested = sums.map_with(
         adjusted,
         |sums: &CurveSums, factors: &[Bracket; 120]| -> Bracket
-            requires { FlowsFit bonds.now × FactorsWithin sums.now × (length bonds.now ≤ 60) × (factors.now ≡ brackets (Rounded.factor (curveOf sums.now)) 120) }
-            ensures { (result ≡ bracket (λ e. worth e (Rounded.unadjusted (curveOf sums.now) e) 1 bonds.entry.now)) × WorthFits result }
+            requires { FlowsFit bonds.now × FactorsWithin sums.now × (length bonds.now ≤ 60) × (factors.now ≡ brackets (Rounded.factor (curve_of sums.now)) 120) }
+            ensures { (result ≡ bracket (λ e. worth e (Rounded.unadjusted (curve_of sums.now) e) 1 bonds.entry.now)) × WorthFits result }
         { bonds_worth(bonds, sums, factors) },
     );
     money_by(owed, invested, &case.amounts, &case.shocks, &case.people)
@@ -74,7 +79,7 @@ fn money_at(case: &Case, sums: &Three<CurveSums>, adjusted: &Three<[Bracket; 120
 /// The figures and the verdict of a case. No zero rate is worked out.
 pub fn money_of(case: &Case) -> Valuation
     requires { CaseFits case.now }
-    ensures { result ≡ moneyOf case.now }
+    ensures { result ≡ money_of case.now }
 {
     let sums = sums_of(case);
     let adjusted = sums.map(CurveSums::factors);
@@ -84,9 +89,9 @@ pub fn money_of(case: &Case) -> Valuation
 /// Values a case: writes its factors and its zero rates, lower and upper, term by term, and answers the figures and the verdict.
 pub fn value_case(case: &Case, factors: &mut [u64; 240], rates: &mut [i64; 240]) -> Valuation
     requires { CaseFits case.now }
-    ensures value { result ≡ moneyOf case.now }
-    ensures factors { factors.new ≡ factorsOn case.now base }
-    ensures rates { rates.new ≡ ratesOn case.now }
+    ensures value { result ≡ money_of case.now }
+    ensures factors { factors.new ≡ factors_on case.now base }
+    ensures rates { rates.new ≡ rates_on case.now }
 {
     let sums = sums_of(case);
     let adjusted = sums.map(CurveSums::factors);

@@ -4,12 +4,12 @@ use mathlib.Core.Path.{◌≡◌, sym, subst}
 use mathlib.Core.Bool.{Bool}
 use native.Mathlib.Omega.{arith}
 use Rattle.arith.specs.Rounding.{End}
-use Rattle.searchmodel.specs.Bisection.{afterTests}
+use Rattle.searchmodel.specs.Bisection.{after_tests}
 use Rattle.searchmodel.specs.declared.StepsLeft.{StepsLeft}
 use Rattle.theory.proofs.curve.Bisection.{after-halves}
 use Rattle.zerorates.specs.inner.Ranges.{LeftWithin}
 
-module _ {p : StepsLeft} (e : End) (test : ℕ → Bool) (j : ℕ) (is : p ≡ afterTests e test j) where
+module _ {p : StepsLeft} (e : End) (test : ℕ → Bool) (j : ℕ) (is : p ≡ after_tests e test j) where
   pub left-within : LeftWithin p
   left-within = let k = after-halves e test j in subst LeftWithin (sym is) record { order = k.order; most = k.most }
 

@@ -9,14 +9,14 @@ use Rattle.arith.specs.Rounding.{End, low, high, divide}
 use Rattle.arith.proofs.Ends.{◌and◌, ◌times◌, from, cancel, divide-end}
 use Rattle.arith.proofs.Rounding.{divide-floor, divide-le}
 use Rattle.arith.specs.Brackets.{bracket, end_of}
-use Rattle.model.specs.Constants.{unit, stepsPerOne}
+use Rattle.model.specs.Constants.{unit, steps_per_one}
 use Rattle.method.specs.Fraction.{Fraction, ◌//◌, ◌^ᶠ◌}
 use Rattle.model.specs.Numbers.{every}
 use Rattle.arith.specs.declared.bracket.Bracket.{Bracket}
 use Rattle.theory.proofs.curve.Bracket.{Bounded}
 use Rattle.theory.proofs.curve.Steps.{prod, ends}
 use Rattle.theory.proofs.general.Lists.{every-le}
-use Rattle.zerorates.specs.inner.Powers.{Encloses, powerMost}
+use Rattle.zerorates.specs.inner.Powers.{Encloses, power_most}
 use Rattle.zerorates.specs.inner.Ranges.{StepWithin}
 
 -- ---- a count in other units: v times as large, and 1 over c of what they were
@@ -28,7 +28,7 @@ finer c k = record { is = from (k.is times c) (omega arith) }
 
 -- ---- the power of t years at step i
 abbrev power : ℕ → ℕ → Fraction
-power i t = (stepsPerOne // (98000 + i)) ^ᶠ t
+power i t = (steps_per_one // (98000 + i)) ^ᶠ t
 
 module _ {x : Bracket} {t i m : ℕ} where
   bounded : Encloses x t i m → (e : End) → Bounded e (2 ^ 30) (end_of x e) (power i t)
@@ -58,84 +58,84 @@ product-encloses : {x y r : Bracket} {j k i m n l : ℕ} → Encloses x j i m �
     → m * n ≤ l * 2 ^ 30 → Encloses r (j + k) i l
 product-encloses {x} {y} {r} {j} {k} {i} {m} {n} {l} p q is c =
     enclosed (product x y) is
-    (λ e. rw (pow-add stepsPerOne j k, pow-add (98000 + i) j k) (coarser (2 ^ 30) (omega arith) (prod (bounded p e) (bounded q e))))
+    (λ e. rw (pow-add steps_per_one j k, pow-add (98000 + i) j k) (coarser (2 ^ 30) (omega arith) (prod (bounded p e) (bounded q e))))
     (divide-le high (x.upper * y.upper) (2 ^ 30) l (omega arith)
     (le_trans (mul-le-mul {n₁ = x.upper} {m₁ = y.upper} {n₂ = m} {m₂ = n} p.most q.most) c))
 
 -- ---- what no upper bound passes, computed of each term: a square, a year more, and that the products fit 64 bits
-square-kept : (k : ℕ) → k < 61 → powerMost k * powerMost k ≤ powerMost (k + k) * 2 ^ 30
-unfolding every powerMost divide
-square-kept k = every-le (λ k. powerMost k * powerMost k) (λ k. powerMost (k + k) * 2 ^ 30) 61 k refl
+square-kept : (k : ℕ) → k < 61 → power_most k * power_most k ≤ power_most (k + k) * 2 ^ 30
+unfolding every power_most divide
+square-kept k = every-le (λ k. power_most k * power_most k) (λ k. power_most (k + k) * 2 ^ 30) 61 k refl
 
-year-kept : (k : ℕ) → k < 120 → powerMost k * powerMost 1 ≤ powerMost (k + 1) * 2 ^ 30
-unfolding every powerMost divide
-year-kept k = every-le (λ k. powerMost k * powerMost 1) (λ k. powerMost (k + 1) * 2 ^ 30) 120 k refl
+year-kept : (k : ℕ) → k < 120 → power_most k * power_most 1 ≤ power_most (k + 1) * 2 ^ 30
+unfolding every power_most divide
+year-kept k = every-le (λ k. power_most k * power_most 1) (λ k. power_most (k + 1) * 2 ^ 30) 120 k refl
 
-square-fits : (k : ℕ) → k < 61 → powerMost k * powerMost k + 2 ^ 30 ≤ 2 ^ 64
-unfolding every powerMost divide
-square-fits k = every-le (λ k. powerMost k * powerMost k + 2 ^ 30) (λ _. 2 ^ 64) 61 k refl
+square-fits : (k : ℕ) → k < 61 → power_most k * power_most k + 2 ^ 30 ≤ 2 ^ 64
+unfolding every power_most divide
+square-fits k = every-le (λ k. power_most k * power_most k + 2 ^ 30) (λ _. 2 ^ 64) 61 k refl
 
-year-fits : (k : ℕ) → k < 120 → powerMost k * powerMost 1 + 2 ^ 30 ≤ 2 ^ 64
-unfolding every powerMost divide
-year-fits k = every-le (λ k. powerMost k * powerMost 1 + 2 ^ 30) (λ _. 2 ^ 64) 120 k refl
+year-fits : (k : ℕ) → k < 120 → power_most k * power_most 1 + 2 ^ 30 ≤ 2 ^ 64
+unfolding every power_most divide
+year-fits k = every-le (λ k. power_most k * power_most 1 + 2 ^ 30) (λ _. 2 ^ 64) 120 k refl
 
-power-most : (t : ℕ) → t < 121 → powerMost t ≤ 13 * 10 ^ 9
-unfolding every powerMost divide
-power-most t = every-le powerMost (λ _. 13 * 10 ^ 9) 121 t refl
+power-most : (t : ℕ) → t < 121 → power_most t ≤ 13 * 10 ^ 9
+unfolding every power_most divide
+power-most t = every-le power_most (λ _. 13 * 10 ^ 9) 121 t refl
 
 -- ---- of t years, from the half of them: the bits of t but the last
-pub of-half : {x : Bracket} {i : ℕ} (t k : ℕ) → 0 < k → Encloses x (t / 2 ^ k) i (powerMost (t / 2 ^ k))
-    → Encloses x (t / 2 ^ (k - 1) / 2) i (powerMost (t / 2 ^ (k - 1) / 2))
+pub of-half : {x : Bracket} {i : ℕ} (t k : ℕ) → 0 < k → Encloses x (t / 2 ^ k) i (power_most (t / 2 ^ k))
+    → Encloses x (t / 2 ^ (k - 1) / 2) i (power_most (t / 2 ^ (k - 1) / 2))
 of-half {x} {i} t k h p =
     let e : suc (k - 1) ≡ k = omega arith in
-    subst (λ (n : ℕ). Encloses x n i (powerMost n))
+    subst (λ (n : ℕ). Encloses x n i (power_most n))
     (ap (λ (j : ℕ). t / 2 ^ j) (sym e) ∙ ap (λ (d : ℕ). t / d) (pow-suc 2 (k - 1)) ∙ sym (div-div-eq-div-mul t (2 ^ (k - 1)) 2)) p
 
 pub bits_most : (t k : ℕ) → t ≤ 120 → t / 2 ^ k ≤ 120
 bits_most t k h = le_trans (div-le_self t (2 ^ k)) h
 
-module _ {half year : Bracket} {t i : ℕ} (term : t ≤ 120) (p : Encloses half (t / 2) i (powerMost (t / 2)))
-    (one : Encloses year 1 i (powerMost 1)) where
+module _ {half year : Bracket} {t i : ℕ} (term : t ≤ 120) (p : Encloses half (t / 2) i (power_most (t / 2)))
+    (one : Encloses year 1 i (power_most 1)) where
   pub square-within : Pairwise Small half half (2 ^ 30)
   square-within = product-within p p (square-fits (t / 2) (omega arith))
 
   module _ {square : Bracket} (s : square ≡ bracket (product half half)) where
-    squared : Encloses square (t / 2 + t / 2) i (powerMost (t / 2 + t / 2))
+    squared : Encloses square (t / 2 + t / 2) i (power_most (t / 2 + t / 2))
     squared = product-encloses p p s (square-kept (t / 2) (omega arith))
 
-    pub even-encloses : t % 2 < 1 → Encloses square t i (powerMost t)
-    even-encloses h = subst (λ (k : ℕ). Encloses square k i (powerMost k)) (let z : t / 2 + t / 2 ≡ t = omega arith in z) squared
+    pub even-encloses : t % 2 < 1 → Encloses square t i (power_most t)
+    even-encloses h = subst (λ (k : ℕ). Encloses square k i (power_most k)) (let z : t / 2 + t / 2 ≡ t = omega arith in z) squared
 
     pub year-within : t % 2 ≡ 1 → Pairwise Small square year (2 ^ 30)
     year-within h = product-within squared one (year-fits (t / 2 + t / 2) (omega arith))
 
-    pub odd-encloses : {r : Bracket} → t % 2 ≡ 1 → r ≡ bracket (product square year) → Encloses r t i (powerMost t)
+    pub odd-encloses : {r : Bracket} → t % 2 ≡ 1 → r ≡ bracket (product square year) → Encloses r t i (power_most t)
     odd-encloses {r} h e =
-        subst (λ (k : ℕ). Encloses r k i (powerMost k)) (let z : t / 2 + t / 2 + 1 ≡ t = omega arith in z)
+        subst (λ (k : ℕ). Encloses r k i (power_most k)) (let z : t / 2 + t / 2 + 1 ≡ t = omega arith in z)
         (product-encloses squared one e (year-kept (t / 2 + t / 2) (omega arith)))
 
 -- ---- of no year and of one
-pub no-year : (i : ℕ) → Encloses (record { lower = 2 ^ 30; upper = 2 ^ 30 }) 0 i (powerMost 0)
-unfolding powerMost
+pub no-year : (i : ℕ) → Encloses (record { lower = 2 ^ 30; upper = 2 ^ 30 }) 0 i (power_most 0)
+unfolding power_most
 no-year i = record { lower = rw (pow-zero (98000 + i)) (omega arith); upper = rw (pow-zero (98000 + i)) (omega arith); most = omega arith }
 
-module _ (q i : ℕ) (e : q ≡ divide low (2 ^ 30 * stepsPerOne) (98000 + i)) where
-  near : (q * (98000 + i) ≤ 2 ^ 30 * stepsPerOne) × (2 ^ 30 * stepsPerOne < q * (98000 + i) + (98000 + i))
-  near = rw e (divide-floor (2 ^ 30 * stepsPerOne) (98000 + i) (omega arith))
+module _ (q i : ℕ) (e : q ≡ divide low (2 ^ 30 * steps_per_one) (98000 + i)) where
+  near : (q * (98000 + i) ≤ 2 ^ 30 * steps_per_one) × (2 ^ 30 * steps_per_one < q * (98000 + i) + (98000 + i))
+  near = rw e (divide-floor (2 ^ 30 * steps_per_one) (98000 + i) (omega arith))
 
-  pub year-most : q + 1 ≤ powerMost 1
-  unfolding powerMost
+  pub year-most : q + 1 ≤ power_most 1
+  unfolding power_most
   year-most = omega (arith, near, mul-le-mul_left q (let z : 98000 ≤ 98000 + i = omega arith in z))
 
-  pub one-year : Encloses (record { lower = q; upper = q + 1 }) 1 i (powerMost 1)
+  pub one-year : Encloses (record { lower = q; upper = q + 1 }) 1 i (power_most 1)
   one-year = record { lower = rw (pow-one (98000 + i)) (omega (arith, near)); upper = rw (pow-one (98000 + i)) (omega (arith, near)); most = year-most }
     where
       pow-one : (a : ℕ) → a ^ 1 ≡ a
       pow-one a = rw (pow-suc a 0, pow-zero a) (omega arith)
 
 -- ---- in units of 10^-12: 10^12 ÷ 2^30 is 5^12 ÷ 2^18
-module _ {x : Bracket} {t i : ℕ} (w : StepWithin t i) (p : Encloses x t i (powerMost t)) where
-  most : powerMost t ≤ 13 * 10 ^ 9
+module _ {x : Bracket} {t i : ℕ} (w : StepWithin t i) (p : Encloses x t i (power_most t)) where
+  most : power_most t ≤ 13 * 10 ^ 9
   most = power-most t (omega (arith, w.term))
 
   pub both-fit : BothIn Small x (5 ^ 12) (2 ^ 18)

@@ -11,16 +11,16 @@ use native.Mathlib.Omega.{arith}
 use native.Mathlib.Numerals.{add-one}
 use Rattle.arith.specs.inner.Range.{Small}
 use Rattle.arith.specs.Rounding.{End, low, high, divide}
-use Rattle.model.specs.Constants.{unit, stepsPerOne}
+use Rattle.model.specs.Constants.{unit, steps_per_one}
 use Rattle.model.specs.Numbers.{every}
 use Rattle.method.specs.Rounded.{scaled, tested}
 use Rattle.arith.specs.Brackets.{bracket, end_of}
 use Rattle.arith.specs.declared.bracket.Bracket.{Bracket}
 use Rattle.theory.proofs.general.ByEnds.{end_is}
 use Rattle.theory.proofs.general.Lists.{every-le}
-use Rattle.theory.proofs.curve.Steps.{ends, scaled-in, scaled-ends, widthAfter}
+use Rattle.theory.proofs.curve.Steps.{ends, scaled-in, scaled-ends, width_after}
 use Rattle.theory.proofs.curve.RateTests.{tested-small, tested-width}
-use Rattle.zerorates.specs.inner.Powers.{Encloses, powerMost}
+use Rattle.zerorates.specs.inner.Powers.{Encloses, power_most}
 use Rattle.zerorates.specs.inner.Ranges.{StepWithin}
 use Rattle.zerorates.specs.inner.Results.{passed, passing}
 use Rattle.zerorates.proofs.Powers.{in-units, in-units-most}
@@ -41,12 +41,12 @@ pub test-all : (e : End) (x k t i : ℕ) → x ≡ tested e k i → k ≤ t → 
 test-all e x k t i q h l = let p : k ≡ t = omega arith in rw p at q
 
 -- the two results are at most 1,000 apart: computed of each term
-near : (t : ℕ) → t < 121 → widthAfter t ≤ 1000
-unfolding every widthAfter divide
-near t = every-le widthAfter (λ _. 1000) 121 t refl
+near : (t : ℕ) → t < 121 → width_after t ≤ 1000
+unfolding every width_after divide
+near t = every-le width_after (λ _. 1000) 121 t refl
 
 -- ---- the unrounded result is between the two, so its bounds are at most 1,000 from bounds of both
-module _ {x r : Bracket} {t i : ℕ} (w : StepWithin t i) (p : Encloses x t i (powerMost t))
+module _ {x r : Bracket} {t i : ℕ} (w : StepWithin t i) (p : Encloses x t i (power_most t))
     (is : r ≡ bracket (λ e. divide e (end_of x e * 5 ^ 12) (2 ^ 18))) where
   some : 0 < (98000 + i) ^ t
   some = one-le-pow t (98000 + i) (omega arith)
@@ -58,17 +58,17 @@ module _ {x r : Bracket} {t i : ℕ} (w : StepWithin t i) (p : Encloses x t i (p
   end-is e = end_is r (λ e. divide e (end_of x e * 5 ^ 12) (2 ^ 18)) is e
 
   pub lower-bound : r.lower ≤ tested low t i + 1000
-  lower-bound = omega (arith, end-is low, widest, ends some (in-units w p low) (scaled-in high stepsPerOne (98000 + i) t (omega arith)))
+  lower-bound = omega (arith, end-is low, widest, ends some (in-units w p low) (scaled-in high steps_per_one (98000 + i) t (omega arith)))
 
   pub upper-bound : tested high t i ≤ r.upper + 1000
-  upper-bound = omega (arith, end-is high, widest, ends some (scaled-in low stepsPerOne (98000 + i) t (omega arith)) (in-units w p high))
+  upper-bound = omega (arith, end-is high, widest, ends some (scaled-in low steps_per_one (98000 + i) t (omega arith)) (in-units w p high))
 
   pub upper-most : r.upper ≤ 2 ^ 46
   upper-most = rw (end-is high) (in-units-most w p)
 
 -- ---- a test whose results are both above the factor, or both below it
 results-order : (t i : ℕ) → tested low t i ≤ tested high t i
-results-order t i = scaled-ends stepsPerOne (98000 + i) t (omega arith)
+results-order t i = scaled-ends steps_per_one (98000 + i) t (omega arith)
 
 pub compared-above : (e : End) (t factor i : ℕ) → factor < tested low t i → Greater ≡ nat_cmp (tested e t i) factor
 compared-above low t factor i h = nat_cmp_is (tested low t i) factor Greater h

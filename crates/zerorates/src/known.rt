@@ -66,7 +66,8 @@ impl TermStep {
 
 // What is known from step `guess` and from the second step after it, at both ends of the factor.
 pub fn known_near(t: usize, guess: u64, factor: Bracket) -> Interval
-    requires { (t ≤ 120) × (guess ≤ 21998) }
+    requires term { t ≤ 120 }
+    requires guess { guess ≤ 21998 }
     ensures lower { Known t factor.lower result }
     ensures upper { Known t factor.upper result }
 {

@@ -1,8 +1,8 @@
 // The zero rates of the terms, from the factors.
 ghost use Rattle.std.specs.Prelude.{◌≡◌, ◌≤◌};
-ghost use Rattle.method.specs.Rounded.{stepAt, rateOf};
-ghost use Rattle.curves.specs.inner.ByTerm.{factorAt};
-ghost use Rattle.zerorates.specs.inner.ByTerm.{rateBrackets};
+ghost use Rattle.method.specs.Rounded.{step_at, rate_of};
+ghost use Rattle.curves.specs.inner.ByTerm.{factor_at};
+ghost use Rattle.zerorates.specs.inner.ByTerm.{rate_brackets};
 ghost use Rattle.zerorates.specs.inner.Ranges.{RatesWithin};
 
 use super::known::{guess_rate, known_near};
@@ -25,7 +25,7 @@ pub struct RateBracket {
 // The rate of a step.
 fn rate_at(step: u64) -> i64
     requires { step ≤ 22000 }
-    ensures { result ≡ stepAt step }
+    ensures { result ≡ step_at step }
 {
     step as i64 - 2_000
 }
@@ -33,7 +33,7 @@ fn rate_at(step: u64) -> i64
 /// The zero rates of the terms 1 to 120. The lower rate goes by the upper factor, and the upper rate by the lower.
 pub fn zero_rates(factors: &[Bracket; 120]) -> [RateBracket; 120]
     requires { RatesWithin factors.now }
-    ensures { result ≡ rateBrackets (rateOf (factorAt factors.now)) 120 }
+    ensures { result ≡ rate_brackets (rate_of (factor_at factors.now)) 120 }
 {
     let mut out = [RateBracket { lower: 0, upper: 0 }; 120];
     // The upper factor and the step of the lower rate of the term before, by which the rate is guessed.

@@ -4,7 +4,7 @@ ghost use Rattle.std.specs.Prelude.{◌≡◌, ◌≤◌, ◌<◌};
 ghost use Rattle.std.specs.Ordering.{nat_cmp};
 ghost use Rattle.method.specs.Rounded.{tested};
 ghost use Rattle.searchmodel.specs.Bisection as Bisection;
-ghost use Rattle.searchmodel.specs.Bisection.{halved, afterTests};
+ghost use Rattle.searchmodel.specs.Bisection.{halved, after_tests};
 ghost use Rattle.zerorates.specs.inner.Results.{passed, passing};
 ghost use Rattle.zerorates.specs.inner.Known.{Known};
 ghost use Rattle.zerorates.specs.inner.Ranges.{LeftWithin};
@@ -123,7 +123,7 @@ impl Search {
     /// The steps that are left for a rate after a number of tests: the lower rate, by the upper end of the factor, or the upper rate, by
     /// the lower end.
     pub fn steps_left<E: RateEnd>(self, tests: usize) -> StepsLeft
-        ensures { result ≡ afterTests E.end (passed E.end self.term self.factor) tests }
+        ensures { result ≡ after_tests E.end (passed E.end self.term self.factor) tests }
     {
         let mut left = StepsLeft {
             first: 0,

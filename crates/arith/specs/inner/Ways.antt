@@ -1,5 +1,5 @@
 -- What a way of dividing can do with a number, it can do with a smaller one. Assumes nothing.
-use Prim.Native.Nat.{ℕ, ◌+◌, ◌*◌, ◌≤◌}
+use Prim.Native.Nat.{ℕ, ◌≤◌}
 use native.Mathlib.Nat.{mul-le-mul_right, lt_of_le_of_lt}
 use native.Mathlib.Omega.{arith}
 use Rattle.arith.specs.inner.Range.{Small, InRange}

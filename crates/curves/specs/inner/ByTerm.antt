@@ -1,5 +1,5 @@
 -- Factors as the code holds them, a bracket for each term.
-use Rattle.std.specs.Prelude.{ℕ, suc, ◌-◌, List, get_or}
+use Rattle.std.specs.Prelude.{ℕ, suc, ◌-◌, List, slice_index_or}
 use Rattle.arith.specs.Rounding.{End}
 use Rattle.arith.specs.Brackets.{bracket, end_of}
 use Rattle.arith.specs.declared.bracket.Bracket.{Bracket}
@@ -10,5 +10,5 @@ abbrev pub brackets : (End → ℕ → ℕ) → ℕ → List Bracket
 brackets figure n = table (λ i. bracket (λ e. figure e (suc i))) n
 
 -- an end of the figure of a term, from 1
-abbrev pub factorAt : List Bracket → End → ℕ → ℕ
-factorAt factors e t = end_of (get_or factors (t - 1) (record { lower = 0; upper = 0 })) e
+abbrev pub factor_at : List Bracket → End → ℕ → ℕ
+factor_at factors e t = end_of (slice_index_or factors (t - 1) (record { lower = 0; upper = 0 })) e

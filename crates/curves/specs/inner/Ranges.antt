@@ -1,5 +1,5 @@
 -- What the functions of `curves` ask of their numbers, so that nothing on the way passes 64 bits.
-use Rattle.std.specs.Prelude.{ℕ, ◌*◌, ◌-◌, ◌^◌, ◌≤◌, ◌<◌, ◌≡◌, get_or}
+use Rattle.std.specs.Prelude.{ℕ, ◌*◌, ◌-◌, ◌^◌, ◌≤◌, ◌<◌, ◌≡◌, slice_index}
 use Rattle.arith.specs.Rounding.{high}
 use Rattle.heldcase.specs.declared.Case.{Case}
 use Rattle.arith.specs.declared.bracket.Bracket.{Bracket}
@@ -8,16 +8,16 @@ use Rattle.method.specs.Rounded.{scaled}
 use Rattle.arith.specs.Brackets.{bracket}
 use Rattle.method.specs.inner.CurveWithin.{CurveWithin}
 use Rattle.curves.specs.declared.sums.CurveSums.{CurveSums}
-use Rattle.curves.specs.inner.Shifted.{curveOf}
-use Rattle.curves.specs.inner.Years.{scaledFrom}
+use Rattle.curves.specs.inner.Shifted.{curve_of}
+use Rattle.curves.specs.inner.Years.{scaled_from}
 
 -- of a curve that is shifted: mean rates from -1,000 to 10,000 steps, and a shift of at most 1,000
 pub record ShiftWithin (k : Case) (more less : ℕ) : Type 0 where
-  pub perStep : k.per_step ≤ 7000
-  pub least : (i : ℕ) → i < 60 → 99000 * k.per_step ≤ get_or k.sums i 0
-  pub most : (i : ℕ) → i < 60 → get_or k.sums i 0 ≤ 110000 * k.per_step
-  pub moreMost : more ≤ 1000
-  pub lessMost : less ≤ 1000
+  pub per_step : k.per_step ≤ 7000
+  pub least : (i : ℕ) → i < 60 → 99000 * k.per_step ≤ slice_index k.sums i
+  pub most : (i : ℕ) → i < 60 → slice_index k.sums i ≤ 110000 * k.per_step
+  pub more_most : more ≤ 1000
+  pub less_most : less ≤ 1000
 
 -- of 10^12, j times × a ÷ b: no result on the way reaches 2^42
 pub record ScaledWithin (a b j : ℕ) : Type 0 where
@@ -31,7 +31,7 @@ pub record ScaledWithin (a b j : ℕ) : Type 0 where
 pub record YearsWithin (Takes : ℕ → ℕ → ℕ → Type 0) (p q : ℕ) (x : Bracket) (j : ℕ) : Type 0 where
   pub some : 0 < q
   pub order : x.lower ≤ x.upper
-  pub years : (i : ℕ) → i < j → Takes (scaledFrom high p q x.upper i) p q
+  pub years : (i : ℕ) → i < j → Takes (scaled_from high p q x.upper i) p q
 
 -- of the growth of term j + 1, where p is P(j + 1) and q is P(j)
 pub record GrowthWithin (n p q j : ℕ) : Type 0 where
@@ -49,11 +49,11 @@ pub record WeighWithin (growth : Bracket) (w u : ℕ) : Type 0 where
 
 -- of a curve: what the checks of a file leave true of it, where a step adds at most 7,000 to a sum
 pub record FactorsWithin (c : CurveSums) : Type 0 where
-  pub within : CurveWithin (curveOf c)
+  pub within : CurveWithin (curve_of c)
   pub most : c.n ≤ 700000000
 
 -- of the factor of term t, that f is the one before it
 pub record NextWithin (c : CurveSums) (f : Bracket) (t : ℕ) : Type 0 where
   pub curve : FactorsWithin c
   pub some : 1 ≤ t
-  pub before : f ≡ bracket (λ e. Rounded.factor (curveOf c) e (t - 1))
+  pub before : f ≡ bracket (λ e. Rounded.factor (curve_of c) e (t - 1))

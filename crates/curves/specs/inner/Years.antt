@@ -3,6 +3,6 @@ use Rattle.std.specs.Prelude.{ℕ, zero, suc, ◌*◌}
 use Rattle.arith.specs.Rounding.{End, divide}
 
 -- from x, j times × a ÷ b
-unfoldable pub scaledFrom : End → ℕ → ℕ → ℕ → ℕ → ℕ
-scaledFrom e a b x zero = x
-scaledFrom e a b x (suc j) = scaledFrom e a b (divide e (x * a) b) j
+unfoldable pub scaled_from : End → ℕ → ℕ → ℕ → ℕ → ℕ
+scaled_from e a b x zero = x
+scaled_from e a b x (suc j) = scaled_from e a b (divide e (x * a) b) j

@@ -1,12 +1,12 @@
 -- A list in an array that has room for more, with zeros behind it: the list gives the array back.
-use Rattle.std.proofs.Common.{◌≡◌, ◌∙◌, ℕ, ◌+◌, ◌-◌, ◌≤◌, ◌<◌, List, ◌++◌, length, get_or, take, drop, replicate, ap, sym, arith}
+use Rattle.std.proofs.Common.{◌≡◌, ◌∙◌, ℕ, ◌+◌, ◌-◌, ◌≤◌, ◌<◌, List, ◌++◌, length, slice_index, take, drop, replicate, ap, sym, arith}
 use Rattle.std.proofs.lemmas.List.{ext_get_or, get_or-replicate, get_or-drop, length-take-le, length-drop, take-append-drop, length-replicate}
 
 -- the first `count` entries are the list, and the others are 0
 pub record Room (most count : ℕ) (entries : List ℕ) : Type 0 where
   pub few : count ≤ most
   pub whole : length entries ≡ most
-  pub rest : (i : ℕ) → count ≤ i → get_or entries i 0 ≡ 0
+  pub rest : (i : ℕ) → count ≤ i → slice_index entries i ≡ 0
 
 -- a list, and zeros behind it, n entries in all
 abbrev pub filled : ℕ → List ℕ → List ℕ

@@ -1,60 +1,60 @@
 -- The fields of the layout under a name each, and where each field of a file starts: at the end of the field before it.
-use Rattle.std.specs.Prelude.{ℕ, cond, List, [], eqb, get_or, ℤ}
-use Rattle.model.specs.Constants.{defaultUfr}
+use Rattle.std.specs.Prelude.{ℕ, if◌then◌else◌, List, [], ◌==◌, slice_index, ℤ}
+use Rattle.model.specs.Constants.{default_ufr}
 use Rattle.model.specs.Fields.{number_of, Field, field, counted, optional}
-use Rattle.model.specs.Layout.{days, flow, amounts, noAmounts, shocks, people, Present, rateBytesIn, presentIn, fileMap}
-use Rattle.model.specs.Refusals.{ufrEnd}
+use Rattle.model.specs.Layout.{days, flow, amounts, no_amounts, shocks, people, Present, rate_bytes_in, present_in, file_map}
+use Rattle.model.specs.Refusals.{ufr_end}
 use Rattle.model.specs.declared.case.Amounts.{Amounts}
 
-abbrev pub ufrField : Present → Field ℕ
-ufrField p = optional p.ufr defaultUfr (field 9 (number_of 2 0 5000))
+abbrev pub ufr_field : Present → Field ℕ
+ufr_field p = optional p.ufr default_ufr (field 9 (number_of 2 0 5000))
 
 -- the days field whose rates have v bytes, of a case whose rates have w
-abbrev pub daysField : ℕ → ℕ → Field (List (List ℤ))
-daysField v w = optional (eqb w v) [] (days v)
+abbrev pub days_field : ℕ → ℕ → Field (List (List ℤ))
+days_field v w = optional (w == v) [] (days v)
 
-abbrev pub pensionField : Field (List ℕ)
-pensionField = counted 120 7 8 flow
+abbrev pub pension_field : Field (List ℕ)
+pension_field = counted 120 7 8 flow
 
-abbrev pub bondsField : Present → Field (List ℕ)
-bondsField p = optional p.bonds [] (counted 60 7 8 flow)
+abbrev pub bonds_field : Present → Field (List ℕ)
+bonds_field p = optional p.bonds [] (counted 60 7 8 flow)
 
-abbrev pub amountsField : Present → Field Amounts
-amountsField p = optional p.amounts noAmounts (field 10 amounts)
+abbrev pub amounts_field : Present → Field Amounts
+amounts_field p = optional p.amounts no_amounts (field 10 amounts)
 
 -- the bytes of a rate and the optional fields that a file has
-abbrev pub rateBytes : List ℕ → ℕ
-rateBytes file = rateBytesIn (fileMap file)
+abbrev pub rate_bytes : List ℕ → ℕ
+rate_bytes file = rate_bytes_in (file_map file)
 
 abbrev pub present : List ℕ → Present
-present file = presentIn (fileMap file)
+present file = present_in (file_map file)
 
 -- where the count m of the pension flows stands, and m
-unfoldable pub pensionAt : List ℕ → ℕ
-pensionAt file = (daysField 2 (rateBytes file)).end file (ufrEnd file)
+unfoldable pub pension_at : List ℕ → ℕ
+pension_at file = (days_field 2 (rate_bytes file)).end file (ufr_end file)
 
-unfoldable pub pensionCount : List ℕ → ℕ
-pensionCount file = get_or file (pensionAt file) 0
+unfoldable pub pension_count : List ℕ → ℕ
+pension_count file = slice_index file (pension_at file)
 
 -- where the count k of the bond flows stands, and k: 0 where they are absent
-unfoldable pub bondsAt : List ℕ → ℕ
-bondsAt file = pensionField.end file (pensionAt file)
+unfoldable pub bonds_at : List ℕ → ℕ
+bonds_at file = pension_field.end file (pension_at file)
 
-unfoldable pub bondCount : List ℕ → ℕ
-bondCount file = cond (present file).bonds (get_or file (bondsAt file) 0) 0
+unfoldable pub bond_count : List ℕ → ℕ
+bond_count file = if (present file).bonds then slice_index file (bonds_at file) else 0
 
-unfoldable pub amountsAt : List ℕ → ℕ
-amountsAt file = (bondsField (present file)).end file (bondsAt file)
+unfoldable pub amounts_at : List ℕ → ℕ
+amounts_at file = (bonds_field (present file)).end file (bonds_at file)
 
-unfoldable pub shocksAt : List ℕ → ℕ
-shocksAt file = (amountsField (present file)).end file (amountsAt file)
+unfoldable pub shocks_at : List ℕ → ℕ
+shocks_at file = (amounts_field (present file)).end file (amounts_at file)
 
-unfoldable pub peopleAt : List ℕ → ℕ
-peopleAt file = (field 11 shocks).end file (shocksAt file)
+unfoldable pub people_at : List ℕ → ℕ
+people_at file = (field 11 shocks).end file (shocks_at file)
 
 -- where the people end, which is where four-byte days stand; and where the last field ends
-unfoldable pub peopleEnd : List ℕ → ℕ
-peopleEnd file = (field 12 people).end file (peopleAt file)
+unfoldable pub people_end : List ℕ → ℕ
+people_end file = (field 12 people).end file (people_at file)
 
-unfoldable pub fileEnd : List ℕ → ℕ
-fileEnd file = (daysField 4 (rateBytes file)).end file (peopleEnd file)
+unfoldable pub file_end : List ℕ → ℕ
+file_end file = (days_field 4 (rate_bytes file)).end file (people_end file)

@@ -5,5 +5,5 @@ use Rattle.arith.specs.Brackets.{end_of}
 use Rattle.method.specs.Rounded as Rounded
 use Rattle.money.specs.declared.buffer.Losses.{Losses}
 
-abbrev pub bufferOf : ℕ → Losses → End → ℕ
-bufferOf c s e = Rounded.buffer e c (end_of s.s1 e) (end_of s.s2 e) (end_of s.s3 e) (end_of s.s4 e) (end_of s.s5 e) (end_of s.s6 e)
+abbrev pub buffer_of : ℕ → Losses → End → ℕ
+buffer_of c s e = Rounded.buffer e c (end_of s.s1 e) (end_of s.s2 e) (end_of s.s3 e) (end_of s.s4 e) (end_of s.s5 e) (end_of s.s6 e)

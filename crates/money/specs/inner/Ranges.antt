@@ -1,21 +1,21 @@
 -- The ranges in which the sums and products of flows, factors, losses, assets and liabilities fit 64 bits, or 128.
-use Rattle.std.specs.Prelude.{ℕ, ◌*◌, ◌^◌, ◌≤◌, ◌<◌, List, length, get_or}
+use Rattle.std.specs.Prelude.{ℕ, ◌*◌, ◌^◌, ◌≤◌, ◌<◌, List, length, slice_index}
 use Rattle.arith.specs.Rounding.{End}
 use Rattle.arith.specs.inner.Range.{UpTo}
 use Rattle.arith.specs.declared.bracket.Bracket.{Bracket}
 use Rattle.curves.specs.declared.three.Three.{Three}
-use Rattle.curves.specs.inner.ByTerm.{factorAt}
+use Rattle.curves.specs.inner.ByTerm.{factor_at}
 use Rattle.money.specs.declared.buffer.Losses.{Losses}
 
 -- up to 120 flows of at most 100,000,000 euros
 pub record FlowsFit (flows : List ℕ) : Type 0 where
   pub few : length flows ≤ 120
-  pub flow : (i : ℕ) → i < length flows → get_or flows i 0 ≤ 100000000
+  pub flow : (i : ℕ) → i < length flows → slice_index flows i ≤ 100000000
 
 -- a factor for each of `count` terms, of at most 3.4, which only an unadjusted factor comes near
 pub record FactorsFit (factors : List Bracket) (count : ℕ) : Type 0 where
   pub terms : count ≤ length factors
-  pub factor : (e : End) (t : ℕ) → 1 ≤ t → t ≤ count → factorAt factors e t ≤ 34 * 10 ^ 11
+  pub factor : (e : End) (t : ℕ) → 1 ≤ t → t ≤ count → factor_at factors e t ≤ 34 * 10 ^ 11
 
 -- the worth of 120 such flows at such factors
 abbrev pub WorthFits : Bracket → Type 0

@@ -1,9 +1,9 @@
 -- `save`: a refusal of the case, one for want of room, and the bytes. The check leaves each of these goals open without its answer.
-use Rattle.std.proofs.Common.{sym}
+use Rattle.std.proofs.Common.{◌≡◌}
 use Rattle.std.proofs.lemmas.Result.{err_from_is_err_and}
-use Rattle.rolling.proofs.Windows.{none-told}
+use Rattle.refusal.specs.declared.Refusal.TheVariants.{Room}
 use Rattle.saving.specs.Said.{said}
-use Rattle.saving.proofs.Saves.{refused, room-refused, written}
+use Rattle.saving.proofs.Saves.{none-told, refused, room-refused, written}
 use Rattle.saving.proofs.save.Goals as goal
 
 pub returns-in_err-file-clause-value : goal.returns-in_err-file-clause-value
@@ -23,19 +23,23 @@ returns-in_err-left-clause-value c =
     let a = c.args in
     let k = said a.case.now in
     let file = c.in_ok-file.ensures in
-    let told = none-told c.room_after.result _ _ (sym c.in_err-left.ensures.value) in
-    let short = rw c.in_err-left.ensures.ok_part at c.room_after.ensures in
+    let none = c.in_err-left.ensures.ok_part in
+    let value = rw none at c.in_err-left.ensures.value in
+    let told : c.in_err-left.field-0.0 ≡ Room = cc in
+    let short = rw none at c.room_after.ensures in
     let p = err_from_is_err_and c.from_residual-in_err-left.result c.from_residual-in_err-left.ensures.1 in
-    rw (p.1, p.2) (room-refused k a.out.now file.refusal file.bytes told.0 short).0
+    rw (p.1, p.2) (room-refused k a.out.now file.refusal file.bytes told short).0
 
 pub returns-in_err-left-clause-buffer : goal.returns-in_err-left-clause-buffer
 returns-in_err-left-clause-buffer c =
     let a = c.args in
     let k = said a.case.now in
     let file = c.in_ok-file.ensures in
-    let told = none-told c.room_after.result _ _ (sym c.in_err-left.ensures.value) in
-    let short = rw c.in_err-left.ensures.ok_part at c.room_after.ensures in
-    (room-refused k a.out.now file.refusal file.bytes told.0 short).1
+    let none = c.in_err-left.ensures.ok_part in
+    let value = rw none at c.in_err-left.ensures.value in
+    let told : c.in_err-left.field-0.0 ≡ Room = cc in
+    let short = rw none at c.room_after.ensures in
+    (room-refused k a.out.now file.refusal file.bytes told short).1
 
 pub returns-clause-value : goal.returns-clause-value
 returns-clause-value c =

@@ -10,9 +10,9 @@ use borrow.Author.Tests.{eqb-true, eqb-false, not-true}
 use lib.Dec.{eqb, lit≤}
 use Rattle.std.specs.Cmp.{first_so, second_so}
 use Rattle.model.specs.Numbers.{every}
-use Rattle.model.specs.Case.{knownForm}
-use Rattle.model.specs.Layout.{Present, mapOf, stands, rateBytesIn, presentIn}
-use Rattle.model.specs.Refusals.{exactlyOne, bitsRight}
+use Rattle.model.specs.Case.{known_form}
+use Rattle.model.specs.Layout.{Present, map_of, stands, rate_bytes_in, present_in}
+use Rattle.model.specs.Refusals.{exactly_one, bits_right}
 use Rattle.theory.proofs.acceptance.Form.{by_form}
 use Rattle.theory.proofs.general.Lists.{every-at}
 
@@ -31,9 +31,9 @@ none_from m i (suc n) h z =
     half : (q : ℕ) → q / 2 ≡ 0 → (q % 2 ≡ 1 → ⊥) → q ≡ 0
     half q e b = omega arith
 
-pub one-days-field : (m : ℕ) → bitsRight m ≡ true → exactlyOne (stands 1 m) (stands 7 m) ≡ true
+pub one-days-field : (m : ℕ) → bits_right m ≡ true → exactly_one (stands 1 m) (stands 7 m) ≡ true
 one-days-field m h =
-    let one = exactlyOne (stands 1 m) (stands 7 m) in
+    let one = exactly_one (stands 1 m) (stands 7 m) in
     let two = one && stands 2 m in
     let five = two && stands 5 m in
     let six = five && stands 6 m in
@@ -42,26 +42,26 @@ one-days-field m h =
 
 -- a map below 256 whose bits are right is that of the fields it announces: computed of each
 test : ℕ → Bool
-test m = cond (bitsRight m) (eqb m (mapOf (rateBytesIn m) (presentIn m))) true
+test m = cond (bits_right m) (eqb m (map_of (rate_bytes_in m) (present_in m))) true
 
 tested : every test 256 ≡ true
 unfolding every test
 tested = refl
 
-pub map-of-present : (m : ℕ) → m < 65536 → bitsRight m ≡ true → mapOf (rateBytesIn m) (presentIn m) ≡ m
+pub map-of-present : (m : ℕ) → m < 65536 → bits_right m ≡ true → map_of (rate_bytes_in m) (present_in m) ≡ m
 unfolding test
 map-of-present m l h =
-    let must = exactlyOne (stands 1 m) (stands 7 m) && stands 2 m && stands 5 m && stands 6 m in
+    let must = exactly_one (stands 1 m) (stands 7 m) && stands 2 m && stands 5 m && stands 6 m in
     let k = second_so must (every (λ j. not (stands (8 + j) m)) 8) h in
     let z : m / 256 ≡ 0 = none_from m 8 8 k (div-eq_of_lt l) in
     let t = every-at test 256 m tested (omega arith) in
-    sym (eqb-true m (mapOf (rateBytesIn m) (presentIn m)) (rw h at t))
+    sym (eqb-true m (map_of (rate_bytes_in m) (present_in m)) (rw h at t))
 
 -- the other way: computed of each choice
 abbrev Announced : ℕ → Present → Type 0
-Announced w p = (bitsRight (mapOf w p) ≡ true) × (mapOf w p ≤ 65535) × (presentIn (mapOf w p) ≡ p) × (rateBytesIn (mapOf w p) ≡ w)
+Announced w p = (bits_right (map_of w p) ≡ true) × (map_of w p ≤ 65535) × (present_in (map_of w p) ≡ p) × (rate_bytes_in (map_of w p) ≡ w)
 
-pub announced : (w : ℕ) (p : Present) → knownForm w ≡ true → Announced w p
+pub announced : (w : ℕ) (p : Present) → known_form w ≡ true → Announced w p
 unfolding every
 announced w p known = by_form (λ v. Announced v p) w known (two p.ufr p.bonds p.amounts) (four p.ufr p.bonds p.amounts)
   where

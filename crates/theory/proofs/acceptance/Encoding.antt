@@ -12,7 +12,7 @@ use lib.Dec.{ltb, lit<}
 use lib.ListN.{length, get_or, drop, length-append, length-drop}
 use lib.Seq.{drop-cons, drop-drop, drop_at, get_or-drop, get_or_at}
 use lib.IntN.{ℤ, pos, negsuc, neg_ℤ, ◌-ℤ◌}
-use Rattle.model.specs.Numbers.{number, twosComplement, bytes_of, unsigned, Bytes}
+use Rattle.model.specs.Numbers.{number, twos_complement, bytes_of, unsigned, Bytes}
 use Rattle.model.specs.Limits.{Between}
 use Rattle.theory.proofs.general.Differences.{diff-pos, diff-neg, diff-le}
 
@@ -77,7 +77,7 @@ below : (v M : ℕ) → v < M → pos v -ℤ pos M ≡ negsuc (M - suc v)
 below v zero h = absurd (not-suc-le-zero h)
 below v (suc m) h = rw (lt-ltb v (suc m) h)
 
-pub written-signed : (w v : ℕ) → v < 256 ^ w → unsigned w (twosComplement w v) ≡ v
+pub written-signed : (w v : ℕ) → v < 256 ^ w → unsigned w (twos_complement w v) ≡ v
 written-signed w v h = go (ltb (2 * v) (256 ^ w))
   where
     go : (t : Bool) → unsigned w (cond t (pos v) (pos v -ℤ pos (256 ^ w))) ≡ v
@@ -86,7 +86,7 @@ written-signed w v h = go (ltb (2 * v) (256 ^ w))
 
 -- of an integer from -a to b, where the lower half of the numbers of w bytes holds b and the upper half a
 pub read-signed : (w a b : ℕ) → 2 * a ≤ 256 ^ w → 2 * b < 256 ^ w → (z : ℤ) → Between (neg_ℤ (pos a)) (pos b) z
-    → (unsigned w z < 256 ^ w) × (twosComplement w (unsigned w z) ≡ z)
+    → (unsigned w z < 256 ^ w) × (twos_complement w (unsigned w z) ≡ z)
 read-signed w a b low high (pos n) h =
     let l = diff-le n 0 b 0 (diff-pos n) (diff-pos b) h.most in
     (omega arith, rw (lt-ltb (2 * n) (256 ^ w) (omega arith)))

@@ -8,18 +8,18 @@ use borrow.Author.Tests.{eqb-true}
 use lib.Dec.{T, eqb}
 use lib.ListN.{length}
 use lib.IntN.{ℤ}
-use Rattle.model.specs.Case.{FileCase, knownForm, unitsPerStep, perStep, withDays}
+use Rattle.model.specs.Case.{FileCase, known_form, units_per_step, per_step, with_days}
 use Rattle.model.specs.Fields.{Field, field, ◌then◌}
-use Rattle.model.specs.Layout.{day, days, shocks, people, Present, Parts, rateBytesIn, stands, fileMap, firstFields, layout, fields_of, caseFrom, parts_of, case_of}
-use Rattle.model.specs.Refusals.{ufrEnd, daysAt, dayCount}
+use Rattle.model.specs.Layout.{day, days, shocks, people, Present, Parts, rate_bytes_in, stands, file_map, first_fields, layout, fields_of, case_from, parts_of, case_of}
+use Rattle.model.specs.Refusals.{ufr_end, days_at, day_count}
 use Rattle.model.specs.declared.case.Amounts.{Amounts}
 use Rattle.model.specs.declared.case.Shocks.{Shocks}
 use Rattle.model.specs.declared.case.People.{People}
 use Rattle.theory.proofs.acceptance.Checks.{Hold, hold-parts}
 use Rattle.theory.proofs.acceptance.Runs.{values_length}
-use Rattle.model.specs.inner.Positions.{rateBytes, present, ufrField, pensionField, bondsField, amountsField, pensionAt, bondsAt, amountsAt, shocksAt, peopleAt, peopleEnd}
+use Rattle.model.specs.inner.Positions.{rate_bytes, present, ufr_field, pension_field, bonds_field, amounts_field, pension_at, bonds_at, amounts_at, shocks_at, people_at, people_end}
 
-pub by_form : (Q : ℕ → Type 0) (w : ℕ) → knownForm w ≡ true → Q 2 → Q 4 → Q w
+pub by_form : (Q : ℕ → Type 0) (w : ℕ) → known_form w ≡ true → Q 2 → Q 4 → Q w
 by_form Q w known two four = go (eqb w 2) (eqb w 4) refl refl known
   where
     go : (a b : Bool) → eqb w 2 ≡ a → eqb w 4 ≡ b → (a || b) ≡ true → Q w
@@ -28,74 +28,74 @@ by_form Q w known two four = go (eqb w 2) (eqb w 4) refl refl known
     go false false e f h = absurd (subst T (sym h) tt)
 
 -- what is not of 4 bytes is of 2
-pub two-else : (w : ℕ) → knownForm w ≡ true → (w ≡ 4 → ⊥) → w ≡ 2
+pub two-else : (w : ℕ) → known_form w ≡ true → (w ≡ 4 → ⊥) → w ≡ 2
 two-else w known n = by_form (λ v. (v ≡ 4 → ⊥) → v ≡ 2) w known (λ h. refl) (λ h. absurd (h refl)) n
 
 -- a map announces one of the two
-pub known_in : (map : ℕ) → knownForm (rateBytesIn map) ≡ true
+pub known_in : (map : ℕ) → known_form (rate_bytes_in map) ≡ true
 known_in map = go (stands 7 map)
   where
-    go : (b : Bool) → knownForm (cond b 4 2) ≡ true
+    go : (b : Bool) → known_form (cond b 4 2) ≡ true
     go true = refl
     go false = refl
 
 -- where the count of the days stands, by the positions of the fields
-pub days-at : (file : List ℕ) → daysAt file ≡ cond (stands 7 (fileMap file)) (peopleEnd file) (ufrEnd file)
-unfolding daysAt ufrEnd peopleEnd peopleAt shocksAt amountsAt bondsAt pensionAt
-days-at file = go (stands 7 (fileMap file)) (present file)
+pub days-at : (file : List ℕ) → days_at file ≡ cond (stands 7 (file_map file)) (people_end file) (ufr_end file)
+unfolding days_at ufr_end people_end people_at shocks_at amounts_at bonds_at pension_at
+days-at file = go (stands 7 (file_map file)) (present file)
   where
     go : (b : Bool) (p : Present)
-        → cond b ((firstFields 4 p).end file 2) (cond p.ufr 4 2) ≡ cond b ((firstFields (cond b 4 2) p).end file 2) (cond p.ufr 4 2)
+        → cond b ((first_fields 4 p).end file 2) (cond p.ufr 4 2) ≡ cond b ((first_fields (cond b 4 2) p).end file 2) (cond p.ufr 4 2)
     go true p = refl
     go false p = refl
 
 -- the days of a file, and how much a step adds to their sums
-pub days-read : (file : List ℕ) → (days (rateBytes file)).value file (daysAt file) ≡ (case_of file).days
-unfolding daysAt ufrEnd case_of
-days-read file = go (stands 7 (fileMap file)) (present file)
+pub days-read : (file : List ℕ) → (days (rate_bytes file)).value file (days_at file) ≡ (case_of file).days
+unfolding days_at ufr_end case_of
+days-read file = go (stands 7 (file_map file)) (present file)
   where
     go : (b : Bool) (p : Present)
-        → (days (cond b 4 2)).value file (cond b ((firstFields 4 p).end file 2) (cond p.ufr 4 2))
-        ≡ (caseFrom (cond b 4 2) ((layout (cond b 4 2) p).value file 2)).days
+        → (days (cond b 4 2)).value file (cond b ((first_fields 4 p).end file 2) (cond p.ufr 4 2))
+        ≡ (case_from (cond b 4 2) ((layout (cond b 4 2) p).value file 2)).days
     go true p = refl
     go false p = refl
 
-pub step-read : (file : List ℕ) → perStep (case_of file) ≡ unitsPerStep (rateBytes file) * dayCount file
-unfolding perStep case_of dayCount
+pub step-read : (file : List ℕ) → per_step (case_of file) ≡ units_per_step (rate_bytes file) * day_count file
+unfolding per_step case_of day_count
 step-read file =
-    ap (λ n. unitsPerStep (rateBytes file) * n)
-    (ap length (sym (days-read file)) ∙ values_length (day (rateBytes file)) file (daysAt file + 1) (dayCount file))
+    ap (λ n. units_per_step (rate_bytes file) * n)
+    (ap length (sym (days-read file)) ∙ values_length (day (rate_bytes file)) file (days_at file + 1) (day_count file))
 
 -- the fields after two-byte days
-abbrev pub laterFields : Present → Field (List ℕ × (List ℕ × (Amounts × (Shocks × People))))
-laterFields p = pensionField then bondsField p then amountsField p then field 11 shocks then field 12 people
+abbrev pub later_fields : Present → Field (List ℕ × (List ℕ × (Amounts × (Shocks × People))))
+later_fields p = pension_field then bonds_field p then amounts_field p then field 11 shocks then field 12 people
 
 -- the checks of the days are among those of the fields
-pub days-held : (file : List ℕ) → Hold ((fields_of file).checks file 2) → Hold ((days (rateBytes file)).checks file (daysAt file))
-unfolding daysAt ufrEnd
-days-held file = go (stands 7 (fileMap file)) (present file)
+pub days-held : (file : List ℕ) → Hold ((fields_of file).checks file 2) → Hold ((days (rate_bytes file)).checks file (days_at file))
+unfolding days_at ufr_end
+days-held file = go (stands 7 (file_map file)) (present file)
   where
     go : (b : Bool) (p : Present) → Hold ((layout (cond b 4 2) p).checks file 2)
-        → Hold ((days (cond b 4 2)).checks file (cond b ((firstFields 4 p).end file 2) (cond p.ufr 4 2)))
-    go true p h = (hold-parts ((firstFields 4 p).checks file 2) ((days 4).checks file ((firstFields 4 p).end file 2)) h).1
+        → Hold ((days (cond b 4 2)).checks file (cond b ((first_fields 4 p).end file 2) (cond p.ufr 4 2)))
+    go true p h = (hold-parts ((first_fields 4 p).checks file 2) ((days 4).checks file ((first_fields 4 p).end file 2)) h).1
     go false p h =
-        let at = (ufrField p).end file 2 in
-        let later = (laterFields p).checks file ((days 2).end file at) in
-        let first = (hold-parts ((firstFields 2 p).checks file 2) [] h).0 in
-        let on = (hold-parts ((ufrField p).checks file 2) ((days 2).checks file at ++ later) first).1 in
+        let at = (ufr_field p).end file 2 in
+        let later = (later_fields p).checks file ((days 2).end file at) in
+        let first = (hold-parts ((first_fields 2 p).checks file 2) [] h).0 in
+        let on = (hold-parts ((ufr_field p).checks file 2) ((days 2).checks file at ++ later) first).1 in
         (hold-parts ((days 2).checks file at) later on).0
 
 -- ---- the fields of a case are its parts, both ways
 
-one_field : (w : ℕ) (days : List (List ℤ)) → knownForm w ≡ true → cond (eqb w 4) (cond (eqb w 4) days []) (cond (eqb w 2) days []) ≡ days
+one_field : (w : ℕ) (days : List (List ℤ)) → known_form w ≡ true → cond (eqb w 4) (cond (eqb w 4) days []) (cond (eqb w 2) days []) ≡ days
 one_field w days known =
     by_form (λ v. cond (eqb v 4) (cond (eqb v 4) days []) (cond (eqb v 2) days []) ≡ days) w known refl refl
 
-pub case-of-parts : (k : FileCase) → knownForm k.rateBytes ≡ true → caseFrom k.rateBytes (parts_of k) ≡ k
-case-of-parts k known = ap (λ (days : List (List ℤ)). withDays k.rateBytes days k) (one_field k.rateBytes k.days known)
+pub case-of-parts : (k : FileCase) → known_form k.rate_bytes ≡ true → case_from k.rate_bytes (parts_of k) ≡ k
+case-of-parts k known = ap (λ (days : List (List ℤ)). with_days k.rate_bytes days k) (one_field k.rate_bytes k.days known)
 
-pub parts-of-case : (w : ℕ) (v : Parts) → knownForm w ≡ true → (eqb w 2 ≡ false → v.0.1.0 ≡ []) → (eqb w 4 ≡ false → v.1 ≡ [])
-    → parts_of (caseFrom w v) ≡ v
+pub parts-of-case : (w : ℕ) (v : Parts) → known_form w ≡ true → (eqb w 2 ≡ false → v.0.1.0 ≡ []) → (eqb w 4 ≡ false → v.1 ≡ [])
+    → parts_of (case_from w v) ≡ v
 parts-of-case w v known no-two no-four =
     by_form Q w known
     (λ two four. ap (λ (days : List (List ℤ)). (v.0, days)) (sym (four refl)))
@@ -103,4 +103,4 @@ parts-of-case w v known no-two no-four =
     no-two no-four
   where
     Q : ℕ → Type 0
-    Q w = (eqb w 2 ≡ false → v.0.1.0 ≡ []) → (eqb w 4 ≡ false → v.1 ≡ []) → parts_of (caseFrom w v) ≡ v
+    Q w = (eqb w 2 ≡ false → v.0.1.0 ≡ []) → (eqb w 4 ≡ false → v.1 ≡ []) → parts_of (case_from w v) ≡ v

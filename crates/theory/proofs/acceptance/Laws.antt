@@ -14,7 +14,7 @@ use lib.ListN.{length, get_or, drop, length-append}
 use Rattle.std.proofs.lemmas.Bool.{and_from}
 use Rattle.std.specs.Cmp.{first_so, second_so}
 use Rattle.model.specs.Numbers.{bytes_of, Bytes}
-use Rattle.model.specs.Fields.{Check, within, Fixed, number_of, pair_of, bytesAll, valueAll, rightAll, several, named}
+use Rattle.model.specs.Fields.{Check, within, Fixed, number_of, pair_of, bytes_all, value_all, right_all, several, named}
 use Rattle.model.specs.Fields.{Field, field, counted, optional, ◌then◌}
 use Rattle.model.specs.Refusals.{first_of}
 use Rattle.theory.proofs.general.Lists.{◌also◌}
@@ -74,32 +74,32 @@ WithinAll W [] = Unit {0}
 WithinAll W (v ∷ vs) = W v × WithinAll W vs
 
 module _ {A : Type 0} {x : Fixed A} {W : A → Type 0} (l : LawfulFixed x W) where
-  all-long : (vs : List A) → WithinAll W vs → length (bytesAll x vs) ≡ x.size * length vs
+  all-long : (vs : List A) → WithinAll W vs → length (bytes_all x vs) ≡ x.size * length vs
   all-long [] h = omega arith
-  all-long (v ∷ vs) h = length-append (x.bytes v) (bytesAll x vs) ∙ omega (arith, l.long v h.0, all-long vs h.1)
+  all-long (v ∷ vs) h = length-append (x.bytes v) (bytes_all x vs) ∙ omega (arith, l.long v h.0, all-long vs h.1)
 
-  all_tested : (vs : List A) → WithinAll W vs → rightAll x vs ≡ true
+  all_tested : (vs : List A) → WithinAll W vs → right_all x vs ≡ true
   all_tested [] h = refl
   all_tested (v ∷ vs) h = rw (l.tested v h.0, all_tested vs h.1)
 
-  all-within : (vs : List A) → rightAll x vs ≡ true → WithinAll W vs
+  all-within : (vs : List A) → right_all x vs ≡ true → WithinAll W vs
   all-within [] h = tt
   all-within (v ∷ vs) h = search (l.within, all-within vs, first_so, second_so)
 
   all-written : (file : List ℕ) → Bytes file → (at n : ℕ) → at + x.size * n ≤ length file
-      → bytesAll x (valueAll x file at n) ++ drop (at + x.size * n) file ≡ drop at file
+      → bytes_all x (value_all x file at n) ++ drop (at + x.size * n) file ≡ drop at file
   all-written file b at zero h = let e : at + x.size * 0 ≡ at = omega arith in rw e
   all-written file b at (suc n) h =
       let e : at + x.size * suc n ≡ at + x.size + x.size * n = omega arith in
       rw (e, append_assoc, all-written file b (at + x.size) n (omega arith)) (l.written file b at (omega arith))
 
-  all_read : (file : List ℕ) (at : ℕ) (vs : List A) (rest : List ℕ) → WithinAll W vs → drop at file ≡ bytesAll x vs ++ rest
-      → valueAll x file at (length vs) ≡ vs
+  all_read : (file : List ℕ) (at : ℕ) (vs : List A) (rest : List ℕ) → WithinAll W vs → drop at file ≡ bytes_all x vs ++ rest
+      → value_all x file at (length vs) ≡ vs
   all_read file at [] rest h e = refl
   all_read file at (v ∷ vs) rest h e =
       let k = rw append_assoc at e in
-      let m = behind file at x.size (x.bytes v) (bytesAll x vs ++ rest) (l.long v h.0) k in
-      rw (l.read file at v (bytesAll x vs ++ rest) h.0 k, all_read file (at + x.size) vs rest h.1 m)
+      let m = behind file at x.size (x.bytes v) (bytes_all x vs ++ rest) (l.long v h.0) k in
+      rw (l.read file at v (bytes_all x vs ++ rest) h.0 k, all_read file (at + x.size) vs rest h.1 m)
 
   pub several-lawful : (n : ℕ) → LawfulFixed (several n x) (λ vs. (length vs ≡ n) × WithinAll W vs)
   several-lawful n = record {
@@ -107,9 +107,9 @@ module _ {A : Type 0} {x : Fixed A} {W : A → Type 0} (l : LawfulFixed x W) whe
     tested = λ vs h. rw (eq-eqb (length vs) n h.0) (all_tested vs h.1);
     within = λ vs h.
         let counts = eqb (length vs) n in
-        (eqb-true (length vs) n (first_so counts (rightAll x vs) h), all-within vs (second_so counts (rightAll x vs) h));
+        (eqb-true (length vs) n (first_so counts (right_all x vs) h), all-within vs (second_so counts (right_all x vs) h));
     written = λ file b at. all-written file b at n;
-    read = λ file at vs rest h e. ap (valueAll x file at) (sym h.0) ∙ all_read file at vs rest h.1 e;
+    read = λ file at vs rest h e. ap (value_all x file at) (sym h.0) ∙ all_read file at vs rest h.1 e;
   }
 
 pub named-lawful : {A B : Type 0} {x : Fixed A} {W : A → Type 0} (to : A → B) (from : B → A)
@@ -159,20 +159,20 @@ counted-lawful {x = x} most c r t fits some l = record {
   within = λ file at h.
       let n = get_or file at 0 in
       let k = within-true 1 most n h.1.0 in
-      rw (values_length x file (at + 1) n) (k.0, k.1, all-within l (valueAll x file (at + 1) n) h.1.1.1.0);
+      rw (values_length x file (at + 1) n) (k.0, k.1, all-within l (value_all x file (at + 1) n) h.1.1.1.0);
   written = λ file b at h.
       let n = get_or file at 0 in
       let run = all-written l file b (at + 1) n (leb-true (at + 1 + x.size * n) (length file) h.1.1.0) in
       rw (values_length x file (at + 1) n, append_assoc, run) (byte-written file b at (leb-true (at + 1) (length file) h.0));
   read = λ file at vs rest h e.
       let k = rw append_assoc at e in
-      let m = behind file at 1 (bytes_of 1 (length vs)) (bytesAll x vs ++ rest) (length-bytes 1 (length vs)) k in
-      let n : get_or file at 0 ≡ length vs = byte-read file at (length vs) (bytesAll x vs ++ rest) (lt_of_le_of_lt h.1 fits) k in
+      let m = behind file at 1 (bytes_of 1 (length vs)) (bytes_all x vs ++ rest) (length-bytes 1 (length vs)) k in
+      let n : get_or file at 0 ≡ length vs = byte-read file at (length vs) (bytes_all x vs ++ rest) (lt_of_le_of_lt h.1 fits) k in
       let far = mul-le-mul {n₁ = 1} {m₁ = 1} {n₂ = x.size} {m₂ = length vs} some h.0 in
       let (is, end, run) = (field-lawful 1 tt far (several-lawful l (length vs))).read file (at + 1) vs rest (refl, h.2) m in
       let reach = leb-true (at + 1 + x.size * length vs) (length file) run.0 in
       let first = le-leb (at + 1) (length file) (omega (arith, reach)) in
-      let right = ap (rightAll x) is ∙ all_tested l vs h.2 in
+      let right = ap (right_all x) is ∙ all_tested l vs h.2 in
       rw n (is, end, first also within-test 1 most (length vs) (h.0, h.1) also run.0 also right also tt);
 }
 
@@ -199,10 +199,10 @@ optional-lawful false absent l = record {
   read = λ file at v rest h e. (sym (h.1 refl), e, tt);
 }
 
-infixr 4 ◌thenLawful◌
-pub ◌thenLawful◌ : {A B : Type 0} {f : Field A} {g : Field B} {X : A → Type 0} {Y : B → Type 0}
+infixr 4 ◌then_lawful◌
+pub ◌then_lawful◌ : {A B : Type 0} {f : Field A} {g : Field B} {X : A → Type 0} {Y : B → Type 0}
     → Lawful f X → Lawful g Y → Lawful (f then g) (λ v. X v.0 × Y v.1)
-◌thenLawful◌ {f = f} {g = g} lf lg = record {
+◌then_lawful◌ {f = f} {g = g} lf lg = record {
   counts = λ file at.
       let next = f.end file at in
       numbered-append (f.checks file at) (g.checks file next) (lf.counts file at) (lg.counts file next);
@@ -248,10 +248,10 @@ pub optional-limited : {A : Type 0} {f : Field A} {W : A → Type 0} (there : Bo
 optional-limited true absent l = limited-as (λ v h e. h) (λ v h. h refl) l
 optional-limited false absent l = record { counts = λ v. tt; within = λ v h e. absurd (subst T (sym e) tt); tested = λ v h. tt }
 
-infixr 4 ◌thenLimited◌
-pub ◌thenLimited◌ : {A B : Type 0} {f : Field A} {g : Field B} {X : A → Type 0} {Y : B → Type 0}
+infixr 4 ◌then_limited◌
+pub ◌then_limited◌ : {A B : Type 0} {f : Field A} {g : Field B} {X : A → Type 0} {Y : B → Type 0}
     → Limited f X → Limited g Y → Limited (f then g) (λ v. X v.0 × Y v.1)
-◌thenLimited◌ {f = f} {g = g} lf lg = record {
+◌then_limited◌ {f = f} {g = g} lf lg = record {
   counts = λ v. numbered-append (f.limits v.0) (g.limits v.1) (lf.counts v.0) (lg.counts v.1);
   within = λ v h.
       let (a, b) = hold-parts (f.limits v.0) (g.limits v.1) h in

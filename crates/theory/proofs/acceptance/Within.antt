@@ -11,31 +11,31 @@ use lib.ListN.{length, get_or}
 use lib.IntN.{ℤ, pos, neg_ℤ}
 use lib.Signed.{le_z}
 use Rattle.std.specs.Cmp.{first_so, second_so}
-use Rattle.model.specs.Constants.{defaultUfr}
+use Rattle.model.specs.Constants.{default_ufr}
 use Rattle.model.specs.Numbers.{number, unsigned}
-use Rattle.model.specs.Case.{FileCase, knownForm, unitsPerStep, perStep}
+use Rattle.model.specs.Case.{FileCase, known_form, units_per_step, per_step}
 use Rattle.model.specs.Limits.{Between, FlowsWithin, DayWithin, DaysWithin, forward, AmountsWithin, ShocksWithin, PeopleWithin, WithinLimits}
-use Rattle.model.specs.Fields.{withinZ, number_of, counted}
-use Rattle.model.specs.Layout.{day, days, rate, flow, amountsFrom, amountsInOrder, amounts, noAmounts, shocksFrom, shocksInOrder, shocks}
-use Rattle.model.specs.inner.Positions.{ufrField}
-use Rattle.model.specs.Layout.{peopleFrom, peopleInOrder, people, Present, Parts, layout, parts_of, Agrees}
-use Rattle.model.specs.Refusals.{forwardsRight}
+use Rattle.model.specs.Fields.{within_z, number_of, counted}
+use Rattle.model.specs.Layout.{day, days, rate, flow, amounts_from, amounts_in_order, amounts, no_amounts, shocks_from, shocks_in_order, shocks}
+use Rattle.model.specs.inner.Positions.{ufr_field}
+use Rattle.model.specs.Layout.{people_from, people_in_order, people, Present, Parts, layout, parts_of, Agrees}
+use Rattle.model.specs.Refusals.{forwards_right}
 use Rattle.theory.proofs.general.Lists.{every-at, every-all}
 use Rattle.theory.proofs.acceptance.Encoding.{length-bytes, number_small, number-written, number_read, written-signed, read-signed}
 use Rattle.theory.proofs.acceptance.Form.{by_form}
 use Rattle.theory.proofs.acceptance.Laws.{LawfulFixed, fixed-as, number-lawful, pair-lawful, WithinAll, several-lawful, named-lawful}
-use Rattle.theory.proofs.acceptance.Laws.{Lawful, field-as, field-lawful, counted-lawful, IfThere, optional-lawful, ◌thenLawful◌}
-use Rattle.theory.proofs.acceptance.Laws.{Limited, limited-as, field-limited, counted-limited, optional-limited, ◌thenLimited◌}
+use Rattle.theory.proofs.acceptance.Laws.{Lawful, field-as, field-lawful, counted-lawful, IfThere, optional-lawful, ◌then_lawful◌}
+use Rattle.theory.proofs.acceptance.Laws.{Limited, limited-as, field-limited, counted-limited, optional-limited, ◌then_limited◌}
 
 -- ---- a test of an integer, both ways
 
-between-true : {a b z : ℤ} → withinZ a b z ≡ true → Between a b z
+between-true : {a b z : ℤ} → within_z a b z ≡ true → Between a b z
 between-true {a} {b} {z} h = record {
   least = record { le = rw (first_so (le_z a z) (le_z z b) h) tt };
   most = record { le = rw (second_so (le_z a z) (le_z z b) h) tt };
 }
 
-between-test : {a b z : ℤ} → Between a b z → withinZ a b z ≡ true
+between-test : {a b z : ℤ} → Between a b z → within_z a b z ≡ true
 between-test {a} {b} {z} h = rw (is_true (le_z a z) h.least.le, is_true (le_z z b) h.most.le)
   where
     is_true : (b : Bool) → T b → b ≡ true
@@ -48,15 +48,15 @@ ForwardsWithin u days = (t : ℕ) → 1 ≤ t → t ≤ 60 → Between (neg_ℤ 
 
 module _ (u : ℕ) (days : List (List ℤ)) where
   test : ℕ → Bool
-  test t = withinZ (neg_ℤ (pos (2000 * u))) (pos (12000 * u)) (forward days (suc t))
+  test t = within_z (neg_ℤ (pos (2000 * u))) (pos (12000 * u)) (forward days (suc t))
 
-  pub forwards-true : forwardsRight u days ≡ true → ForwardsWithin u days
-  unfolding forwardsRight test
+  pub forwards-true : forwards_right u days ≡ true → ForwardsWithin u days
+  unfolding forwards_right test
   forwards-true h zero l k = absurd (not-suc-le-zero l)
   forwards-true h (suc t) l k = between-true (every-at test 60 t h k)
 
-  pub forwards-test : ForwardsWithin u days → forwardsRight u days ≡ true
-  unfolding forwardsRight test
+  pub forwards-test : ForwardsWithin u days → forwards_right u days ≡ true
+  unfolding forwards_right test
   forwards-test h = every-all test 60 (λ t l. between-test (h (suc t) (omega arith) l))
 
 -- ---- each of a list by its index, both ways
@@ -78,10 +78,10 @@ pub upto-lawful : (w most : ℕ) → most < 256 ^ w → LawfulFixed (number_of w
 upto-lawful w most fits = fixed-as (λ v h. h.1) (λ v h. (omega arith, h)) (number-lawful w 0 most fits)
 
 abbrev pub UfrWithin : Present → ℕ → Type 0
-UfrWithin p = IfThere p.ufr defaultUfr (λ u. u ≤ 5000)
+UfrWithin p = IfThere p.ufr default_ufr (λ u. u ≤ 5000)
 
-pub ufr-lawful : (p : Present) → Lawful (ufrField p) (UfrWithin p)
-ufr-lawful p = optional-lawful p.ufr defaultUfr (field-lawful 9 tt (lit≤ tt) (upto-lawful 2 5000 (lit< tt)))
+pub ufr-lawful : (p : Present) → Lawful (ufr_field p) (UfrWithin p)
+ufr-lawful p = optional-lawful p.ufr default_ufr (field-lawful 9 tt (lit≤ tt) (upto-lawful 2 5000 (lit< tt)))
 
 -- 20,000 × scale is twice the upper limit of a rate, so each rate is below half of the numbers of w bytes or above it
 rate-lawful : (w scale : ℕ) → 20000 * scale < 256 ^ w
@@ -97,14 +97,14 @@ rate-lawful w scale fits =
     }
 
 -- the days field whose rates have w bytes
-module _ (w : ℕ) (fits : 20000 * unitsPerStep w < 256 ^ w) where
-  day-lawful : LawfulFixed (day w) (DayWithin (unitsPerStep w))
+module _ (w : ℕ) (fits : 20000 * units_per_step w < 256 ^ w) where
+  day-lawful : LawfulFixed (day w) (DayWithin (units_per_step w))
   day-lawful =
-      let W = Between (neg_ℤ (pos (1000 * unitsPerStep w))) (pos (10000 * unitsPerStep w)) in
+      let W = Between (neg_ℤ (pos (1000 * units_per_step w))) (pos (10000 * units_per_step w)) in
       fixed-as
       (λ rates h. record { terms = h.0; each = λ t l. each_at W (pos 0) rates h.1 t (omega (arith, h.0)) })
       (λ rates h. (h.terms, at_each W (pos 0) rates (λ t l. h.each t (omega (arith, h.terms)))))
-      (several-lawful (rate-lawful w (unitsPerStep w) fits) 60)
+      (several-lawful (rate-lawful w (units_per_step w) fits) 60)
 
 abbrev pub DaysCounted : ℕ → List (List ℤ) → Type 0
 DaysCounted units days = (1 ≤ length days) × (length days ≤ 70) × ((d : ℕ) → d < length days → DayWithin units (get_or days d []))
@@ -116,12 +116,12 @@ module _ (units : ℕ) (days : List (List ℤ)) where
   days-from : DaysCounted units days → (1 ≤ length days) × (length days ≤ 70) × WithinAll (DayWithin units) days
   days-from h = search (at_each (DayWithin units) [])
 
-days-lawful : (w : ℕ) → 20000 * unitsPerStep w < 256 ^ w → 1 ≤ w * 60 → Lawful (days w) (DaysCounted (unitsPerStep w))
+days-lawful : (w : ℕ) → 20000 * units_per_step w < 256 ^ w → 1 ≤ w * 60 → Lawful (days w) (DaysCounted (units_per_step w))
 days-lawful w fits some =
-    field-as (days-to (unitsPerStep w)) (days-from (unitsPerStep w)) (counted-lawful 70 4 5 tt (lit< tt) some (day-lawful w fits))
+    field-as (days-to (units_per_step w)) (days-from (units_per_step w)) (counted-lawful 70 4 5 tt (lit< tt) some (day-lawful w fits))
 
-pub days-limited : (w : ℕ) → 20000 * unitsPerStep w < 256 ^ w → Limited (days w) (DaysCounted (unitsPerStep w))
-days-limited w fits = limited-as (days-to (unitsPerStep w)) (days-from (unitsPerStep w)) (counted-limited 70 4 5 tt (day-lawful w fits))
+pub days-limited : (w : ℕ) → 20000 * units_per_step w < 256 ^ w → Limited (days w) (DaysCounted (units_per_step w))
+days-limited w fits = limited-as (days-to (units_per_step w)) (days-from (units_per_step w)) (counted-limited 70 4 5 tt (day-lawful w fits))
 
 abbrev FlowWithin : ℕ → Type 0
 FlowWithin v = v ≤ 100000000
@@ -149,13 +149,13 @@ flows-limited most = limited-as (flows-to most) (flows-from most) (counted-limit
 amounts-lawful : LawfulFixed amounts AmountsWithin
 amounts-lawful =
     fixed-as (λ a h. search) (λ a h. search)
-    (named-lawful amountsFrom amountsInOrder (λ file at. refl) (λ a. refl)
+    (named-lawful amounts_from amounts_in_order (λ file at. refl) (λ a. refl)
     (several-lawful (upto-lawful 8 100000000000 (lit< tt)) 8))
 
 shocks-lawful : LawfulFixed shocks ShocksWithin
 shocks-lawful =
     fixed-as (λ x h. search) (λ x h. search)
-    (named-lawful shocksFrom shocksInOrder (λ file at. refl) (λ x. refl)
+    (named-lawful shocks_from shocks_in_order (λ file at. refl) (λ x. refl)
     (pair-lawful (several-lawful (upto-lawful 2 1000 (lit< tt)) 10)
     (pair-lawful (upto-lawful 2 10000 (lit< tt)) (upto-lawful 2 500 (lit< tt)))))
 
@@ -163,14 +163,14 @@ people-lawful : LawfulFixed people PeopleWithin
 people-lawful =
     let age = upto-lawful 2 1200 (lit< tt) in
     fixed-as (λ p h. search) (λ p h. search)
-    (named-lawful peopleFrom peopleInOrder (λ file at. refl) (λ p. refl)
+    (named-lawful people_from people_in_order (λ file at. refl) (λ p. refl)
     (pair-lawful (number-lawful 4 1 1000000 (lit< tt)) (pair-lawful age age)))
 
 -- ---- the layout
 
 -- of the days: those of a field that is there
 abbrev DaysIn : ℕ → ℕ → List (List ℤ) → Type 0
-DaysIn v w = IfThere (eqb w v) [] (DaysCounted (unitsPerStep v))
+DaysIn v w = IfThere (eqb w v) [] (DaysCounted (units_per_step v))
 
 abbrev pub PartsWithin : ℕ → Present → Parts → Type 0
 PartsWithin w p v =
@@ -178,20 +178,20 @@ PartsWithin w p v =
     × (DaysIn 2 w v.0.1.0
     × (FlowsCounted 120 v.0.1.1.0
     × (IfThere p.bonds [] (FlowsCounted 60) v.0.1.1.1.0
-    × (IfThere p.amounts noAmounts AmountsWithin v.0.1.1.1.1.0
+    × (IfThere p.amounts no_amounts AmountsWithin v.0.1.1.1.1.0
     × (ShocksWithin v.0.1.1.1.1.1.0 × PeopleWithin v.0.1.1.1.1.1.1))))))
     × DaysIn 4 w v.1
 
 pub layout-lawful : (w : ℕ) (p : Present) → Lawful (layout w p) (PartsWithin w p)
 layout-lawful w p =
     (ufr-lawful p
-    thenLawful optional-lawful (eqb w 2) [] (days-lawful 2 (lit< tt) (lit≤ tt))
-    thenLawful flows-lawful 120 (lit< tt)
-    thenLawful optional-lawful p.bonds [] (flows-lawful 60 (lit< tt))
-    thenLawful optional-lawful p.amounts noAmounts (field-lawful 10 tt (lit≤ tt) amounts-lawful)
-    thenLawful field-lawful 11 tt (lit≤ tt) shocks-lawful
-    thenLawful field-lawful 12 tt (lit≤ tt) people-lawful)
-    thenLawful optional-lawful (eqb w 4) [] (days-lawful 4 (lit< tt) (lit≤ tt))
+    then_lawful optional-lawful (eqb w 2) [] (days-lawful 2 (lit< tt) (lit≤ tt))
+    then_lawful flows-lawful 120 (lit< tt)
+    then_lawful optional-lawful p.bonds [] (flows-lawful 60 (lit< tt))
+    then_lawful optional-lawful p.amounts no_amounts (field-lawful 10 tt (lit≤ tt) amounts-lawful)
+    then_lawful field-lawful 11 tt (lit≤ tt) shocks-lawful
+    then_lawful field-lawful 12 tt (lit≤ tt) people-lawful)
+    then_lawful optional-lawful (eqb w 4) [] (days-lawful 4 (lit< tt) (lit≤ tt))
 
 -- the checks of a case in no file: nothing is said of an absent field
 abbrev pub PartsLimited : ℕ → Present → Parts → Type 0
@@ -206,27 +206,27 @@ PartsLimited w p v =
 
 pub layout-limited : (w : ℕ) (p : Present) → Limited (layout w p) (PartsLimited w p)
 layout-limited w p =
-    (optional-limited p.ufr defaultUfr (field-limited 9 tt (upto-lawful 2 5000 (lit< tt)))
-    thenLimited optional-limited (eqb w 2) [] (days-limited 2 (lit< tt))
-    thenLimited flows-limited 120
-    thenLimited optional-limited p.bonds [] (flows-limited 60)
-    thenLimited optional-limited p.amounts noAmounts (field-limited 10 tt amounts-lawful)
-    thenLimited field-limited 11 tt shocks-lawful
-    thenLimited field-limited 12 tt people-lawful)
-    thenLimited optional-limited (eqb w 4) [] (days-limited 4 (lit< tt))
+    (optional-limited p.ufr default_ufr (field-limited 9 tt (upto-lawful 2 5000 (lit< tt)))
+    then_limited optional-limited (eqb w 2) [] (days-limited 2 (lit< tt))
+    then_limited flows-limited 120
+    then_limited optional-limited p.bonds [] (flows-limited 60)
+    then_limited optional-limited p.amounts no_amounts (field-limited 10 tt amounts-lawful)
+    then_limited field-limited 11 tt shocks-lawful
+    then_limited field-limited 12 tt people-lawful)
+    then_limited optional-limited (eqb w 4) [] (days-limited 4 (lit< tt))
 
 -- the days of a case whose form is known are in one of the two fields, both ways
 abbrev InOne : List (List ℤ) → ℕ → Type 0
 InOne days w = DaysIn 2 w (cond (eqb w 2) days []) × DaysIn 4 w (cond (eqb w 4) days [])
 
-days-in : (w : ℕ) (days : List (List ℤ)) → knownForm w ≡ true → DaysCounted (unitsPerStep w) days → InOne days w
+days-in : (w : ℕ) (days : List (List ℤ)) → known_form w ≡ true → DaysCounted (units_per_step w) days → InOne days w
 days-in w days known =
-    by_form (λ v. DaysCounted (unitsPerStep v) days → InOne days v) w known
+    by_form (λ v. DaysCounted (units_per_step v) days → InOne days v) w known
     (λ h. ((λ e. h, λ e. absurd (subst T e tt)), (λ e. absurd (subst T (sym e) tt), λ e. refl)))
     (λ h. ((λ e. absurd (subst T (sym e) tt), λ e. refl), (λ e. h, λ e. absurd (subst T e tt))))
 
-days-out : (w : ℕ) (days : List (List ℤ)) → knownForm w ≡ true → InOne days w → DaysCounted (unitsPerStep w) days
-days-out w days known = by_form (λ v. InOne days v → DaysCounted (unitsPerStep v) days) w known (λ h. h.0.0 refl) (λ h. h.1.0 refl)
+days-out : (w : ℕ) (days : List (List ℤ)) → known_form w ≡ true → InOne days w → DaysCounted (units_per_step w) days
+days-out w days known = by_form (λ v. InOne days v → DaysCounted (units_per_step v) days) w known (λ h. h.0.0 refl) (λ h. h.1.0 refl)
 
 -- the parts of a case and the case, both ways; amounts that are all zero are what is read from no bytes
 module _ (p : Present) (k : FileCase) where
@@ -234,21 +234,21 @@ module _ (p : Present) (k : FileCase) where
   either true f g = f refl
   either false f g = g refl
 
-  pub parts-limits : knownForm k.rateBytes ≡ true → PartsWithin k.rateBytes p (parts_of k) → ForwardsWithin (perStep k) k.days
+  pub parts-limits : known_form k.rate_bytes ≡ true → PartsWithin k.rate_bytes p (parts_of k) → ForwardsWithin (per_step k) k.days
       → WithinLimits k × Agrees p k
-  unfolding number perStep
+  unfolding number per_step
   parts-limits known ((u, (d, (m, (b, (a, s))))), l) forwards =
-      let (least, most, each) = days-out k.rateBytes k.days known (d, l) in
-      let days : DaysWithin (unitsPerStep k.rateBytes) k.days = record { some = least; most = most; each = each; forwards = forwards } in
+      let (least, most, each) = days-out k.rate_bytes k.days known (d, l) in
+      let days : DaysWithin (units_per_step k.rate_bytes) k.days = record { some = least; most = most; each = each; forwards = forwards } in
       let ufr : k.ufr ≤ 5000 = either p.ufr u.0 (λ e. rw (u.1 e) (lit≤ tt)) in
       let none : FlowsWithin [] = record { each = λ i l. absurd (not-suc-le-zero l) } in
       let bonds : (length k.bonds ≤ 60) × FlowsWithin k.bonds =
       either p.bonds (λ e. ((b.0 e).1, (b.0 e).2)) (λ e. rw (b.1 e) (lit≤ tt, none)) in
       let some : p.bonds ≡ true → 1 ≤ length k.bonds = λ e. (b.0 e).0 in
-      let amounts : AmountsWithin k.amounts = either p.amounts a.0 (λ e. rw (a.1 e) (amounts-lawful.within noAmounts refl)) in
+      let amounts : AmountsWithin k.amounts = either p.amounts a.0 (λ e. rw (a.1 e) (amounts-lawful.within no_amounts refl)) in
       search
 
-  pub limits-parts : WithinLimits k → Agrees p k → PartsWithin k.rateBytes p (parts_of k)
+  pub limits-parts : WithinLimits k → Agrees p k → PartsWithin k.rate_bytes p (parts_of k)
   limits-parts w a =
-      let (two, four) = days-in k.rateBytes k.days w.form (w.days.some, w.days.most, w.days.each) in
-      search a.bondsThere
+      let (two, four) = days-in k.rate_bytes k.days w.form (w.days.some, w.days.most, w.days.each) in
+      search a.bonds_there

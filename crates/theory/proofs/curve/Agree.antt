@@ -42,20 +42,20 @@ scaled-same e g a b (suc j) hg hb =
 pub record Agree (g : ℕ) (c d : Curve) : Type 0 where
   pub some : 0 < g
   pub same_n : c.N ≡ g * d.N
-  pub sameP : (t : ℕ) → t ≤ 60 → P c t ≡ g * P d t
-  pub sameUfr : c.ufr ≡ d.ufr
+  pub same_p : (t : ℕ) → t ≤ 60 → P c t ≡ g * P d t
+  pub same_ufr : c.ufr ≡ d.ufr
 
 module _ (g : ℕ) (c d : Curve) (a : Agree g c d) (w : CurveWithin d) where
   -- N and P(t) in a product and a quotient, and over j years
   same-scaled : (e : End) (t j : ℕ) → t ≤ 60 → scaled e c.N (P c t) j ≡ scaled e d.N (P d t) j
-  same-scaled e t j h = ap₂ (λ n p. scaled e n p j) a.same_n (a.sameP t h) ∙ scaled-same e g d.N (P d t) j a.some (P_pos d w t h)
+  same-scaled e t j h = ap₂ (λ n p. scaled e n p j) a.same_n (a.same_p t h) ∙ scaled-same e g d.N (P d t) j a.some (P_pos d w t h)
 
   same-growth : (e : End) (j : ℕ) → suc j ≤ 60 → Rounded.growth c e (suc j) ≡ Rounded.growth d e (suc j)
   same-growth e j h =
       let p = P d (suc j) in
       let q = P d j in
       growth-suc c e j
-      ∙ rw (a.sameP (suc j) h, a.sameP j (omega arith), a.same_n, scaled-same e g p q j a.some (P_pos d w j (omega arith)))
+      ∙ rw (a.same_p (suc j) h, a.same_p j (omega arith), a.same_n, scaled-same e g p q j a.some (P_pos d w j (omega arith)))
       (times-same e g (scaled e p q j) p d.N a.some w.some)
       ∙ sym (growth-suc d e j)
 
@@ -63,8 +63,8 @@ module _ (g : ℕ) (c d : Curve) (a : Agree g c d) (w : CurveWithin d) where
   same-weighed e j = go (dec_le (suc j) 60)
     where
       go : Dec (suc j ≤ 60) → Rounded.weighed c e (suc j) ≡ Rounded.weighed d e (suc j)
-      go (yes h) = rw (weighed-to-60 c e (suc j) h, weighed-to-60 d e (suc j) h, same-growth e j h, a.sameUfr)
-      go (no h) = rw (weighed-from-61 c e (suc j) (omega arith), weighed-from-61 d e (suc j) (omega arith), a.sameUfr)
+      go (yes h) = rw (weighed-to-60 c e (suc j) h, weighed-to-60 d e (suc j) h, same-growth e j h, a.same_ufr)
+      go (no h) = rw (weighed-from-61 c e (suc j) (omega arith), weighed-from-61 d e (suc j) (omega arith), a.same_ufr)
 
   factor-at : (e : End) (t : ℕ) → Rounded.factor c e t ≡ Rounded.factor d e t
   factor-at e zero = unfold Rounded.factor in refl
@@ -86,20 +86,20 @@ module _ (g : ℕ) (c d : Curve) (a : Agree g c d) (w : CurveWithin d) where
   pub same-within : CurveWithin c
   same-within = record {
     some = rw a.same_n (mul-pos a.some w.some);
-    least = λ t h. omega (arith, mul-le-mul_left g (w.least t h), a.same_n, a.sameP t h);
-    most = λ t h. omega (arith, mul-le-mul_left g (w.most t h), a.same_n, a.sameP t h);
-    forwardLeast = λ t h. rw (a.sameP t (omega arith), a.sameP (suc t) h, a.same_n) (omega (arith, mul-le-mul_left g (w.forwardLeast t h)));
-    forwardMost = λ t h. rw (a.sameP t (omega arith), a.sameP (suc t) h, a.same_n) (omega (arith, mul-le-mul_left g (w.forwardMost t h)));
-    ufrMost = omega (arith, w.ufrMost, a.sameUfr);
+    least = λ t h. omega (arith, mul-le-mul_left g (w.least t h), a.same_n, a.same_p t h);
+    most = λ t h. omega (arith, mul-le-mul_left g (w.most t h), a.same_n, a.same_p t h);
+    forward_least = λ t h. rw (a.same_p t (omega arith), a.same_p (suc t) h, a.same_n) (omega (arith, mul-le-mul_left g (w.forward_least t h)));
+    forward_most = λ t h. rw (a.same_p t (omega arith), a.same_p (suc t) h, a.same_n) (omega (arith, mul-le-mul_left g (w.forward_most t h)));
+    ufr_most = omega (arith, w.ufr_most, a.same_ufr);
   }
 
 pub same_base : (g : ℕ) (c d : Curve) → Agree g c d → BaseWithin d → BaseWithin c
 same_base g c d a w = record {
   within = same-within g c d a w.within;
-  baseLeast = λ t h. omega (arith, mul-le-mul_left g (w.baseLeast t h), a.same_n, a.sameP t h);
-  baseMost = λ t h. omega (arith, mul-le-mul_left g (w.baseMost t h), a.same_n, a.sameP t h);
-  baseForwardLeast = λ t h.
-      rw (a.sameP t (omega arith), a.sameP (suc t) h, a.same_n) (omega (arith, mul-le-mul_left g (w.baseForwardLeast t h)));
-  baseForwardMost = λ t h.
-      rw (a.sameP t (omega arith), a.sameP (suc t) h, a.same_n) (omega (arith, mul-le-mul_left g (w.baseForwardMost t h)));
+  base_least = λ t h. omega (arith, mul-le-mul_left g (w.base_least t h), a.same_n, a.same_p t h);
+  base_most = λ t h. omega (arith, mul-le-mul_left g (w.base_most t h), a.same_n, a.same_p t h);
+  base_forward_least = λ t h.
+      rw (a.same_p t (omega arith), a.same_p (suc t) h, a.same_n) (omega (arith, mul-le-mul_left g (w.base_forward_least t h)));
+  base_forward_most = λ t h.
+      rw (a.same_p t (omega arith), a.same_p (suc t) h, a.same_n) (omega (arith, mul-le-mul_left g (w.base_forward_most t h)));
 }

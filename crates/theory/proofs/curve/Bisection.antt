@@ -12,9 +12,9 @@ use borrow.Author.Tests.{le-leb, lt-leb, leb-true, leb-false}
 use lib.Dec.{leb, T, leb→le, le→leb, lit<, lit≤}
 use Rattle.arith.specs.Rounding.{End, low, high}
 use Rattle.arith.proofs.Rounding.{divide-ceiling}
-use Rattle.method.specs.Rounded.{stepAt, tested, lowerTest, upperTest, rateOf}
+use Rattle.method.specs.Rounded.{step_at, tested, lower_test, upper_test, rate_of}
 use Rattle.method.specs.Brackets.{largest, smallest}
-use Rattle.searchmodel.specs.Bisection.{middle, leaves, halved, afterTests, rateTest, stepsLeft, isLeft, howMany, countLeft, mostLeft, ShortSearch}
+use Rattle.searchmodel.specs.Bisection.{middle, leaves, halved, after_tests, rate_test, steps_left, is_left, how_many, count_left, most_left, ShortSearch}
 use Rattle.searchmodel.specs.declared.StepsLeft.{StepsLeft}
 use Rattle.theory.proofs.general.Search.{largest-found, smallest-found, largest-splits, smallest-splits}
 use Rattle.theory.proofs.curve.RateTests.{tested-anti}
@@ -61,27 +61,27 @@ halves e test j p k = go e (leb p.last p.first) refl (test (middle e p))
       near = half j (p.last - (middle high p + 1)) (p.last - p.first) (omega arith) k.near;
     }
 
-pub after-halves : (e : End) (test : ℕ → Bool) (j : ℕ) → Halved j (afterTests e test j)
-unfolding afterTests
+pub after-halves : (e : End) (test : ℕ → Bool) (j : ℕ) → Halved j (after_tests e test j)
+unfolding after_tests
 after-halves e test zero = record { order = omega arith; most = omega arith; near = omega arith }
-after-halves e test (suc j) = halves e test j (afterTests e test j) (after-halves e test j)
+after-halves e test (suc j) = halves e test j (after_tests e test j) (after-halves e test j)
 
 -- the steps that are left, counted one by one
 module _ (p : StepsLeft) (order : p.first ≤ p.last) where
-  before-first : (n : ℕ) → n ≤ p.first → howMany (isLeft p) n ≡ 0
-  unfolding howMany
+  before-first : (n : ℕ) → n ≤ p.first → how_many (is_left p) n ≡ 0
+  unfolding how_many
   before-first zero h = refl
   before-first (suc n) h = rw (lt-leb p.first n h) (before-first n (omega arith))
 
-  up-to-last : (n : ℕ) → p.first + n ≤ p.last + 1 → howMany (isLeft p) (p.first + n) ≡ n
-  unfolding howMany
+  up-to-last : (n : ℕ) → p.first + n ≤ p.last + 1 → how_many (is_left p) (p.first + n) ≡ n
+  unfolding how_many
   up-to-last zero h = let e : p.first + 0 ≡ p.first = omega arith in rw e (before-first p.first (omega arith))
   up-to-last (suc n) h =
       let e : p.first + suc n ≡ suc (p.first + n) = omega arith in
       rw (e, le-leb p.first (p.first + n) (omega arith), le-leb (p.first + n) p.last (omega arith)) (ap suc (up-to-last n (omega arith)))
 
-  past-last : (n : ℕ) → howMany (isLeft p) (p.last + 1 + n) ≡ p.last + 1 - p.first
-  unfolding howMany
+  past-last : (n : ℕ) → how_many (is_left p) (p.last + 1 + n) ≡ p.last + 1 - p.first
+  unfolding how_many
   past-last zero =
       let e : p.last + 1 + 0 ≡ p.first + (p.last + 1 - p.first) = omega arith in
       rw e (up-to-last (p.last + 1 - p.first) (omega arith))
@@ -89,16 +89,16 @@ module _ (p : StepsLeft) (order : p.first ≤ p.last) where
       let e : p.last + 1 + suc n ≡ suc (p.last + 1 + n) = omega arith in
       rw (e, le-leb p.first (p.last + 1 + n) (omega arith), lt-leb (p.last + 1 + n) p.last (omega arith)) (past-last n)
 
-  pub count-is : p.last ≤ 22000 → countLeft p ≡ p.last + 1 - p.first
+  pub count-is : p.last ≤ 22000 → count_left p ≡ p.last + 1 - p.first
   count-is h = let e : 22001 ≡ p.last + 1 + (22000 - p.last) = omega arith in rw e (past-last (22000 - p.last))
 
-few-left : (j : ℕ) (p : StepsLeft) → Halved j p → countLeft p ≤ mostLeft j
-few-left j p k = rw (count-is p k.order k.most) (go (dec_le (p.last + 1 - p.first) (mostLeft j)))
+few-left : (j : ℕ) (p : StepsLeft) → Halved j p → count_left p ≤ most_left j
+few-left j p k = rw (count-is p k.order k.most) (go (dec_le (p.last + 1 - p.first) (most_left j)))
   where
-    go : Dec (p.last + 1 - p.first ≤ mostLeft j) → p.last + 1 - p.first ≤ mostLeft j
+    go : Dec (p.last + 1 - p.first ≤ most_left j) → p.last + 1 - p.first ≤ most_left j
     go (yes h) = h
     go (no h) =
-        let most : 2 ^ j * mostLeft j ≤ 2 ^ j * (p.last - p.first) = mul-le-mul_left (2 ^ j) (omega (arith, k.order)) in
+        let most : 2 ^ j * most_left j ≤ 2 ^ j * (p.last - p.first) = mul-le-mul_left (2 ^ j) (omega (arith, k.order)) in
         omega (arith, most, k.near, (divide-ceiling 22001 (2 ^ j) (one-le-pow j 2 (omega arith))).0)
 
 -- ---- the rate is among them
@@ -131,58 +131,58 @@ keeps e test r splits p m k = go e splits (leb p.last p.first) refl (test (middl
         let past = leb-false r (middle high p) (sym (s (middle high p) (omega (arith, leb-false p.last p.first h))) ∙ is) in
         record { least = omega (arith, past); most = k.most }
 
-after-keeps : (e : End) (test : ℕ → Bool) (r : ℕ) → r ≤ 22000 → Splits e test r → (j : ℕ) → Among r (afterTests e test j)
-unfolding afterTests
+after-keeps : (e : End) (test : ℕ → Bool) (r : ℕ) → r ≤ 22000 → Splits e test r → (j : ℕ) → Among r (after_tests e test j)
+unfolding after_tests
 after-keeps e test r h splits zero = record { least = omega arith; most = h }
 after-keeps e test r h splits (suc j) =
-    keeps e test r splits (afterTests e test j) (after-halves e test j).most (after-keeps e test r h splits j)
+    keeps e test r splits (after_tests e test j) (after-halves e test j).most (after-keeps e test r h splits j)
 
-is-left : (r : ℕ) (p : StepsLeft) → Among r p → isLeft p r ≡ true
+is-left : (r : ℕ) (p : StepsLeft) → Among r p → is_left p r ≡ true
 is-left r p k = rw (le-leb p.first r k.least, le-leb r p.last k.most)
 
 -- ---- of the tests of a zero rate
 
 -- the rate is a step, because the first step passes the lower test, or the last one the upper test
 abbrev pub RateExists : (End → ℕ → ℕ) → End → ℕ → Type 0
-RateExists factor low t = T (lowerTest factor t 0)
-RateExists factor high t = T (upperTest factor t 22000)
+RateExists factor low t = T (lower_test factor t 0)
+RateExists factor high t = T (upper_test factor t 22000)
 
 module _ (factor : End → ℕ → ℕ) (t : ℕ) where
   -- the step of the rate
   pub found : End → ℕ
-  found low = largest (lowerTest factor t) 22001 22001
-  found high = smallest (upperTest factor t) 0 22001 22001
+  found low = largest (lower_test factor t) 22001 22001
+  found high = smallest (upper_test factor t) 0 22001 22001
 
-  pub rate-is : (e : End) → rateOf factor e t ≡ stepAt (found e)
-  unfolding rateOf found
+  pub rate-is : (e : End) → rate_of factor e t ≡ step_at (found e)
+  unfolding rate_of found
   rate-is low = refl
   rate-is high = refl
 
-  pub found-passes : (e : End) → RateExists factor e t → T (rateTest factor e t (found e)) × (found e ≤ 22000)
+  pub found-passes : (e : End) → RateExists factor e t → T (rate_test factor e t (found e)) × (found e ≤ 22000)
   unfolding found
-  found-passes low h = let r = largest-found (lowerTest factor t) 22001 22001 0 (lit< tt) h in (r.0, omega (arith, r.1))
-  found-passes high h = smallest-found (upperTest factor t) 0 22001 22001 22000 (lit≤ tt) (lit< tt) h
+  found-passes low h = let r = largest-found (lower_test factor t) 22001 22001 0 (lit< tt) h in (r.0, omega (arith, r.1))
+  found-passes high h = smallest-found (upper_test factor t) 0 22001 22001 22000 (lit≤ tt) (lit< tt) h
 
-  falls : (i j : ℕ) → i ≤ j → T (lowerTest factor t j) → T (lowerTest factor t i)
+  falls : (i j : ℕ) → i ≤ j → T (lower_test factor t j) → T (lower_test factor t i)
   falls i j h q = le→leb (factor high t) (tested low t i) (le_trans (leb→le (factor high t) (tested low t j) q) (tested-anti low t i j h))
 
-  rises : (i j : ℕ) → i ≤ j → T (upperTest factor t i) → T (upperTest factor t j)
+  rises : (i j : ℕ) → i ≤ j → T (upper_test factor t i) → T (upper_test factor t j)
   rises i j h q = le→leb (tested high t j) (factor low t) (le_trans (tested-anti high t i j h) (leb→le (tested high t i) (factor low t) q))
 
-  pub splits : (e : End) → RateExists factor e t → Splits e (rateTest factor e t) (found e)
+  pub splits : (e : End) → RateExists factor e t → Splits e (rate_test factor e t) (found e)
   unfolding found
-  splits low h = largest-splits (lowerTest factor t) falls 22001 22001 0 (lit< tt) h
-  splits high h = smallest-splits (upperTest factor t) rises 22001 22001 22000 (lit< tt) h
+  splits low h = largest-splits (lower_test factor t) falls 22001 22001 0 (lit< tt) h
+  splits high h = smallest-splits (upper_test factor t) rises 22001 22001 22000 (lit< tt) h
 
   pub short-search : (e : End) → RateExists factor e t → ShortSearch factor e t
   short-search e h =
-      let among = after-keeps e (rateTest factor e t) (found e) (found-passes e h).1 (splits e h) in
-      let halved = after-halves e (rateTest factor e t) in
-      let p = stepsLeft factor e t 15 in
+      let among = after-keeps e (rate_test factor e t) (found e) (found-passes e h).1 (splits e h) in
+      let halved = after-halves e (rate_test factor e t) in
+      let p = steps_left factor e t 15 in
       let alone : p.last ≡ p.first = omega (arith, (halved 15).near, (halved 15).order) in
       record {
-        few = λ j. few-left j (stepsLeft factor e t j) (halved j);
-        left = λ j. record { step = found e; rate = rate-is e; among = is-left (found e) (stepsLeft factor e t j) (among j) };
+        few = λ j. few-left j (steps_left factor e t j) (halved j);
+        left = λ j. record { step = found e; rate = rate-is e; among = is-left (found e) (steps_left factor e t j) (among j) };
         one = count-is p (halved 15).order (halved 15).most ∙ (let q : p.last + 1 - p.first ≡ 1 = omega (arith, alone) in q);
-        found = rate-is e ∙ ap stepAt (let q : found e ≡ p.first = omega (arith, alone, (among 15).least, (among 15).most) in q);
+        found = rate-is e ∙ ap step_at (let q : found e ≡ p.first = omega (arith, alone, (among 15).least, (among 15).most) in q);
       }

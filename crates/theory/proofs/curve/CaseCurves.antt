@@ -13,10 +13,10 @@ use lib.Dec.{eqb, lit<, lit≤}
 use lib.ListN.{length, get_or}
 use lib.IntN.{ℤ, pos, negsuc, neg_ℤ, ◌+ℤ◌, ◌-ℤ◌, ◌*ℤ◌, +ℤ_idr, *ℤ-zero}
 use lib.Signed.{◌≤ℤ◌}
-use Rattle.model.specs.Constants.{stepsPerOne}
-use Rattle.model.specs.Case.{FileCase, unitsPerStep, perStep, s}
+use Rattle.model.specs.Constants.{steps_per_one}
+use Rattle.model.specs.Case.{FileCase, units_per_step, per_step, s}
 use Rattle.model.specs.Limits.{Between, DayWithin, DaysWithin, WithinLimits, forward}
-use Rattle.method.specs.Curve.{Move, base, up, down, shift, movedSum, curve, natural, P}
+use Rattle.method.specs.Curve.{Move, base, up, down, shift, moved_sum, curve, natural, P}
 use Rattle.method.specs.inner.Shifts.{added, taken}
 use Rattle.theory.proofs.general.Differences.{Diff, again, diff-pos, diff-sum, diff-neg, diff-minus, diff-times, diff-le, le-diff, natural-is}
 use Rattle.method.specs.inner.CurveWithin.{CurveWithin, BaseWithin}
@@ -36,16 +36,16 @@ raised n (negsuc m) h =
 
 -- P(t) of the base curve: no shift is added
 pub base_sum : (k : FileCase) (t : ℕ)
-    → natural (pos (stepsPerOne * perStep k) +ℤ s k.days (suc t)) ≡ P (curve k base) (suc t)
-unfolding P curve movedSum
+    → natural (pos (steps_per_one * per_step k) +ℤ s k.days (suc t)) ≡ P (curve k base) (suc t)
+unfolding P curve moved_sum
 base_sum k t =
-    let none = ap (λ z. s k.days (suc t) +ℤ z) (*ℤ-zero (pos (perStep k))) ∙ +ℤ_idr (s k.days (suc t)) in
-    ap (λ z. natural (pos (stepsPerOne * perStep k) +ℤ z)) (sym none)
+    let none = ap (λ z. s k.days (suc t) +ℤ z) (*ℤ-zero (pos (per_step k))) ∙ +ℤ_idr (s k.days (suc t)) in
+    ap (λ z. natural (pos (steps_per_one * per_step k) +ℤ z)) (sym none)
 
 -- ---- the sum of a term over the days, to which a step adds u: with 100,000 steps for each day, refusal 5 in natural numbers
 record Raised (z : ℤ) (u : ℕ) : Type 0 where
   sum : ℕ
-  is : Diff z sum (stepsPerOne * u)
+  is : Diff z sum (steps_per_one * u)
   least : 99000 * u ≤ sum
   most : sum ≤ 110000 * u
 
@@ -131,35 +131,35 @@ module _ (units : ℕ) (days : List (List ℤ)) (w : DaysWithin units days) wher
 -- ---- the curves of a case: a shift adds to P(t), or takes from it, what one step adds to a sum times the shift
 module _ (k : FileCase) (w : WithinLimits k) where
   q : ℕ → ℕ
-  q t = sum_of (unitsPerStep k.rateBytes) k.days w.days t
+  q t = sum_of (units_per_step k.rate_bytes) k.days w.days t
 
   shift_is : (m : Move) → Diff (shift k m) (added k.shocks m) (taken k.shocks m)
   shift_is base = refl
   shift_is up = diff-pos k.shocks.up_shift
   shift_is down = diff-minus-pos k.shocks.down_shift
 
-  more-most : (m : Move) → perStep k * added k.shocks m ≤ perStep k * 1000
+  more-most : (m : Move) → per_step k * added k.shocks m ≤ per_step k * 1000
   more-most base = omega arith
-  more-most up = mul-le-mul_left (perStep k) w.shocks.upShift
+  more-most up = mul-le-mul_left (per_step k) w.shocks.up_shift
   more-most down = omega arith
 
-  less-most : (m : Move) → perStep k * taken k.shocks m ≤ perStep k * 1000
+  less-most : (m : Move) → per_step k * taken k.shocks m ≤ per_step k * 1000
   less-most base = omega arith
   less-most up = omega arith
-  less-most down = mul-le-mul_left (perStep k) w.shocks.downShift
+  less-most down = mul-le-mul_left (per_step k) w.shocks.down_shift
 
-  q-is : (t : ℕ) → t ≤ 60 → Diff (s k.days t) (q t) (100000 * perStep k) × (99000 * perStep k ≤ q t) × (q t ≤ 110000 * perStep k)
-  unfolding q perStep
-  q-is t h = sum_is (unitsPerStep k.rateBytes) k.days w.days t h
+  q-is : (t : ℕ) → t ≤ 60 → Diff (s k.days t) (q t) (100000 * per_step k) × (99000 * per_step k ≤ q t) × (q t ≤ 110000 * per_step k)
+  unfolding q per_step
+  q-is t h = sum_is (units_per_step k.rate_bytes) k.days w.days t h
 
-  pub P-zero : (m : Move) → P (curve k m) 0 ≡ 100000 * perStep k
-  unfolding P curve movedSum
+  pub P-zero : (m : Move) → P (curve k m) 0 ≡ 100000 * per_step k
+  unfolding P curve moved_sum
   P-zero m = omega arith
 
-  P-moved : (m : Move) (t : ℕ) → suc t ≤ 60 → P (curve k m) (suc t) + perStep k * taken k.shocks m ≡ q (suc t) + perStep k * added k.shocks m
-  unfolding P curve movedSum
+  P-moved : (m : Move) (t : ℕ) → suc t ≤ 60 → P (curve k m) (suc t) + per_step k * taken k.shocks m ≡ q (suc t) + per_step k * added k.shocks m
+  unfolding P curve moved_sum
   P-moved m t h =
-      let n : ℕ = perStep k in
+      let n : ℕ = per_step k in
       let x = q-is (suc t) h in
       let r : ℕ = (q (suc t) + n * added k.shocks m) - n * taken k.shocks m in
       let fits : n * taken k.shocks m ≤ q (suc t) + n * added k.shocks m = omega (arith, x.1, less-most m) in
@@ -177,38 +177,38 @@ module _ (k : FileCase) (w : WithinLimits k) where
     p : ℕ → ℕ
     p t = P (curve k m) t
 
-    least : (t : ℕ) → t ≤ 60 → 98000 * perStep k ≤ p t
+    least : (t : ℕ) → t ≤ 60 → 98000 * per_step k ≤ p t
     unfolding p
     least zero h = omega (arith, P-zero m)
     least (suc t) h = omega (arith, P-moved m t h, (q-is (suc t) h).1, less-most m)
 
-    most : (t : ℕ) → t ≤ 60 → p t ≤ 111000 * perStep k
+    most : (t : ℕ) → t ≤ 60 → p t ≤ 111000 * per_step k
     unfolding p
     most zero h = omega (arith, P-zero m)
     most (suc t) h = omega (arith, P-moved m t h, (q-is (suc t) h).2, more-most m)
 
-    forwardLeast : (t : ℕ) → suc t ≤ 60 → t * p t + 97000 * perStep k ≤ suc t * p (suc t)
-    unfolding p q perStep
-    forwardLeast zero h = omega (arith, least 1 h)
-    forwardLeast (suc t) h =
-        let n : ℕ = perStep k in
+    forward_least : (t : ℕ) → suc t ≤ 60 → t * p t + 97000 * per_step k ≤ suc t * p (suc t)
+    unfolding p q per_step
+    forward_least zero h = omega (arith, least 1 h)
+    forward_least (suc t) h =
+        let n : ℕ = per_step k in
         omega (
           arith,
           ap (λ x. suc t * x) (P-moved m t (omega arith)),
           ap (λ x. suc (suc t) * x) (P-moved m (suc t) h),
-          forward-least (unitsPerStep k.rateBytes) k.days w.days (suc t) h,
+          forward-least (units_per_step k.rate_bytes) k.days w.days (suc t) h,
           less-most m,
         )
 
-    forwardMost : (t : ℕ) → suc t ≤ 60 → suc t * p (suc t) ≤ t * p t + 113000 * perStep k
-    unfolding p q perStep
-    forwardMost zero h = omega (arith, most 1 h)
-    forwardMost (suc t) h =
+    forward_most : (t : ℕ) → suc t ≤ 60 → suc t * p (suc t) ≤ t * p t + 113000 * per_step k
+    unfolding p q per_step
+    forward_most zero h = omega (arith, most 1 h)
+    forward_most (suc t) h =
         omega (
           arith,
           ap (λ x. suc t * x) (P-moved m t (omega arith)),
           ap (λ x. suc (suc t) * x) (P-moved m (suc t) h),
-          forward-most (unitsPerStep k.rateBytes) k.days w.days (suc t) h,
+          forward-most (units_per_step k.rate_bytes) k.days w.days (suc t) h,
           more-most m,
         )
 
@@ -217,16 +217,16 @@ module _ (k : FileCase) (w : WithinLimits k) where
   units-within true = (lit< tt, lit≤ tt)
   units-within false = (lit< tt, lit≤ tt)
 
-  per-step-pos : 0 < perStep k
-  unfolding perStep
-  per-step-pos = mul-pos (units-within (eqb k.rateBytes 4)).0 w.days.some
+  per-step-pos : 0 < per_step k
+  unfolding per_step
+  per-step-pos = mul-pos (units-within (eqb k.rate_bytes 4)).0 w.days.some
 
-  pub per-step-most : perStep k ≤ 7000
-  unfolding perStep
+  pub per-step-most : per_step k ≤ 7000
+  unfolding per_step
   per-step-most =
-      mul-le-mul {n₁ = unitsPerStep k.rateBytes} {m₁ = length k.days} {n₂ = 100} {m₂ = 70} (units-within (eqb k.rateBytes 4)).1 w.days.most
+      mul-le-mul {n₁ = units_per_step k.rate_bytes} {m₁ = length k.days} {n₂ = 100} {m₂ = 70} (units-within (eqb k.rate_bytes 4)).1 w.days.most
 
-  pub N-is : (m : Move) → (curve k m).N ≡ 100000 * perStep k
+  pub N-is : (m : Move) → (curve k m).N ≡ 100000 * per_step k
   unfolding curve
   N-is m = refl
 
@@ -240,27 +240,27 @@ module _ (k : FileCase) (w : WithinLimits k) where
     some = omega (arith, N-is m, per-step-pos);
     least = λ t h. omega (arith, N-is m, least m t h);
     most = λ t h. omega (arith, N-is m, most m t h);
-    forwardLeast = λ t h. omega (arith, N-is m, forwardLeast m t h);
-    forwardMost = λ t h. omega (arith, N-is m, forwardMost m t h);
-    ufrMost = omega (arith, ufr-is m, w.ufr);
+    forward_least = λ t h. omega (arith, N-is m, forward_least m t h);
+    forward_most = λ t h. omega (arith, N-is m, forward_most m t h);
+    ufr_most = omega (arith, ufr-is m, w.ufr);
   }
 
   -- the base curve is not shifted
   P-base : (t : ℕ) → t ≤ 60 → P (curve k base) t ≡ q t
-  P-base zero h = unfold q sum_of s perStep in (omega (arith, P-zero base))
+  P-base zero h = unfold q sum_of s per_step in (omega (arith, P-zero base))
   P-base (suc t) h = omega (arith, P-moved base t h)
 
   pub base-within : BaseWithin (curve k base)
-  unfolding q perStep
+  unfolding q per_step
   base-within = record {
     within = curve-within base;
-    baseLeast = λ t h. omega (arith, N-is base, P-base t h, (q-is t h).1);
-    baseMost = λ t h. omega (arith, N-is base, P-base t h, (q-is t h).2);
-    baseForwardLeast = λ t h. rw (P-base t (omega arith), P-base (suc t) h) (omega (arith, N-is base, forward-least (unitsPerStep k.rateBytes) k.days w.days t h));
-    baseForwardMost = λ t h. rw (P-base t (omega arith), P-base (suc t) h) (omega (arith, N-is base, forward-most (unitsPerStep k.rateBytes) k.days w.days t h));
+    base_least = λ t h. omega (arith, N-is base, P-base t h, (q-is t h).1);
+    base_most = λ t h. omega (arith, N-is base, P-base t h, (q-is t h).2);
+    base_forward_least = λ t h. rw (P-base t (omega arith), P-base (suc t) h) (omega (arith, N-is base, forward-least (units_per_step k.rate_bytes) k.days w.days t h));
+    base_forward_most = λ t h. rw (P-base t (omega arith), P-base (suc t) h) (omega (arith, N-is base, forward-most (units_per_step k.rate_bytes) k.days w.days t h));
   }
 
   -- every curve from the base curve
   pub P-shifted : (m : Move) (t : ℕ) → suc t ≤ 60
-      → P (curve k m) (suc t) ≡ (P (curve k base) (suc t) + perStep k * added k.shocks m) - perStep k * taken k.shocks m
+      → P (curve k m) (suc t) ≡ (P (curve k base) (suc t) + per_step k * added k.shocks m) - per_step k * taken k.shocks m
   P-shifted m t h = omega (arith, P-moved m t h, P-base (suc t) h)

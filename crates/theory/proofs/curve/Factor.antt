@@ -11,10 +11,10 @@ use Rattle.arith.proofs.Ends.{◌≤⟨◌⟩◌}
 use Rattle.method.specs.Fraction.{◌÷ᶠ◌, ◌≈◌}
 use Rattle.method.specs.Curve.{Curve, P, weight}
 use Rattle.method.specs.Exact as Exact
-use Rattle.method.specs.Exact.{G, onePlusUfr, productOf}
+use Rattle.method.specs.Exact.{G, one_plus_ufr, product_of}
 use Rattle.model.specs.Constants.{unit}
 use Rattle.method.specs.Rounded as Rounded
-use Rattle.method.specs.Rounded.{scaled, ufrGrowth}
+use Rattle.method.specs.Rounded.{scaled, ufr_growth}
 use Rattle.method.specs.inner.CurveWithin.{CurveWithin}
 use Rattle.theory.proofs.curve.Bracket.{Bounded}
 use Rattle.theory.proofs.general.Conditions.{cond-le, cond-gt}
@@ -31,13 +31,13 @@ pub growth-to-60 : (c : Curve) (t : ℕ) → 20 < t → t ≤ 60 → Exact.growt
 unfolding Exact.growth
 growth-to-60 c t h k = cond-gt t 20 _ _ h ∙ cond-le t 60 _ _ k
 
-pub growth-from-61 : (c : Curve) (t : ℕ) → 60 < t → Exact.growth c t ≡ onePlusUfr c
+pub growth-from-61 : (c : Curve) (t : ℕ) → 60 < t → Exact.growth c t ≡ one_plus_ufr c
 unfolding Exact.growth
 growth-from-61 c t h = cond-gt t 20 _ _ (omega arith) ∙ cond-gt t 60 _ _ h
 
 -- to 20 the factor is the unadjusted one, in both workings
-product-to-20 : (c : Curve) (t : ℕ) → t ≤ 20 → Exact.product c t ≡ productOf (G c) t
-unfolding productOf
+product-to-20 : (c : Curve) (t : ℕ) → t ≤ 20 → Exact.product c t ≡ product_of (G c) t
+unfolding product_of
 product-to-20 c zero h = refl
 product-to-20 c (suc j) h = rw (growth-to-20 c (suc j) h, product-to-20 c j (omega arith))
 
@@ -51,15 +51,15 @@ rounded-factor-to-20 c e zero h = refl
 rounded-factor-to-20 c e (suc j) h = cond-le (suc j) 20 _ _ h
 
 -- the growth that a factor is divided by, from term 21
-pub weighed-to-60 : (c : Curve) (e : End) (t : ℕ) → t ≤ 60 → Rounded.weighed c e t ≡ divide e ((1000 - weight t) * Rounded.growth c e t + weight t * ufrGrowth c) 1000
+pub weighed-to-60 : (c : Curve) (e : End) (t : ℕ) → t ≤ 60 → Rounded.weighed c e t ≡ divide e ((1000 - weight t) * Rounded.growth c e t + weight t * ufr_growth c) 1000
 unfolding Rounded.weighed
 weighed-to-60 c e t h = cond-le t 60 _ _ h
 
-pub weighed-from-61 : (c : Curve) (e : End) (t : ℕ) → 60 < t → Rounded.weighed c e t ≡ ufrGrowth c
+pub weighed-from-61 : (c : Curve) (e : End) (t : ℕ) → 60 < t → Rounded.weighed c e t ≡ ufr_growth c
 unfolding Rounded.weighed
 weighed-from-61 c e t h = cond-gt t 60 _ _ h
 
-ufr-in : (c : Curve) (e : End) → Bounded e unit (ufrGrowth c) (onePlusUfr c)
+ufr-in : (c : Curve) (e : End) → Bounded e unit (ufr_growth c) (one_plus_ufr c)
 ufr-in c e = exactly (omega arith)
 
 pub weighed-in : (c : Curve) → CurveWithin c → (e : End) (j : ℕ) → 20 < suc j → Bounded e unit (Rounded.weighed c e (suc j)) (Exact.growth c (suc j))
@@ -91,7 +91,7 @@ growth-fraction-pos c f j = go (dec_le (suc j) 20) (dec_le (suc j) 60)
     go (no h) (no k) = rw (growth-from-61 c (suc j) (omega arith)) (omega arith)
 
 pub product-pos : (c : Curve) → CurveWithin c → (t : ℕ) → (0 < (Exact.product c t).num) × (0 < (Exact.product c t).den)
-unfolding productOf
+unfolding product_of
 product-pos c f zero = (omega arith, omega arith)
 product-pos c f (suc t) =
     (mul-pos (product-pos c f t).0 (growth-fraction-pos c f t).0, mul-pos (product-pos c f t).1 (growth-fraction-pos c f t).1)
@@ -108,7 +108,7 @@ unfolding Rounded.factor
 rounded-factor-next c e j h = cond-gt (suc j) 20 _ _ h
 
 factor-next : (c : Curve) (t : ℕ) → Exact.factor c t ÷ᶠ Exact.growth c (suc t) ≈ Exact.factor c (suc t)
-unfolding Exact.factor productOf
+unfolding Exact.factor product_of
 factor-next c t = omega arith
 
 -- the lower end of a growth, and of a weighed growth from 21 on
@@ -126,7 +126,7 @@ least t = (1000 - weight t) * (96 * 10 ^ 7) + weight t * 10 ^ 9
 pub weighed-least : (c : Curve) → CurveWithin c → (j : ℕ) → suc j ≤ 60 → least (suc j) ≤ Rounded.weighed c low (suc j)
 weighed-least c f j h =
     rw (weighed-to-60 c low (suc j) h)
-    (mixed {v = ufrGrowth c} (96 * 10 ^ 7) (10 ^ 9) (1000 - weight (suc j)) (weight (suc j)) (growth-low c f j h) (omega arith)).le
+    (mixed {v = ufr_growth c} (96 * 10 ^ 7) (10 ^ 9) (1000 - weight (suc j)) (weight (suc j)) (growth-low c f j h) (omega arith)).le
 
 weighed-low-pos : (c : Curve) → CurveWithin c → (j : ℕ) → 0 < Rounded.weighed c low (suc j)
 weighed-low-pos c f j = go (dec_le (suc j) 60)
@@ -145,7 +145,7 @@ unfolding Exact.factor
 quotient-pos c f j = mul-pos (mul-pos (omega arith) (product-pos c f j).0) (growth-fraction-pos c f j).0
 
 pub factor-in : (c : Curve) → CurveWithin c → (e : End) (t : ℕ) → Bounded e unit (Rounded.factor c e t) (Exact.factor c t)
-factor-in c f e zero = unfold Exact.factor productOf Rounded.factor in (exactly (omega arith))
+factor-in c f e zero = unfold Exact.factor product_of Rounded.factor in (exactly (omega arith))
 factor-in c f e (suc j) = go (dec_le (suc j) 20) (factor-in c f e j)
   where
     go : Dec (suc j ≤ 20) → Bounded e unit (Rounded.factor c e j) (Exact.factor c j) → Bounded e unit (Rounded.factor c e (suc j)) (Exact.factor c (suc j))

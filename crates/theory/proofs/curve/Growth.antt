@@ -10,7 +10,7 @@ use native.Mathlib.Nat.{mul-le-mul_left, mul-le-mul_right, pow-suc, mul-pos, one
 use Rattle.arith.specs.Rounding.{End, low, high, divide}
 use Rattle.method.specs.Fraction.{◌//◌, ◌*ᶠ◌, ◌÷ᶠ◌, ◌^ᶠ◌, ◌≈◌}
 use Rattle.method.specs.Curve.{Curve, P}
-use Rattle.method.specs.Exact.{G, onePlusR}
+use Rattle.method.specs.Exact.{G, one_plus_r}
 use Rattle.model.specs.Constants.{unit}
 use Rattle.method.specs.Rounded as Rounded
 use Rattle.method.specs.Rounded.{scaled}
@@ -19,7 +19,7 @@ use Rattle.theory.proofs.curve.Bracket.{Bounded}
 use Rattle.theory.proofs.general.Powers.{forward}
 use Rattle.theory.proofs.curve.Steps.{step, same, scaled-in, scaled-width, wider}
 
-pub G-suc : (c : Curve) (j : ℕ) → G c (suc j) ≡ (onePlusR c (suc j) ^ᶠ suc j) ÷ᶠ (onePlusR c j ^ᶠ j)
+pub G-suc : (c : Curve) (j : ℕ) → G c (suc j) ≡ (one_plus_r c (suc j) ^ᶠ suc j) ÷ᶠ (one_plus_r c j ^ᶠ j)
 unfolding G
 G-suc c j = rw (sub-one (suc j))
 
@@ -44,7 +44,7 @@ growth-in c f e j h =
     let q : ℕ = P c j in
     let hq : 0 < q = P_pos c f j (omega arith) in
     rw (growth-suc c e j, G-suc c j)
-    (same ((onePlusR c (suc j) ^ᶠ suc j) ÷ᶠ (onePlusR c j ^ᶠ j)) (mul-pos (one-le-pow j q hq) (N-pos c f)) (telescope p q c.N j)
+    (same ((one_plus_r c (suc j) ^ᶠ suc j) ÷ᶠ (one_plus_r c j ^ᶠ j)) (mul-pos (one-le-pow j q hq) (N-pos c f)) (telescope p q c.N j)
     (step p c.N (N-pos c f) (scaled-in e p q j hq)))
 
 pub growth-width : (c : Curve) → CurveWithin c → (j : ℕ) → suc j ≤ 60 → Rounded.growth c high (suc j) ≤ Rounded.growth c low (suc j) + (4 * j + 1)
@@ -52,7 +52,7 @@ growth-width c f j h =
     let p : ℕ = P c (suc j) in
     let q : ℕ = P c j in
     let hq : 0 < q = P_pos c f j (omega arith) in
-    let near : 3 * j * p ≤ (3 * j + 2) * q = omega (arith, f.forwardMost j h, f.least (suc j) h, f.least j (omega arith)) in
+    let near : 3 * j * p ≤ (3 * j + 2) * q = omega (arith, f.forward_most j h, f.least (suc j) h, f.least j (omega arith)) in
     rw (growth-suc c high j, growth-suc c low j)
     (wider (scaled low p q j) (scaled high p q j) p c.N (3 * j) (4 * j) (N-pos c f)
     (scaled-width p q j hq near j (omega arith))
@@ -61,7 +61,7 @@ growth-width c f j h =
 pub growth-least : (c : Curve) → CurveWithin c → (j : ℕ) → suc j ≤ 60 → Bounded low 100 97 (G c (suc j))
 growth-least c f j h =
     rw (G-suc c j, pow-suc c.N j)
-    (omega (arith, mul-le-mul_right (c.N ^ j) (forward (P c (suc j)) (P c j) 97 c.N j (f.forwardLeast j h))))
+    (omega (arith, mul-le-mul_right (c.N ^ j) (forward (P c (suc j)) (P c j) 97 c.N j (f.forward_least j h))))
 
 pub G-pos : (c : Curve) → CurveWithin c → (j : ℕ) → suc j ≤ 60 → (0 < (G c (suc j)).num) × (0 < (G c (suc j)).den)
 G-pos c f j h =

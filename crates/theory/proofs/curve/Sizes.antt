@@ -1,6 +1,6 @@
 -- How large the rounded numbers become on each of the three curves: what the code needs so that its products fit. The lower end of a
 -- growth over i years is at most the exact power, which the forward rate bounds (Powers), and the upper end is that and the width more.
--- A factor is at most `factorMost`, a recursion that reads no file and is computed for each term.
+-- A factor is at most `factor_most`, a recursion that reads no file and is computed for each term.
 -- Assumes nothing.
 use Prim.Native.Nat.{ℕ, zero, suc, ◌+◌, ◌*◌, ◌^◌, ◌≤◌, ◌<◌}
 use mathlib.Core.Path.{refl, ap}
@@ -12,7 +12,7 @@ use Rattle.arith.proofs.Rounding.{divide-le}
 use Rattle.model.specs.Constants.{unit}
 use Rattle.method.specs.Curve.{Curve, P, weight, weights}
 use Rattle.method.specs.Rounded as Rounded
-use Rattle.method.specs.Rounded.{scaled, ufrGrowth}
+use Rattle.method.specs.Rounded.{scaled, ufr_growth}
 use Rattle.model.specs.Numbers.{every}
 use Rattle.method.specs.inner.CurveWithin.{CurveWithin}
 use Rattle.theory.proofs.general.Lists.{every-le}
@@ -21,7 +21,7 @@ use Rattle.theory.proofs.curve.Steps.{scaled-in, scaled-width}
 use Rattle.theory.proofs.curve.Growth.{growth-suc, P_pos, N-pos}
 use Rattle.theory.proofs.curve.Factor.{rounded-factor-first, rounded-factor-next, weighed-from-61}
 use Rattle.theory.proofs.curve.Unadjusted.{years-bound}
-use Rattle.theory.proofs.curve.Width.{factorMost, middle}
+use Rattle.theory.proofs.curve.Width.{factor_most, middle}
 
 -- r + i p is at most (i + 1) q for each i up to j, if it is so at j
 earlier : (p q r j i : ℕ) → i ≤ j → r ≤ q → r + j * p ≤ suc j * q → r + i * p ≤ suc i * q
@@ -53,8 +53,8 @@ years-most c f j i h k =
     let hq : 0 < q = P_pos c f j (omega arith) in
     let m : 113 * n ≤ 100 * p + 100 * q = omega arith in
     let (r, e) = le_dest m in
-    let near : 3 * j * p ≤ (3 * j + 2) * q = omega (arith, f.forwardMost j h) in
-    let at_i : r + i * (100 * p) ≤ suc i * (100 * q) = earlier (100 * p) (100 * q) r j i k (omega arith) (omega (arith, f.forwardMost j h)) in
+    let near : 3 * j * p ≤ (3 * j + 2) * q = omega (arith, f.forward_most j h) in
+    let at_i : r + i * (100 * p) ≤ suc i * (100 * q) = earlier (100 * p) (100 * q) r j i k (omega arith) (omega (arith, f.forward_most j h)) in
     let lo : scaled low p q i * r ≤ unit * (100 * q) = years-low p q r i hq (omega (arith, at_i)) in
     let big : 100 * (100 * q) ≤ 119 * r = omega arith in
     let fits : scaled low p q i * 100 ≤ 119 * unit = le_of_mul-le-mul_right {k = r} (omega (arith, lo, mul-le-mul_left unit big)) (omega (arith, big)) in
@@ -72,15 +72,15 @@ firsts : (i : ℕ) → i < 21 → scaled high 100 98 i ≤ 22 * 10 ^ 11
 unfolding every scaled divide
 firsts i = every-le (λ i. scaled high 100 98 i) (λ _. 22 * 10 ^ 11) 21 i refl
 
-middles : (j : ℕ) → j < 41 → factorMost j ≤ 22 * 10 ^ 11
-unfolding every factorMost scaled divide weight weights
-middles j = every-le factorMost (λ _. 22 * 10 ^ 11) 41 j refl
+middles : (j : ℕ) → j < 41 → factor_most j ≤ 22 * 10 ^ 11
+unfolding every factor_most scaled divide weight weights
+middles j = every-le factor_most (λ _. 22 * 10 ^ 11) 41 j refl
 
 late-size : (c : Curve) → CurveWithin c → (i : ℕ) → Rounded.factor c high (60 + i) ≤ 22 * 10 ^ 11
 late-size c f zero = le_trans (middle c f 40 (omega arith)).0 (middles 40 (omega arith))
 late-size c f (suc i) =
     rw (add-suc 60 i, rounded-factor-next c high (60 + i) (omega arith), weighed-from-61 c low (suc (60 + i)) (omega arith))
-    (divide-le high (Rounded.factor c high (60 + i) * unit) (ufrGrowth c) (22 * 10 ^ 11) (omega arith) (omega (arith, late-size c f i)))
+    (divide-le high (Rounded.factor c high (60 + i) * unit) (ufr_growth c) (22 * 10 ^ 11) (omega arith) (omega (arith, late-size c f i)))
 
 pub factor-size : (c : Curve) → CurveWithin c → (t : ℕ) → Rounded.factor c high t ≤ 22 * 10 ^ 11
 factor-size c f t = go (dec_le t 20) (dec_le t 60)

@@ -129,15 +129,15 @@ scaled-width a b k h l (suc j) m =
 
 -- The same with a ÷ b up to 1 ÷ 0.98, for any number of times: each takes a width w to at most w × 100 ÷ 98, and its two roundings add at
 -- most one. The recursion reads no file, so that its numbers can be computed.
-unfoldable pub widthAfter : ℕ → ℕ
-widthAfter zero = 0
-widthAfter (suc j) = divide high (widthAfter j * 100) 98 + 1
+unfoldable pub width_after : ℕ → ℕ
+width_after zero = 0
+width_after (suc j) = divide high (width_after j * 100) 98 + 1
 
-pub scaled-wide : (a b j : ℕ) → 0 < b → 98 * a ≤ 100 * b → scaled high a b j ≤ scaled low a b j + widthAfter j
-unfolding scaled widthAfter
+pub scaled-wide : (a b j : ℕ) → 0 < b → 98 * a ≤ 100 * b → scaled high a b j ≤ scaled low a b j + width_after j
+unfolding scaled width_after
 scaled-wide a b zero h l = omega arith
 scaled-wide a b (suc j) h l =
-    let w : ℕ = widthAfter j in
+    let w : ℕ = width_after j in
     let v : ℕ = divide high (w * 100) 98 in
     let k : w * 100 ≤ v * 98 = (divide-ceiling (w * 100) 98 (omega arith)).0 in
     let r : w * a ≤ v * b = le_of_mul-le-mul_right {k = 98} (omega (arith, mul-le-mul_left w l, mul-le-mul_right b k)) (omega arith) in

@@ -11,19 +11,19 @@ use Rattle.model.specs.Constants.{unit}
 use Rattle.method.specs.Fraction.{◌^ᶠ◌, ◌≈◌}
 use Rattle.method.specs.Curve.{Curve, P}
 use Rattle.method.specs.Exact as Exact
-use Rattle.method.specs.Exact.{G, onePlusR, productOf}
+use Rattle.method.specs.Exact.{G, one_plus_r, product_of}
 use Rattle.method.specs.Rounded as Rounded
 use Rattle.method.specs.Rounded.{scaled}
 use Rattle.model.specs.Numbers.{every}
 use Rattle.method.specs.inner.CurveWithin.{CurveWithin}
 use Rattle.theory.proofs.curve.Bracket.{Bounded}
 use Rattle.theory.proofs.general.Lists.{every-le}
-use Rattle.theory.proofs.curve.Steps.{same, scaled-in, scaled-ends, scaled-mono, widthAfter, scaled-wide}
+use Rattle.theory.proofs.curve.Steps.{same, scaled-in, scaled-ends, scaled-mono, width_after, scaled-wide}
 use Rattle.theory.proofs.curve.Growth.{G-suc, G-pos, P_pos}
 
 -- the product of the unadjusted growths is (1 + R(t))^t
-pub product-unadjusted : (c : Curve) (t : ℕ) → productOf (G c) t ≈ onePlusR c t ^ᶠ t
-unfolding productOf
+pub product-unadjusted : (c : Curve) (t : ℕ) → product_of (G c) t ≈ one_plus_r c t ^ᶠ t
+unfolding product_of
 product-unadjusted c zero = rw (pow-zero (P c 0), pow-zero c.N)
 product-unadjusted c (suc j) = rw (G-suc c j)
     (omega (arith, ap (λ m. m * (P c (suc j) ^ suc j * c.N ^ suc j)) (product-unadjusted c j)))
@@ -33,9 +33,9 @@ unfolding Rounded.unadjusted
 unadjusted-is c e t = refl
 
 -- ---- over closed numbers: the width after t years, and the largest upper end after i years
-narrow : (t : ℕ) → t < 61 → widthAfter t ≤ 4 * t * t
-unfolding every widthAfter divide
-narrow t = every-le widthAfter (λ t. 4 * t * t) 61 t refl
+narrow : (t : ℕ) → t < 61 → width_after t ≤ 4 * t * t
+unfolding every width_after divide
+narrow t = every-le width_after (λ t. 4 * t * t) 61 t refl
 
 small : (i : ℕ) → i < 61 → scaled high 100 98 i ≤ 34 * 10 ^ 11
 unfolding every scaled divide
@@ -43,8 +43,8 @@ small i = every-le (λ i. scaled high 100 98 i) (λ _. 34 * 10 ^ 11) 61 i refl
 
 -- ---- of a curve within the limits
 module _ (c : Curve) (w : CurveWithin c) where
-  product-some : (t : ℕ) → t ≤ 60 → 0 < (productOf (G c) t).num
-  unfolding productOf
+  product-some : (t : ℕ) → t ≤ 60 → 0 < (product_of (G c) t).num
+  unfolding product_of
   product-some zero h = omega arith
   product-some (suc j) h = mul-pos (product-some j (omega arith)) (G-pos c w j h).0
 

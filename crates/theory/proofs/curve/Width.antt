@@ -1,6 +1,6 @@
 -- The bracket of factor t is at most 4 × t × t units wide. To 20 each of the t multiplications adds at most 3. From 21 to 60 a year
 -- divides the width by the growth, and adds the growth's own width, which is at most linear in t (Growth), times the factor; such yearly
--- additions sum to a square. The recursion of these bounds (`widthMost`) reads no file, so that it stays below 4 × t × t is computed for
+-- additions sum to a square. The recursion of these bounds (`width_most`) reads no file, so that it stays below 4 × t × t is computed for
 -- each term. From 61 the growth is at least 1 and the same at both ends, so a year adds at most 1.
 -- Assumes nothing.
 use Prim.Native.Nat.{ℕ, zero, suc, ◌+◌, ◌*◌, ◌-◌, ◌^◌, ◌≤◌, ◌<◌}
@@ -13,7 +13,7 @@ use Rattle.arith.proofs.Rounding.{divide-floor, divide-ceiling, divide-le}
 use Rattle.method.specs.Curve.{Curve, P, weight, weights}
 use Rattle.model.specs.Constants.{unit}
 use Rattle.method.specs.Rounded as Rounded
-use Rattle.method.specs.Rounded.{scaled, ufrGrowth}
+use Rattle.method.specs.Rounded.{scaled, ufr_growth}
 use Rattle.model.specs.Numbers.{every}
 use Rattle.method.specs.inner.CurveWithin.{CurveWithin}
 use Rattle.theory.proofs.curve.Steps.{wider, scaled-width, scaled-mono, ends}
@@ -28,7 +28,7 @@ use Rattle.theory.proofs.general.Lists.{every-le}
 pub crosswise : (lo hi gl gh W v H A H' a b : ℕ) → 0 < A → A ≤ gl → gl ≤ gh → gh ≤ gl + v → hi ≤ lo + W → hi ≤ H
     → W * unit ≤ a * A → H * unit ≤ H' * A → H' * v ≤ b * A
     → (divide high (hi * unit) gl ≤ H') × (divide high (hi * unit) gl ≤ divide low (lo * unit) gh + (a + b + 1))
-crosswise lo hi gl gh W v H A H' a b hA k1 k2 k3 k4 k5 l1 l2 l3 =
+crosswise lo hi gl gh W v H A H' a b h_a k1 k2 k3 k4 k5 l1 l2 l3 =
     let p : ℕ = divide low (lo * unit) gh in
     let q : ℕ = divide high (hi * unit) gl in
     let hl : 0 < gl = omega arith in
@@ -46,26 +46,26 @@ crosswise lo hi gl gh W v H A H' a b hA k1 k2 k3 k4 k5 l1 l2 l3 =
     (divide-le high (hi * unit) gl H' hl f0, omega arith)
 
 -- Numbers that no file passes: the width of the weighed growth of term t; the upper factor of term 20 + j, and the width of its bracket.
-unfoldable pub growthMost : ℕ → ℕ
-growthMost t = divide high ((1000 - weight t) * (4 * t)) 1000 + 1
+unfoldable pub growth_most : ℕ → ℕ
+growth_most t = divide high ((1000 - weight t) * (4 * t)) 1000 + 1
 
-unfoldable pub factorMost : ℕ → ℕ
-factorMost zero = scaled high 100 98 20
-factorMost (suc j) = divide high (factorMost j * unit) (least (suc (20 + j)))
+unfoldable pub factor_most : ℕ → ℕ
+factor_most zero = scaled high 100 98 20
+factor_most (suc j) = divide high (factor_most j * unit) (least (suc (20 + j)))
 
-unfoldable pub widthMost : ℕ → ℕ
-widthMost zero = 60
-widthMost (suc j) =
-    divide high (widthMost j * unit) (least (suc (20 + j)))
-    + divide high (factorMost (suc j) * growthMost (suc (20 + j))) (least (suc (20 + j))) + 1
+unfoldable pub width_most : ℕ → ℕ
+width_most zero = 60
+width_most (suc j) =
+    divide high (width_most j * unit) (least (suc (20 + j)))
+    + divide high (factor_most (suc j) * growth_most (suc (20 + j))) (least (suc (20 + j))) + 1
 
 -- computed of each
-narrow : (j : ℕ) → j < 41 → widthMost j ≤ 4 * (20 + j) * (20 + j)
-unfolding every widthMost factorMost growthMost divide scaled weight weights
-narrow j = every-le widthMost (λ j. 4 * (20 + j) * (20 + j)) 41 j refl
+narrow : (j : ℕ) → j < 41 → width_most j ≤ 4 * (20 + j) * (20 + j)
+unfolding every width_most factor_most growth_most divide scaled weight weights
+narrow j = every-le width_most (λ j. 4 * (20 + j) * (20 + j)) 41 j refl
 
-pub weighed-width : (c : Curve) → CurveWithin c → (j : ℕ) → suc j ≤ 60 → Rounded.weighed c high (suc j) ≤ Rounded.weighed c low (suc j) + growthMost (suc j)
-unfolding growthMost
+pub weighed-width : (c : Curve) → CurveWithin c → (j : ℕ) → suc j ≤ 60 → Rounded.weighed c high (suc j) ≤ Rounded.weighed c low (suc j) + growth_most (suc j)
+unfolding growth_most
 weighed-width c f j h = rw (weighed-to-60 c high (suc j) h, weighed-to-60 c low (suc j) h)
     (mix (1000 - weight (suc j)) (weight (suc j)) (Rounded.growth c low (suc j)) (Rounded.growth c high (suc j)) c.ufr (omega (arith, growth-width c f j h)))
   where
@@ -81,8 +81,8 @@ weighed-width c f j h = rw (weighed-to-60 c high (suc j) h, weighed-to-60 c low 
         )
 
 pub middle : (c : Curve) → CurveWithin c → (j : ℕ) → j ≤ 40
-    → (Rounded.factor c high (20 + j) ≤ factorMost j) × (Rounded.factor c high (20 + j) ≤ Rounded.factor c low (20 + j) + widthMost j)
-unfolding factorMost widthMost
+    → (Rounded.factor c high (20 + j) ≤ factor_most j) × (Rounded.factor c high (20 + j) ≤ Rounded.factor c low (20 + j) + width_most j)
+unfolding factor_most width_most
 middle c f zero h =
     rw (rounded-factor-first c high 19 (omega arith), rounded-factor-first c low 19 (omega arith)) (
       scaled-mono high c.N (P c 20) 100 98 20 hp (omega arith) (omega (arith, hl)),
@@ -100,18 +100,18 @@ middle c f (suc j) h =
     let m : 20 < suc i = omega arith in
     let k : suc i ≤ 60 = omega arith in
     let A : ℕ = least (suc i) in
-    let hA : 0 < A = omega arith in
+    let h_a : 0 < A = omega arith in
     rw (add-suc 20 j, rounded-factor-next c high i m, rounded-factor-next c low i m)
     (crosswise (Rounded.factor c low i) (Rounded.factor c high i) (Rounded.weighed c low (suc i)) (Rounded.weighed c high (suc i))
-    (widthMost j) (growthMost (suc i)) (factorMost j) A
-    (divide high (factorMost j * unit) A)
-    (divide high (widthMost j * unit) A)
-    (divide high (divide high (factorMost j * unit) A * growthMost (suc i)) A)
-    hA (weighed-least c f i k)
+    (width_most j) (growth_most (suc i)) (factor_most j) A
+    (divide high (factor_most j * unit) A)
+    (divide high (width_most j * unit) A)
+    (divide high (divide high (factor_most j * unit) A * growth_most (suc i)) A)
+    h_a (weighed-least c f i k)
     (ends (growth-fraction-pos c f i).1 (weighed-in c f low i m) (weighed-in c f high i m))
     (weighed-width c f i k) ih.1 ih.0
-    (divide-ceiling (widthMost j * unit) A hA).0 (divide-ceiling (factorMost j * unit) A hA).0
-    (divide-ceiling (divide high (factorMost j * unit) A * growthMost (suc i)) A hA).0)
+    (divide-ceiling (width_most j * unit) A h_a).0 (divide-ceiling (factor_most j * unit) A h_a).0
+    (divide-ceiling (divide high (factor_most j * unit) A * growth_most (suc i)) A h_a).0)
 
 -- from 61 the width grows by at most one a year
 late : (c : Curve) → CurveWithin c → (i : ℕ) → Rounded.factor c high (60 + i) ≤ Rounded.factor c low (60 + i) + (14400 + i)
@@ -122,7 +122,7 @@ late c f (suc i) =
     rw (add-suc 60 i, rounded-factor-next c high (60 + i) m, rounded-factor-next c low (60 + i) m, weighed-from-61 c low (suc (60 + i)) k, weighed-from-61 c high (suc (60 + i)) k)
     (omega (
       arith,
-      wider (Rounded.factor c low (60 + i)) (Rounded.factor c high (60 + i)) unit (ufrGrowth c) (14400 + i) (14400 + i) (omega arith) (late c f i)
+      wider (Rounded.factor c low (60 + i)) (Rounded.factor c high (60 + i)) unit (ufr_growth c) (14400 + i) (14400 + i) (omega arith) (late c f i)
           (mul-le-mul_left (14400 + i) (omega arith)),
     ))
 

@@ -8,7 +8,7 @@ use native.Mathlib.Omega.{arith}
 use lib.IntN.{pos, ◌+ℤ◌}
 use Rattle.arith.specs.Rounding.{End, low, high}
 use Rattle.arith.proofs.Ends.{from}
-use Rattle.model.specs.Constants.{unit, lastTerm}
+use Rattle.model.specs.Constants.{unit, last_term}
 use Rattle.method.specs.Fraction.{Fraction, ◌*ᶠ◌, whole}
 use Rattle.model.specs.Case.{FileCase}
 use Rattle.model.specs.Limits.{WithinLimits}
@@ -56,19 +56,19 @@ P-uncut c f t h = not-cut (pos c.N +ℤ c.sum t) (omega (arith, f.some, f.least 
 pub record IsRounded (k : FileCase) (given : Given) : Type 0 where
   pub figures : given.figures ≡ Rounded.figures k
   pub verdict : given.verdict ≡ Rounded.verdict k
-  pub factor : (e : End) (t : ℕ) → 1 ≤ t → t ≤ lastTerm → given.factor e t ≡ Rounded.factor (curve k base) e t
-  pub rate : (e : End) (t : ℕ) → 1 ≤ t → t ≤ lastTerm → given.rate e t ≡ Rounded.zeroRate (curve k base) e t
+  pub factor : (e : End) (t : ℕ) → 1 ≤ t → t ≤ last_term → given.factor e t ≡ Rounded.factor (curve k base) e t
+  pub rate : (e : End) (t : ℕ) → 1 ≤ t → t ≤ last_term → given.rate e t ≡ Rounded.zero_rate (curve k base) e t
 
 pub demand3 : (k : FileCase) → WithinLimits k → (given : Given) → IsRounded k given → Demand3 k given
 demand3 k w given is = record {
-  productReal = λ m t h. product-pos (curve k m) (curve-within k w m) t;
-  valueReal = λ m. (L-den k w m, B-den k w m);
+  product_real = λ m t h. product-pos (curve k m) (curve-within k w m) t;
+  value_real = λ m. (L-den k w m, B-den k w m);
   PUncut = λ m t h. P-uncut (curve k m) (curve-within k w m) t h;
-  rateFound = λ e t h m. rw (is.rate e t h m) (rate-found (curve k base) (base-within k w) t m e);
-  factorIn = λ t h m e.
+  rate_found = λ e t h m. rw (is.rate e t h m) (rate-found (curve k base) (base-within k w) t m e);
+  factor_in = λ t h m e.
       rw (is.factor e t h m)
       (in-units (factor-den (curve k base) (curve-within k w base) t) (factor-in (curve k base) (curve-within k w base) e t));
-  rateIn = λ e t h m. rw (is.rate e t h m) (rate-in (curve k base) (base-within k w) t m e);
+  rate_in = λ e t h m. rw (is.rate e t h m) (rate-in (curve k base) (base-within k w) t m e);
   LIn = rw is.figures (figure-in (Rounded.L k base) (Exact.L k base) (L-den k w base) (L-in k w base));
   BIn = rw is.figures (figure-in (Rounded.B k base) (Exact.B k base) (B-den k w base) (B-in k w base));
   AIn = rw is.figures (figure-in (Rounded.A k) (Exact.A k) (A-den k w) (A-in k w));
@@ -79,8 +79,8 @@ demand3 k w given is = record {
   S5In = rw is.figures (figure-in (Rounded.S5 k) (Exact.S5 k) (omega arith) (S5-in k w));
   S6In = rw is.figures (square-in (Rounded.S6 k) (Exact.S6² k) (S6-den k w) (S6-in k w));
   SIn = rw is.figures (square-in (Rounded.S k) (Exact.S² k) (S-den k w) (S-in k w));
-  factorWidth = λ t h m. rw (is.factor low t h m, is.factor high t h m) (factor-width (curve k base) (curve-within k w base) t);
-  rateWidth = λ t h m. rw (is.rate low t h m, is.rate high t h m) (rate-width (curve k base) (base-within k w) t m h);
+  factor_width = λ t h m. rw (is.factor low t h m, is.factor high t h m) (factor-width (curve k base) (curve-within k w base) t);
+  rate_width = λ t h m. rw (is.rate low t h m, is.rate high t h m) (rate-width (curve k base) (base-within k w) t m h);
   LWidth = rw is.figures (L-width k w base);
   BWidth = rw is.figures (B-width k w base);
   AWidth = rw is.figures (A-width k w);

@@ -27,43 +27,43 @@ held b x h = ((h low).real, omega (arith, (h low).order), omega (arith, (h high)
 
 module _ (k : FileCase) (g : Given) (d : Demand3 k g) where
   product-above-0 : (m : Move) (t : ℕ) → t < 121 → (0 < (Exact.product (curve k m) t).num) × (0 < (Exact.product (curve k m) t).den)
-  product-above-0 m t h = d.productReal m t (omega (arith, h))
+  product-above-0 m t h = d.product_real m t (omega (arith, h))
 
   values-real : (m : Move) → (0 < (Exact.L k m).den) × (0 < (Exact.B k m).den)
-  values-real m = d.valueReal m
+  values-real m = d.value_real m
 
   P-is : (m : Move) (t : ℕ) → t < 61 → pos (P (curve k m) t) ≡ pos (curve k m).N +ℤ (curve k m).sum t
   P-is m t h = d.PUncut m t (omega (arith, h))
 
   factor-held : (t : ℕ) → 0 < t → t < 121 → Held 1000000000000 (g.factor low t) (g.factor high t) (Exact.factor (curve k base) t)
   factor-held t p q =
-      let h = d.factorIn t (omega (arith, p)) (omega (arith, q)) in (
+      let h = d.factor_in t (omega (arith, p)) (omega (arith, q)) in (
         (let r = (h low).real in omega (arith, r)),
         (let o = (h low).order in omega (arith, o)),
         (let o = (h high).order in omega (arith, o)),
       )
 
   factor-width : (t : ℕ) → 0 < t → t < 121 → g.factor high t ≤ g.factor low t + 4 * (t * t)
-  factor-width t p q = let w = d.factorWidth t (omega (arith, p)) (omega (arith, q)) in omega (arith, w)
+  factor-width t p q = let w = d.factor_width t (omega (arith, p)) (omega (arith, q)) in omega (arith, w)
 
   rate-found : (e : End) (t : ℕ) → 0 < t → t < 121 → (neg_ℤ (pos 2000) ≤ℤ g.rate e t) × (g.rate e t ≤ℤ pos 20000)
-  rate-found e t p q = let f = d.rateFound e t (omega (arith, p)) (omega (arith, q)) in (f.least, f.most)
+  rate-found e t p q = let f = d.rate_found e t (omega (arith, p)) (omega (arith, q)) in (f.least, f.most)
 
   rate-above : (e : End) (t : ℕ) → 0 < t → t < 121 → neg_ℤ (pos 100000) <ℤ g.rate e t
-  rate-above e t p q = (d.rateIn e t (omega (arith, p)) (omega (arith, q))).aboveMinusOne
+  rate-above e t p q = (d.rate_in e t (omega (arith, p)) (omega (arith, q))).above_minus_one
 
   rate-low : (t : ℕ) → 0 < t → t < 121
       → natural (pos 100000 +ℤ g.rate low t) ^ t * (Exact.product (curve k base) t).den
       ≤ (Exact.product (curve k base) t).num * 100000 ^ t
-  rate-low t p q = (d.rateIn low t (omega (arith, p)) (omega (arith, q))).order
+  rate-low t p q = (d.rate_in low t (omega (arith, p)) (omega (arith, q))).order
 
   rate-high : (t : ℕ) → 0 < t → t < 121
       → (Exact.product (curve k base) t).num * 100000 ^ t
       ≤ natural (pos 100000 +ℤ g.rate high t) ^ t * (Exact.product (curve k base) t).den
-  rate-high t p q = (d.rateIn high t (omega (arith, p)) (omega (arith, q))).order
+  rate-high t p q = (d.rate_in high t (omega (arith, p)) (omega (arith, q))).order
 
   rate-width : (t : ℕ) → 0 < t → t < 121 → g.rate high t ≤ℤ (g.rate low t +ℤ pos 2)
-  rate-width t p q = d.rateWidth t (omega (arith, p)) (omega (arith, q))
+  rate-width t p q = d.rate_width t (omega (arith, p)) (omega (arith, q))
 
   L-held : Held 1 g.figures.l.lower g.figures.l.upper (Exact.L k base)
   L-held = held (end_of g.figures.l) (Exact.L k base) d.LIn

@@ -6,7 +6,7 @@ use Prim.Native.Nat.{ℕ, zero, suc}
 use native.Mathlib.Omega.{arith}
 use lib.IntN.{ℤ, pos}
 use Rattle.std.specs.Prelude.{Result, Ok, Err}
-use Rattle.method.specs.Buffers.{answered, factorEntries, rateEntries, entry_of, rateEntryOf}
+use Rattle.method.specs.Buffers.{answered, factor_entries, rate_entries, entry_of, rate_entry_of}
 use Rattle.model.specs.Case.{FileCase}
 use Rattle.method.specs.Curve.{base, curve}
 use Rattle.method.specs.Rounded as Rounded
@@ -22,26 +22,26 @@ no-refusal zero k v e = refl
 no-refusal (suc r) k v e = let x : ◌≡◌ {A = ℕ} 0 1 = cc in let never : ⊥ = omega arith in absurd never
 
 -- the figures and the verdict of an answer that has them
-abbrev figuresOr : Figures → Result Valuation ℕ → Figures
-figuresOr none (Err r) = none
-figuresOr none (Ok v) = v.figures
+abbrev figures_or : Figures → Result Valuation ℕ → Figures
+figures_or none (Err r) = none
+figures_or none (Ok v) = v.figures
 
-abbrev verdictOr : Verdict → Result Valuation ℕ → Verdict
-verdictOr none (Err r) = none
-verdictOr none (Ok v) = v.verdict
+abbrev verdict_or : Verdict → Result Valuation ℕ → Verdict
+verdict_or none (Err r) = none
+verdict_or none (Ok v) = v.verdict
 
-pub written-rounded : (k : FileCase) (v : Valuation) (factors later : List ℕ) (rates laterRates : List ℤ)
+pub written-rounded : (k : FileCase) (v : Valuation) (factors later : List ℕ) (rates later_rates : List ℤ)
     → Ok v ≡ answered 0 k
-    → factors ≡ factorEntries k ++ later
-    → rates ≡ rateEntries k ++ laterRates
-    → IsRounded k (record { figures = v.figures; verdict = v.verdict; factor = entry_of factors; rate = rateEntryOf rates })
-unfolding factorEntries rateEntries
-written-rounded k v factors later rates laterRates e f z =
+    → factors ≡ factor_entries k ++ later
+    → rates ≡ rate_entries k ++ later_rates
+    → IsRounded k (record { figures = v.figures; verdict = v.verdict; factor = entry_of factors; rate = rate_entry_of rates })
+unfolding factor_entries rate_entries
+written-rounded k v factors later rates later_rates e f z =
     let factor = Rounded.factor (curve k base) in
-    let rate = Rounded.zeroRate (curve k base) in
+    let rate = Rounded.zero_rate (curve k base) in
     record {
-      figures = ap (figuresOr v.figures) e;
-      verdict = ap (verdictOr v.verdict) e;
+      figures = ap (figures_or v.figures) e;
+      verdict = ap (verdict_or v.verdict) e;
       factor = by-term 0 factors factor 120 (λ t l. rw f (lower_in factor 120 later 0 t l)) (λ t l. rw f (upper_in factor 120 later 0 t l));
-      rate = by-term (pos 0) rates rate 120 (λ t l. rw z (lower_in rate 120 laterRates (pos 0) t l)) (λ t l. rw z (upper_in rate 120 laterRates (pos 0) t l));
+      rate = by-term (pos 0) rates rate 120 (λ t l. rw z (lower_in rate 120 later_rates (pos 0) t l)) (λ t l. rw z (upper_in rate 120 later_rates (pos 0) t l));
     }

@@ -9,18 +9,18 @@ use native.Mathlib.Omega.{arith}
 use lib.ListN.{length, get_or, take, drop}
 use lib.IntN.{pos, neg_ℤ, ◌+ℤ◌, ◌*ℤ◌}
 use lib.Signed.{◌≤ℤ◌}
-use Rattle.model.specs.Case.{FileCase, perStep, s}
+use Rattle.model.specs.Case.{FileCase, per_step, s}
 use Rattle.model.specs.Limits.{DaysWithin, WithinLimits, forward}
-use Rattle.model.specs.Layout.{stands, fileMap}
-use Rattle.method.specs.Curve.{Move, up, down, movedSum, curve}
-use Rattle.model.specs.Refusals.{refusal, ratesPart, daysAt, dayCount}
+use Rattle.model.specs.Layout.{stands, file_map}
+use Rattle.method.specs.Curve.{Move, up, down, moved_sum, curve}
+use Rattle.model.specs.Refusals.{refusal, rates_part, days_at, day_count}
 use Rattle.savingmodel.specs.Saving.{shortest}
 use Rattle.theory.proofs.acceptance.Acceptance.{days-reach}
 use Rattle.theory.proofs.saving.Saved.{saved-once}
 
-module _ (k : FileCase) (four : k.rateBytes ≡ 4) where
-  step_is : perStep k ≡ 100 * length k.days
-  unfolding perStep
+module _ (k : FileCase) (four : k.rate_bytes ≡ 4) where
+  step_is : per_step k ≡ 100 * length k.days
+  unfolding per_step
   step_is = rw four
 
   -- "N is 10,000,000 × n"
@@ -29,12 +29,12 @@ module _ (k : FileCase) (four : k.rateBytes ≡ 4) where
   N-is m = omega (arith, step_is)
 
   -- "a shift adds or takes 100 × n × shift"
-  up-sum : (t : ℕ) → movedSum k up (suc t) ≡ s k.days (suc t) +ℤ pos (100 * length k.days) *ℤ pos k.shocks.up_shift
-  unfolding movedSum
+  up-sum : (t : ℕ) → moved_sum k up (suc t) ≡ s k.days (suc t) +ℤ pos (100 * length k.days) *ℤ pos k.shocks.up_shift
+  unfolding moved_sum
   up-sum t = rw step_is
 
-  down-sum : (t : ℕ) → movedSum k down (suc t) ≡ s k.days (suc t) +ℤ pos (100 * length k.days) *ℤ neg_ℤ (pos k.shocks.down_shift)
-  unfolding movedSum
+  down-sum : (t : ℕ) → moved_sum k down (suc t) ≡ s k.days (suc t) +ℤ pos (100 * length k.days) *ℤ neg_ℤ (pos k.shocks.down_shift)
+  unfolding moved_sum
   down-sum t = rw step_is
 
   -- "limits -100,000 to 1,000,000"; "The limits of refusals 5 and 6 are multiplied by 100"
@@ -57,11 +57,11 @@ module _ (k : FileCase) (four : k.rateBytes ≡ 4) where
         )
 
 -- "the part handed back is n × 240 bytes", which the file has
-part-is : (file : List ℕ) → refusal file ≡ 0 → stands 7 (fileMap file) ≡ true
-    → (ratesPart file ≡ take (240 * dayCount file) (drop (daysAt file + 1) file)) × (daysAt file + 1 + 240 * dayCount file ≤ length file)
-unfolding ratesPart
+part-is : (file : List ℕ) → refusal file ≡ 0 → stands 7 (file_map file) ≡ true
+    → (rates_part file ≡ take (240 * day_count file) (drop (days_at file + 1) file)) × (days_at file + 1 + 240 * day_count file ≤ length file)
+unfolding rates_part
 part-is file h four = (rw (h, four), rw four at (days-reach file h))
 
 -- "cases with different days fields count as different": they are saved as different bytes
-forms-apart : (k j : FileCase) → WithinLimits k → WithinLimits j → (k.rateBytes ≡ j.rateBytes → ⊥) → shortest k ≡ shortest j → ⊥
-forms-apart k j w v apart same = apart (ap (λ (i : FileCase). i.rateBytes) ((saved-once k j w v).0 same))
+forms-apart : (k j : FileCase) → WithinLimits k → WithinLimits j → (k.rate_bytes ≡ j.rate_bytes → ⊥) → shortest k ≡ shortest j → ⊥
+forms-apart k j w v apart same = apart (ap (λ (i : FileCase). i.rate_bytes) ((saved-once k j w v).0 same))

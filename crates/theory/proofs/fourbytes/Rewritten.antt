@@ -9,9 +9,9 @@ use lib.ListN.{length, get_or, length-map, get_or-map}
 use lib.IntN.{ℤ, pos, neg_ℤ, ◌+ℤ◌, ◌-ℤ◌, ◌*ℤ◌}
 use lib.Signed.{◌≤ℤ◌}
 use Rattle.arith.specs.Rounding.{End}
-use Rattle.model.specs.Case.{FileCase, unitsPerStep, perStep, s}
+use Rattle.model.specs.Case.{FileCase, units_per_step, per_step, s}
 use Rattle.model.specs.Limits.{Between, DayWithin, DaysWithin, WithinLimits, forward}
-use Rattle.method.specs.Curve.{Move, base, up, down, shift, movedSum, curve, natural, P}
+use Rattle.method.specs.Curve.{Move, base, up, down, shift, moved_sum, curve, natural, P}
 use Rattle.method.specs.Rounded as Rounded
 use Rattle.method.specs.FourBytes.{rewritten}
 use Rattle.theory.proofs.general.Differences.{times-sum, times-minus, times-times, times-pos, natural-times, times-le, times-neg}
@@ -82,25 +82,25 @@ module _ (days : List (List ℤ)) (w : DaysWithin 1 days) where
 
 -- ---- the case
 
-module _ (k : FileCase) (two : k.rateBytes ≡ 2) (w : WithinLimits k) where
+module _ (k : FileCase) (two : k.rate_bytes ≡ 2) (w : WithinLimits k) where
   pub within-rewritten : WithinLimits (rewritten k)
   within-rewritten =
       within-days k w 4 (map (map hundredfold) k.days) refl
-      (days-within k.days (subst (λ (v : ℕ). DaysWithin (unitsPerStep v) k.days) two w.days))
+      (days-within k.days (subst (λ (v : ℕ). DaysWithin (units_per_step v) k.days) two w.days))
 
-  step-times : perStep (rewritten k) ≡ 100 * perStep k
-  unfolding perStep
+  step-times : per_step (rewritten k) ≡ 100 * per_step k
+  unfolding per_step
   step-times = rw two (omega (arith, length-map k.days (map hundredfold)))
 
-  moved-times : (m : Move) (t : ℕ) → movedSum (rewritten k) m t ≡ pos 100 *ℤ movedSum k m t
-  unfolding movedSum
+  moved-times : (m : Move) (t : ℕ) → moved_sum (rewritten k) m t ≡ pos 100 *ℤ moved_sum k m t
+  unfolding moved_sum
   moved-times m zero = refl
   moved-times m (suc t) =
       ap₂ (λ y z. y +ℤ z) (sum-times k.days (suc t)) (shifted m)
-      ∙ sym (times-sum 100 (s k.days (suc t)) (pos (perStep k) *ℤ shift k m))
+      ∙ sym (times-sum 100 (s k.days (suc t)) (pos (per_step k) *ℤ shift k m))
     where
-      shifted : (m : Move) → pos (perStep (rewritten k)) *ℤ shift (rewritten k) m ≡ pos 100 *ℤ (pos (perStep k) *ℤ shift k m)
-      shifted m = ap₂ (λ (u : ℕ) (z : ℤ). pos u *ℤ z) step-times (same-shift m) ∙ times-pos 100 (perStep k) (shift k m)
+      shifted : (m : Move) → pos (per_step (rewritten k)) *ℤ shift (rewritten k) m ≡ pos 100 *ℤ (pos (per_step k) *ℤ shift k m)
+      shifted m = ap₂ (λ (u : ℕ) (z : ℤ). pos u *ℤ z) step-times (same-shift m) ∙ times-pos 100 (per_step k) (shift k m)
         where
           same-shift : (m : Move) → shift (rewritten k) m ≡ shift k m
           same-shift base = refl
@@ -110,16 +110,16 @@ module _ (k : FileCase) (two : k.rateBytes ≡ 2) (w : WithinLimits k) where
   agrees : (m : Move) → Agree 100 (curve (rewritten k) m) (curve k m)
   unfolding curve P
   agrees m =
-      let u = perStep k in
-      let N : 100000 * perStep (rewritten k) ≡ 100 * (100000 * u) = omega (arith, step-times) in
+      let u = per_step k in
+      let N : 100000 * per_step (rewritten k) ≡ 100 * (100000 * u) = omega (arith, step-times) in
       record {
         some = lit< tt;
         same_n = N;
-        sameP = λ t l.
+        same_p = λ t l.
             ap₂ (λ (n : ℕ) (z : ℤ). natural (pos n +ℤ z)) N (moved-times m t)
-            ∙ ap natural (sym (times-sum 100 (pos (100000 * u)) (movedSum k m t)))
-            ∙ natural-times 100 (pos (100000 * u) +ℤ movedSum k m t);
-        sameUfr = refl;
+            ∙ ap natural (sym (times-sum 100 (pos (100000 * u)) (moved_sum k m t)))
+            ∙ natural-times 100 (pos (100000 * u) +ℤ moved_sum k m t);
+        same_ufr = refl;
       }
 
   pub factors-same : (m : Move) → Rounded.factor (curve (rewritten k) m) ≡ Rounded.factor (curve k m)
@@ -135,12 +135,12 @@ module _ (k : FileCase) (two : k.rateBytes ≡ 2) (w : WithinLimits k) where
       at m e =
           same-worth 60 e (Rounded.unadjusted (curve (rewritten k) m) e) (Rounded.unadjusted (curve k m) e)
           (λ t i l. same-unadjusted 100 (curve (rewritten k) m) (curve k m) (agrees m) (curve-within k w m) e t l) 1 k.bonds (omega arith)
-          (omega (arith, w.mostBonds))
+          (omega (arith, w.most_bonds))
 
   pub figures-same : Rounded.figures (rewritten k) ≡ Rounded.figures k
   figures-same =
-      ap₂ (λ (l b : Move → End → ℕ). Rounded.figuresOf l b k.amounts k.shocks k.people) owed_same bonds-same
+      ap₂ (λ (l b : Move → End → ℕ). Rounded.figures_of l b k.amounts k.shocks k.people) owed_same bonds-same
 
   pub verdict-same : Rounded.verdict (rewritten k) ≡ Rounded.verdict k
   verdict-same =
-      ap₂ (λ (l b : Move → End → ℕ). Rounded.verdictOf l b k.amounts k.shocks k.people) owed_same bonds-same
+      ap₂ (λ (l b : Move → End → ℕ). Rounded.verdict_of l b k.amounts k.shocks k.people) owed_same bonds-same

@@ -50,12 +50,12 @@ module _ {A : Type 0} where
   length-table f zero = refl
   length-table f (suc n) = length-append (table f n) (f n ∷ []) ∙ (let e = length-table f n in omega arith)
 
-  pub getD-table : (f : ℕ → A) (n i : ℕ) (d : A) → i < n → get_or (table f n) i d ≡ f i
+  pub get_or-table : (f : ℕ → A) (n i : ℕ) (d : A) → i < n → get_or (table f n) i d ≡ f i
   unfolding table
-  getD-table f zero i d l = absurd (not-suc-le-zero l)
-  getD-table f (suc n) i d l =
+  get_or-table f zero i d l = absurd (not-suc-le-zero l)
+  get_or-table f (suc n) i d l =
       ⊎_elim (λ e. get_or_at (table f n) (f n) [] d i (length-table f n ∙ sym e) ∙ ap f (sym e))
-      (λ k. get_or-append (table f n) (f n ∷ []) d i (subst (λ (m : ℕ). i < m) (sym (length-table f n)) k) ∙ getD-table f n i d k)
+      (λ k. get_or-append (table f n) (f n ∷ []) d i (subst (λ (m : ℕ). i < m) (sym (length-table f n)) k) ∙ get_or-table f n i d k)
       (eq-or-lt_of_le (le_of_suc-le-suc l))
 
   -- one value more at the front
@@ -106,4 +106,4 @@ module _ {A : Type 0} where
   pub table_of : (xs : List A) (n : ℕ) (d : A) → length xs ≡ n → table (λ i. get_or xs i d) n ≡ xs
   table_of xs n d h =
       let l : length (table (λ i. get_or xs i d) n) ≡ length xs = length-table (λ i. get_or xs i d) n ∙ sym h in
-      ext_get_or d (table (λ i. get_or xs i d) n) xs l (λ i k. getD-table (λ i. get_or xs i d) n i d (omega arith))
+      ext_get_or d (table (λ i. get_or xs i d) n) xs l (λ i k. get_or-table (λ i. get_or xs i d) n i d (omega arith))

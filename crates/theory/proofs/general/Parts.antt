@@ -12,8 +12,8 @@ use lib.Seq.{length-take-le, take_at, drop_at, drop-drop, drop-append-le, take-a
 abbrev pub part : {A : Type 0} → ℕ → ℕ → List A → List A
 part at n xs = take n (drop at xs)
 
-abbrev pub withPart : {A : Type 0} → ℕ → ℕ → List A → List A → List A
-withPart at n new xs = take at xs ++ new ++ drop (at + n) xs
+abbrev pub with_part : {A : Type 0} → ℕ → ℕ → List A → List A → List A
+with_part at n new xs = take at xs ++ new ++ drop (at + n) xs
 
 module _ {A : Type 0} where
   pub length_part : (at n : ℕ) (xs : List A) → at + n ≤ length xs → length (part at n xs) ≡ n
@@ -28,16 +28,16 @@ module _ {A : Type 0} (at n : ℕ) (new xs : List A) (fits : at + n ≤ length x
   front_long : length (take at xs ++ new) ≡ at + n
   front_long = length-append (take at xs) new ∙ omega (arith, length-take-le at xs (omega arith))
 
-  pub length-with : length (withPart at n new xs) ≡ length xs
+  pub length-with : length (with_part at n new xs) ≡ length xs
   length-with = length-append (take at xs ++ new) (drop (at + n) xs) ∙ omega (arith, front_long, length-drop (at + n) xs)
 
-  pub part-own : part at n (withPart at n new xs) ≡ new
+  pub part-own : part at n (with_part at n new xs) ≡ new
   part-own =
       ap (part at n) (append_assoc (take at xs) new (drop (at + n) xs))
       ∙ ap (take n) (drop_at (take at xs) (new ++ drop (at + n) xs) at (length-take-le at xs (omega arith)))
       ∙ take_at new (drop (at + n) xs) n long
 
-  pub part-before : (i m : ℕ) → i + m ≤ at → part i m (withPart at n new xs) ≡ part i m xs
+  pub part-before : (i m : ℕ) → i + m ≤ at → part i m (with_part at n new xs) ≡ part i m xs
   part-before i m h =
       let front = length-take-le at xs (omega arith) in
       ap (part i m) (append_assoc (take at xs) new (drop (at + n) xs))
@@ -45,11 +45,11 @@ module _ {A : Type 0} (at n : ℕ) (new xs : List A) (fits : at + n ≤ length x
       ∙ sym (part-front i m (take at xs) (drop at xs) (omega arith))
       ∙ ap (part i m) (take-append-drop at xs)
 
-  pub part-behind : (i m : ℕ) → at + n ≤ i → part i m (withPart at n new xs) ≡ part i m xs
+  pub part-behind : (i m : ℕ) → at + n ≤ i → part i m (with_part at n new xs) ≡ part i m xs
   part-behind i m h =
       let (d, e) = le_dest h in
       let rest = drop (at + n) xs in
       let far : length (take at xs ++ new) + d ≡ i = omega (arith, front_long) in
       ap (take m)
-      (ap (λ j. drop j (withPart at n new xs)) (sym far)
+      (ap (λ j. drop j (with_part at n new xs)) (sym far)
       ∙ drop-append-add (take at xs ++ new) rest d ∙ drop-drop d (at + n) xs ∙ ap (λ j. drop j xs) e)

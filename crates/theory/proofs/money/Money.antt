@@ -10,7 +10,7 @@ use Rattle.arith.specs.Rounding.{End, low, high, other, divide}
 use Rattle.arith.specs.Root.{root}
 use Rattle.arith.proofs.Ends.{◌and◌, ◌times◌, from, cancel, divide-end, root-end}
 use Rattle.method.specs.Fraction.{Fraction, ◌//◌, ◌+ᶠ◌, ◌*ᶠ◌, square, whole, larger, ◌≤ᶠ◌}
-use Rattle.model.specs.Case.{FileCase, allExceptCurrency, ageGap}
+use Rattle.model.specs.Case.{FileCase, all_except_currency, age_gap}
 use Rattle.model.specs.Limits.{WithinLimits}
 use Rattle.method.specs.Curve.{Move, base, up, down, curve}
 use Rattle.method.specs.Exact as Exact
@@ -115,19 +115,19 @@ den_pos s l h hs hl hh =
 -- ---- the figures of a case within the limits
 module _ (k : FileCase) (w : WithinLimits k) where
   pub L-in : (m : Move) (e : End) → Bounded e 1 (Rounded.L k m e) (Exact.L k m)
-  L-in m e = worth-in (adjusted-known (curve k m) (curve-within k w m)) e 1 k.pension (omega (arith, w.mostPension))
+  L-in m e = worth-in (adjusted-known (curve k m) (curve-within k w m)) e 1 k.pension (omega (arith, w.most_pension))
 
   pub B-in : (m : Move) (e : End) → Bounded e 1 (Rounded.B k m e) (Exact.B k m)
-  B-in m e = worth-in (unadjusted-known (curve k m) (curve-within k w m)) e 1 k.bonds (omega (arith, w.mostBonds))
+  B-in m e = worth-in (unadjusted-known (curve k m) (curve-within k w m)) e 1 k.bonds (omega (arith, w.most_bonds))
 
   pub L-den : (m : Move) → 0 < (Exact.L k m).den
-  L-den m = worth-den (adjusted-known (curve k m) (curve-within k w m)) 1 k.pension (omega (arith, w.mostPension))
+  L-den m = worth-den (adjusted-known (curve k m) (curve-within k w m)) 1 k.pension (omega (arith, w.most_pension))
 
   pub B-den : (m : Move) → 0 < (Exact.B k m).den
-  B-den m = worth-den (unadjusted-known (curve k m) (curve-within k w m)) 1 k.bonds (omega (arith, w.mostBonds))
+  B-den m = worth-den (unadjusted-known (curve k m) (curve-within k w m)) 1 k.bonds (omega (arith, w.most_bonds))
 
   pub A-in : (e : End) → Bounded e 1 (Rounded.A k e) (Exact.A k)
-  A-in e = sum (B-in base e) (exactly {x = whole (100 * allExceptCurrency k.amounts)} (omega arith))
+  A-in e = sum (B-in base e) (exactly {x = whole (100 * all_except_currency k.amounts)} (omega arith))
 
   pub A-den : 0 < (Exact.A k).den
   A-den = omega (arith, B-den base)
@@ -180,7 +180,7 @@ module _ (k : FileCase) (w : WithinLimits k) where
   pub S6-in : (e : End) → Bounded e 1 (Rounded.S6 k e * Rounded.S6 k e) (Exact.S6² k)
   S6-in e =
       let h : ℕ = k.people.heads in
-      let d : ℕ = ageGap k.people in
+      let d : ℕ = age_gap k.people in
       same (Exact.S6² k) (mul-pos (mul-pos (L-den base) (L-den base)) heads-pos)
       (S6-same ((Exact.L k base).num * (Exact.L k base).num) ((Exact.L k base).den * (Exact.L k base).den) h d)
       (rooted heads-pos (factored (mortality h d) (256000000 * h) (prod (L-in base e) (L-in base e))))

@@ -8,7 +8,7 @@ use Rattle.std.proofs.lemmas.Nat.{mul-le}
 use Rattle.arith.specs.Rounding.{End, low, high}
 use Rattle.arith.proofs.Rounding.{divide-le}
 use Rattle.arith.proofs.Root.{root-le}
-use Rattle.model.specs.Case.{FileCase, ageGap}
+use Rattle.model.specs.Case.{FileCase, age_gap}
 use Rattle.model.specs.Limits.{WithinLimits}
 use Rattle.method.specs.Curve.{Curve, Move, base, up, down, curve}
 use Rattle.method.specs.Rounded as Rounded
@@ -38,8 +38,8 @@ module _ (k : FileCase) (w : WithinLimits k) where
       let c : Curve = curve k m in
       omega (
         arith,
-        worth-most 22 120 e (Rounded.factor c e) (λ t h. factor-most c (curve-within k w m) e t) 1 k.pension (omega (arith, w.mostPension)) w.pension.each,
-        w.mostPension,
+        worth-most 22 120 e (Rounded.factor c e) (λ t h. factor-most c (curve-within k w m) e t) 1 k.pension (omega (arith, w.most_pension)) w.pension.each,
+        w.most_pension,
       )
 
   pub B-most : (m : Move) (e : End) → Rounded.B k m e ≤ 204 * 10 ^ 10
@@ -47,8 +47,8 @@ module _ (k : FileCase) (w : WithinLimits k) where
       let c : Curve = curve k m in
       omega (
         arith,
-        worth-most 34 60 e (Rounded.unadjusted c e) (λ t h. unadjusted-most c (curve-within k w m) e t h) 1 k.bonds (omega (arith, w.mostBonds)) w.bonds.each,
-        w.mostBonds,
+        worth-most 34 60 e (Rounded.unadjusted c e) (λ t h. unadjusted-most c (curve-within k w m) e t h) 1 k.bonds (omega (arith, w.most_bonds)) w.bonds.each,
+        w.most_bonds,
       )
 
   pub A-most : (e : End) → Rounded.A k e ≤ 73 * 10 ^ 12
@@ -73,37 +73,37 @@ module _ (k : FileCase) (w : WithinLimits k) where
       (40 * 10 ^ 12) (omega arith)
       (omega (
         arith,
-        mul-le a.mature x.mature_fall 100000000000 1000 w.amounts.mature w.shocks.matureFall,
-        mul-le a.emerging x.emerging_fall 100000000000 1000 w.amounts.emerging w.shocks.emergingFall,
-        mul-le a.private x.private_fall 100000000000 1000 w.amounts.private w.shocks.privateFall,
-        mul-le a.property x.property_fall 100000000000 1000 w.amounts.property w.shocks.propertyFall,
+        mul-le a.mature x.mature_fall 100000000000 1000 w.amounts.mature w.shocks.mature_fall,
+        mul-le a.emerging x.emerging_fall 100000000000 1000 w.amounts.emerging w.shocks.emerging_fall,
+        mul-le a.private x.private_fall 100000000000 1000 w.amounts.private w.shocks.private_fall,
+        mul-le a.property x.property_fall 100000000000 1000 w.amounts.property w.shocks.property_fall,
       ))
 
   pub S3-most : (e : End) → Rounded.S3 k e ≤ 10 * 10 ^ 12
   S3-most e =
       divide-le e (100 * (k.amounts.currency * k.shocks.currency_fall)) 1000 (10 * 10 ^ 12) (omega arith)
-      (omega (arith, mul-le k.amounts.currency k.shocks.currency_fall 100000000000 1000 w.amounts.currency w.shocks.currencyFall))
+      (omega (arith, mul-le k.amounts.currency k.shocks.currency_fall 100000000000 1000 w.amounts.currency w.shocks.currency_fall))
 
   pub S4-most : (e : End) → Rounded.S4 k e ≤ 10 * 10 ^ 12
   S4-most e =
       divide-le e (100 * (k.amounts.commodities * k.shocks.commodities_fall)) 1000 (10 * 10 ^ 12) (omega arith)
-      (omega (arith, mul-le k.amounts.commodities k.shocks.commodities_fall 100000000000 1000 w.amounts.commodities w.shocks.commoditiesFall))
+      (omega (arith, mul-le k.amounts.commodities k.shocks.commodities_fall 100000000000 1000 w.amounts.commodities w.shocks.commodities_fall))
 
   pub S5-most : (e : End) → Rounded.S5 k e ≤ 50 * 10 ^ 12
   S5-most e =
       let x = k.shocks in
       divide-le e (100 * (k.amounts.credit * x.duration * x.spread * x.spread_rise)) (10 ^ 9) (50 * 10 ^ 12) (omega arith)
       (le_trans
-      (mul-le-mul_left 100 (mul-le-mul (mul-le-mul (mul-le-mul w.amounts.credit w.shocks.duration) w.shocks.spread) w.shocks.spreadRise))
+      (mul-le-mul_left 100 (mul-le-mul (mul-le-mul (mul-le-mul w.amounts.credit w.shocks.duration) w.shocks.spread) w.shocks.spread_rise))
       (le_refl (100 * (100000000000 * 500 * 10000 * 1000))))
 
   pub S6-most : (e : End) → Rounded.S6 k e ≤ Rounded.L k base e
   S6-most e =
       let h : ℕ = k.people.heads in
-      let d : ℕ = ageGap k.people in
+      let d : ℕ = age_gap k.people in
       let l : ℕ = Rounded.L k base e in
       root-le e (l * l * mortality h d) (256000000 * h) l (omega (arith, w.people.some))
-      (mul-le-mul_left (l * l) (share h d w.people.some (omega (arith, w.people.pensionAge))))
+      (mul-le-mul_left (l * l) (share h d w.people.some (omega (arith, w.people.pension_age))))
 
   pub S-most : (e : End) → Rounded.S k e ≤ 118 * 10 ^ 12
   S-most e =

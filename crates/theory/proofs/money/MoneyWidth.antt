@@ -10,7 +10,7 @@ use Rattle.arith.specs.Rounding.{low, high}
 use Rattle.arith.specs.Root.{root}
 use Rattle.arith.proofs.Rounding.{divide-width}
 use Rattle.arith.proofs.Root.{unsquare, root-floor, root-le}
-use Rattle.model.specs.Case.{FileCase, ageGap}
+use Rattle.model.specs.Case.{FileCase, age_gap}
 use Rattle.model.specs.Limits.{WithinLimits}
 use Rattle.method.specs.Curve.{Move, base, up, down, curve}
 use Rattle.method.specs.Rounded as Rounded
@@ -102,10 +102,10 @@ max-wide a b c d v h k = omega arith
 
 module _ (k : FileCase) (w : WithinLimits k) where
   pub L-width : (m : Move) → Rounded.L k m high ≤ Rounded.L k m low + WL k
-  L-width m = worth-width (adjusted-known (curve k m) (curve-within k w m)) k.pension w.mostPension
+  L-width m = worth-width (adjusted-known (curve k m) (curve-within k w m)) k.pension w.most_pension
 
   pub B-width : (m : Move) → Rounded.B k m high ≤ Rounded.B k m low + WB k
-  B-width m = worth-width (unadjusted-known (curve k m) (curve-within k w m)) k.bonds w.mostBonds
+  B-width m = worth-width (unadjusted-known (curve k m) (curve-within k w m)) k.bonds w.most_bonds
 
   pub A-width : Rounded.A k high ≤ Rounded.A k low + WB k
   A-width = omega (arith, B-width base)
@@ -119,7 +119,7 @@ module _ (k : FileCase) (w : WithinLimits k) where
   S6-width : Rounded.S6 k high ≤ Rounded.S6 k low + (WL k + 1)
   S6-width =
       let h : ℕ = k.people.heads in
-      let d : ℕ = ageGap k.people in
+      let d : ℕ = age_gap k.people in
       let b : ℕ = 256000000 * h in
       let hb : 0 < b = omega (arith, w.people.some) in
       let r : ℕ = Rounded.S6 k low in
@@ -127,7 +127,7 @@ module _ (k : FileCase) (w : WithinLimits k) where
         arith,
         root-le high (Rounded.L k base high * Rounded.L k base high * mortality h d) b (r + 1 + WL k) hb
             (slope (Rounded.L k base low) (Rounded.L k base high) (WL k) (mortality h d) b (r + 1) (L-width base)
-            (share h d w.people.some (omega (arith, w.people.pensionAge)))
+            (share h d w.people.some (omega (arith, w.people.pension_age)))
             (past (Rounded.L k base low * Rounded.L k base low * mortality h d) b hb)),
       )
 

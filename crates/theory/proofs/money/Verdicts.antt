@@ -17,7 +17,7 @@ use Rattle.model.specs.Limits.{WithinLimits}
 use Rattle.method.specs.Curve.{base}
 use Rattle.method.specs.Exact as Exact
 use Rattle.method.specs.Rounded as Rounded
-use Rattle.method.specs.Margins.{WL, WB, NearFirst, NearSecond, firstMargin, secondMargin}
+use Rattle.method.specs.Margins.{WL, WB, NearFirst, NearSecond, first_margin, second_margin}
 use Rattle.model.specs.declared.figures.Verdict.TheVariants.{Dekkingstekort, Reservetekort, VrijVermogen, Onbeslist}
 use Rattle.theory.proofs.curve.Bracket.{Bounded}
 use Rattle.theory.proofs.general.Conditions.{cond-le, cond-gt}
@@ -176,7 +176,7 @@ module _ (k : FileCase) (w : WithinLimits k) where
       (A-in k w low) (A-in k w high) (L-in k w base low) (L-in k w base high) (S-in k w low) (S-in k w high)
 
   pub verdict-margin : Rounded.verdict k ≡ Onbeslist
-      → NearFirst (firstMargin k) (Exact.A k) (Exact.L k base) ⊎ NearSecond (secondMargin k) (Exact.A k) (Exact.L k base) (Exact.S² k)
+      → NearFirst (first_margin k) (Exact.A k) (Exact.L k base) ⊎ NearSecond (second_margin k) (Exact.A k) (Exact.L k base) (Exact.S² k)
   verdict-margin =
       margin (Exact.A k) (Exact.L k base) (Exact.S² k) (A-den k w) (L-den k w base) (S-den k w) (Rounded.A k) (Rounded.L k base) (Rounded.S k)
       (A-in k w low) (A-in k w high) (L-in k w base low) (L-in k w base high) (S-in k w low) (S-in k w high)

@@ -15,7 +15,7 @@ use Rattle.method.specs.Fraction.{Fraction, ◌*ᶠ◌, whole}
 use Rattle.method.specs.Curve.{Curve}
 use Rattle.method.specs.Exact as Exact
 use Rattle.method.specs.Rounded as Rounded
-use Rattle.method.specs.Margins.{weightedSum, W}
+use Rattle.method.specs.Margins.{weighted_sum, W}
 use Rattle.method.specs.inner.CurveWithin.{CurveWithin}
 use Rattle.theory.proofs.curve.Bracket.{Bounded}
 use Rattle.theory.proofs.curve.Steps.{exactly, sum}
@@ -57,14 +57,14 @@ module _ {last : ℕ} {f : End → ℕ → ℕ} {F : ℕ → Fraction} (k : Fact
 
   -- at most 2 cents a flow, and the factors' widths
   worth-wide : (t : ℕ) (xs : List ℕ) → t + length xs ≤ suc last
-      → Rounded.worth high (f high) t xs * 10 ^ 10 ≤ Rounded.worth low (f low) t xs * 10 ^ 10 + 2 * length xs * 10 ^ 10 + weightedSum t xs
-  unfolding Rounded.worth weightedSum
+      → Rounded.worth high (f high) t xs * 10 ^ 10 ≤ Rounded.worth low (f low) t xs * 10 ^ 10 + 2 * length xs * 10 ^ 10 + weighted_sum t xs
+  unfolding Rounded.worth weighted_sum
   worth-wide t [] h = omega arith
   worth-wide t (x ∷ xs) h =
       omega (arith, flow-wide x (f low t) (f high t) (4 * t * t) (k.width t (omega arith)), worth-wide (suc t) xs (omega arith))
 
   pub worth-width : (xs : List ℕ) → length xs ≤ last → Rounded.worth high (f high) 1 xs ≤ Rounded.worth low (f low) 1 xs + W xs
-  worth-width xs h = omega (arith, worth-wide 1 xs (omega arith), divide-ceiling (weightedSum 1 xs) (10 ^ 10) (omega arith))
+  worth-width xs h = omega (arith, worth-wide 1 xs (omega arith), divide-ceiling (weighted_sum 1 xs) (10 ^ 10) (omega arith))
 
 -- flows of at most 100,000,000 euros, at factors of at most `most` × 10^11
 pub worth-most : (most last : ℕ) (e : End) (f : ℕ → ℕ) → ((t : ℕ) → t ≤ last → f t ≤ most * 10 ^ 11) → (t : ℕ) (xs : List ℕ) → t + length xs ≤ suc last

@@ -6,28 +6,28 @@ use Prim.Native.Nat.{ℕ}
 use lib.ListN.{length, drop}
 use lib.IntN.{ℤ}
 use Rattle.std.specs.Prelude.{Ok}
-use Rattle.method.specs.Buffers.{entry_of, rateEntryOf}
+use Rattle.method.specs.Buffers.{entry_of, rate_entry_of}
 use Rattle.method.specs.Demand3.{Demand3}
-use Rattle.monthsmodel.specs.Months.{monthsRefusal, monthsCase, monthsValuation, monthsFactorsAfter, monthsRatesAfter}
+use Rattle.monthsmodel.specs.Months.{months_refusal, months_case, months_valuation, months_factors_after, months_rates_after}
 use Rattle.model.specs.declared.figures.Valuation.{Valuation}
 use Rattle.theory.proofs.demand3.Demand3Proved.{demand3}
 use Rattle.theory.proofs.demand3.Written.{no-refusal, written-rounded}
 use Rattle.theory.proofs.months.Valued.{within-limits}
 
 module _ (file history : List ℕ) (start : ℕ) (factors : List ℕ) (rates : List ℤ) (v : Valuation)
-    (e : monthsValuation file history start (length factors) (length rates) ≡ Ok v) where
-  none : monthsRefusal file history start (length factors) (length rates) ≡ 0
-  unfolding monthsValuation
-  none = no-refusal (monthsRefusal file history start (length factors) (length rates)) (monthsCase file history) v e
+    (e : months_valuation file history start (length factors) (length rates) ≡ Ok v) where
+  none : months_refusal file history start (length factors) (length rates) ≡ 0
+  unfolding months_valuation
+  none = no-refusal (months_refusal file history start (length factors) (length rates)) (months_case file history) v e
 
-  pub months-demand3 : Demand3 (monthsCase file history) (record {
+  pub months-demand3 : Demand3 (months_case file history) (record {
     figures = v.figures;
     verdict = v.verdict;
-    factor = entry_of (monthsFactorsAfter file history start factors rates);
-    rate = rateEntryOf (monthsRatesAfter file history start factors rates);
+    factor = entry_of (months_factors_after file history start factors rates);
+    rate = rate_entry_of (months_rates_after file history start factors rates);
   })
-  unfolding monthsValuation monthsFactorsAfter monthsRatesAfter
+  unfolding months_valuation months_factors_after months_rates_after
   months-demand3 =
-      demand3 (monthsCase file history) (within-limits file history start (length factors) (length rates) none) _
-      (written-rounded (monthsCase file history) v (monthsFactorsAfter file history start factors rates) (drop 240 factors)
-      (monthsRatesAfter file history start factors rates) (drop 240 rates) (rw none at (sym e)) (rw none) (rw none))
+      demand3 (months_case file history) (within-limits file history start (length factors) (length rates) none) _
+      (written-rounded (months_case file history) v (months_factors_after file history start factors rates) (drop 240 factors)
+      (months_rates_after file history start factors rates) (drop 240 rates) (rw none at (sym e)) (rw none) (rw none))

@@ -10,107 +10,107 @@ use lib.Dec.{T}
 use lib.ListN.{drop, length-append}
 use lib.Seq.{drop_at}
 use Rattle.model.specs.Numbers.{bytes_of, Bytes}
-use Rattle.model.specs.Case.{FileCase, knownForm, withUfr}
-use Rattle.model.specs.Layout.{shocks, people, Present, mapOf, stands, fileMap, daysIf, fileOf, case_of, Keeps}
-use Rattle.model.specs.Refusals.{refusal, ufrEnd}
-use Rattle.monthsmodel.specs.Months.{withUfrField}
-use Rattle.model.specs.inner.Positions.{daysField, pensionField, bondsField, amountsField}
+use Rattle.model.specs.Case.{FileCase, known_form, with_ufr}
+use Rattle.model.specs.Layout.{shocks, people, Present, map_of, stands, file_map, days_if, file_of, case_of, Keeps}
+use Rattle.model.specs.Refusals.{refusal, ufr_end}
+use Rattle.monthsmodel.specs.Months.{with_ufr_field}
+use Rattle.model.specs.inner.Positions.{days_field, pension_field, bonds_field, amounts_field}
 use Rattle.theory.proofs.acceptance.Acceptance.{accepted-keeps, keeps-accepted}
 use Rattle.theory.proofs.acceptance.Bitmap.{announced}
 use Rattle.theory.proofs.acceptance.Encoding.{length-bytes, number_read}
 use Rattle.theory.proofs.curve.Changed.{within-ufr}
 
 -- the same optional fields, and the UFR's
-abbrev withField : Present → Present
-withField p = record { ufr = true; bonds = p.bonds; amounts = p.amounts }
+abbrev with_field : Present → Present
+with_field p = record { ufr = true; bonds = p.bonds; amounts = p.amounts }
 
 -- the bytes behind the UFR
-abbrev laterBytes : Present → FileCase → List ℕ
-laterBytes p k =
-    (daysField 2 k.rateBytes).bytes (daysIf 2 k) ++ (pensionField.bytes k.pension ++ ((bondsField p).bytes k.bonds
-    ++ ((amountsField p).bytes k.amounts ++ (shocks.bytes k.shocks ++ people.bytes k.people))))
+abbrev later_bytes : Present → FileCase → List ℕ
+later_bytes p k =
+    (days_field 2 k.rate_bytes).bytes (days_if 2 k) ++ (pension_field.bytes k.pension ++ ((bonds_field p).bytes k.bonds
+    ++ ((amounts_field p).bytes k.amounts ++ (shocks.bytes k.shocks ++ people.bytes k.people))))
 
-abbrev lastBytes : FileCase → List ℕ
-lastBytes k = (daysField 4 k.rateBytes).bytes (daysIf 4 k)
+abbrev last_bytes : FileCase → List ℕ
+last_bytes k = (days_field 4 k.rate_bytes).bytes (days_if 4 k)
 
-module _ (p : Present) (k : FileCase) (known : knownForm k.rateBytes ≡ true) where
+module _ (p : Present) (k : FileCase) (known : known_form k.rate_bytes ≡ true) where
   abbrev file : List ℕ
-  file = fileOf p k
+  file = file_of p k
 
-  map_read : fileMap file ≡ mapOf k.rateBytes p
-  unfolding fileMap fileOf
+  map_read : file_map file ≡ map_of k.rate_bytes p
+  unfolding file_map file_of
   map_read =
-      let (right, most, same, form) = announced k.rateBytes p known in
-      number_read file 0 2 (mapOf k.rateBytes p) _ (omega arith) refl
+      let (right, most, same, form) = announced k.rate_bytes p known in
+      number_read file 0 2 (map_of k.rate_bytes p) _ (omega arith) refl
 
-  bit-read : stands 0 (fileMap file) ≡ p.ufr
+  bit-read : stands 0 (file_map file) ≡ p.ufr
   bit-read =
-      let (right, most, same, form) = announced k.rateBytes p known in
+      let (right, most, same, form) = announced k.rate_bytes p known in
       ap (stands 0) map_read ∙ ap (λ (q : Present). q.ufr) same
 
   -- with bit 0 in the map
-  bit-set : cond p.ufr (mapOf k.rateBytes p) (mapOf k.rateBytes p + 1) ≡ mapOf k.rateBytes (withField p)
+  bit-set : cond p.ufr (map_of k.rate_bytes p) (map_of k.rate_bytes p + 1) ≡ map_of k.rate_bytes (with_field p)
   bit-set = go p.ufr
     where
       go : (u : Bool)
           → (let q : Present = record { ufr = u; bonds = p.bonds; amounts = p.amounts } in
-          cond u (mapOf k.rateBytes q) (mapOf k.rateBytes q + 1) ≡ mapOf k.rateBytes (withField q))
+          cond u (map_of k.rate_bytes q) (map_of k.rate_bytes q + 1) ≡ map_of k.rate_bytes (with_field q))
       go true = refl
       go false = omega arith
 
   -- the rest of the file
-  rest_read : drop (cond p.ufr 4 2) file ≡ laterBytes p k ++ lastBytes k
-  unfolding fileOf
+  rest_read : drop (cond p.ufr 4 2) file ≡ later_bytes p k ++ last_bytes k
+  unfolding file_of
   rest_read = go p.ufr p.bonds p.amounts
     where
       go : (u b a : Bool)
-          → (let q : Present = record { ufr = u; bonds = b; amounts = a } in drop (cond u 4 2) (fileOf q k) ≡ laterBytes q k ++ lastBytes k)
+          → (let q : Present = record { ufr = u; bonds = b; amounts = a } in drop (cond u 4 2) (file_of q k) ≡ later_bytes q k ++ last_bytes k)
       go true b a =
           let q : Present = record { ufr = true; bonds = b; amounts = a } in
-          let map = bytes_of 2 (mapOf k.rateBytes q) in
+          let map = bytes_of 2 (map_of k.rate_bytes q) in
           let ufr = bytes_of 2 k.ufr in
-          let rest = laterBytes q k ++ lastBytes k in
-          ap (λ (l : List ℕ). drop 4 (map ++ l)) (append_assoc ufr (laterBytes q k) (lastBytes k))
+          let rest = later_bytes q k ++ last_bytes k in
+          ap (λ (l : List ℕ). drop 4 (map ++ l)) (append_assoc ufr (later_bytes q k) (last_bytes k))
           ∙ ap (drop 4) (sym (append_assoc map ufr rest))
           ∙ drop_at (map ++ ufr) rest 4
-          (omega (arith, length-append map ufr, length-bytes 2 (mapOf k.rateBytes q), length-bytes 2 k.ufr))
+          (omega (arith, length-append map ufr, length-bytes 2 (map_of k.rate_bytes q), length-bytes 2 k.ufr))
       go false b a =
           let q : Present = record { ufr = false; bonds = b; amounts = a } in
-          drop_at (bytes_of 2 (mapOf k.rateBytes q)) (laterBytes q k ++ lastBytes k) 2 (length-bytes 2 (mapOf k.rateBytes q))
+          drop_at (bytes_of 2 (map_of k.rate_bytes q)) (later_bytes q k ++ last_bytes k) 2 (length-bytes 2 (map_of k.rate_bytes q))
 
-  field-written : (ufr : ℕ) → withUfrField ufr (fileOf p k) ≡ fileOf (withField p) (withUfr ufr k)
-  unfolding withUfrField ufrEnd fileOf
+  field-written : (ufr : ℕ) → with_ufr_field ufr (file_of p k) ≡ file_of (with_field p) (with_ufr ufr k)
+  unfolding with_ufr_field ufr_end file_of
   field-written ufr =
       let map = ap₂ (λ (b : Bool) (m : ℕ). cond b m (m + 1)) bit-read map_read ∙ bit-set in
       let rest = ap (λ (b : Bool). drop (cond b 4 2) file) bit-read ∙ rest_read in
       ap₂ (λ (m : ℕ) (l : List ℕ). bytes_of 2 m ++ bytes_of 2 ufr ++ l) map rest ∙ written
     where
-      written : bytes_of 2 (mapOf k.rateBytes (withField p)) ++ bytes_of 2 ufr ++ (laterBytes p k ++ lastBytes k)
-          ≡ fileOf (withField p) (withUfr ufr k)
+      written : bytes_of 2 (map_of k.rate_bytes (with_field p)) ++ bytes_of 2 ufr ++ (later_bytes p k ++ last_bytes k)
+          ≡ file_of (with_field p) (with_ufr ufr k)
       written =
-          append_assoc (bytes_of 2 (mapOf k.rateBytes (withField p))) (bytes_of 2 ufr) (laterBytes p k ++ lastBytes k)
-          ∙ ap (λ (l : List ℕ). bytes_of 2 (mapOf k.rateBytes (withField p)) ++ l)
-          (sym (append_assoc (bytes_of 2 ufr) (laterBytes p k) (lastBytes k)))
+          append_assoc (bytes_of 2 (map_of k.rate_bytes (with_field p))) (bytes_of 2 ufr) (later_bytes p k ++ last_bytes k)
+          ∙ ap (λ (l : List ℕ). bytes_of 2 (map_of k.rate_bytes (with_field p)) ++ l)
+          (sym (append_assoc (bytes_of 2 ufr) (later_bytes p k) (last_bytes k)))
 
 module _ (given : List ℕ) (b : Bytes given) (accepted : refusal given ≡ 0) (ufr : ℕ) (most : ufr ≤ 5000) where
-  field-keeps : Keeps given → Keeps (withUfrField ufr given)
+  field-keeps : Keeps given → Keeps (with_ufr_field ufr given)
   field-keeps x = record {
-    present = withField x.present;
-    held = withUfr ufr x.held;
+    present = with_field x.present;
+    held = with_ufr ufr x.held;
     within = within-ufr x.held x.within ufr most;
     agrees = record {
-      ufrAbsent = λ e. absurd (subst T e tt);
-      bondsAbsent = x.agrees.bondsAbsent;
-      bondsThere = x.agrees.bondsThere;
-      amountsAbsent = x.agrees.amountsAbsent;
+      ufr_absent = λ e. absurd (subst T e tt);
+      bonds_absent = x.agrees.bonds_absent;
+      bonds_there = x.agrees.bonds_there;
+      amounts_absent = x.agrees.amounts_absent;
     };
-    bytes = ap (withUfrField ufr) x.bytes ∙ field-written x.present x.held x.within.form ufr;
+    bytes = ap (with_ufr_field ufr) x.bytes ∙ field-written x.present x.held x.within.form ufr;
   }
 
   -- the file with the UFR in its field is accepted, and its case is the file's with that UFR
-  pub field-read : (refusal (withUfrField ufr given) ≡ 0) × (case_of (withUfrField ufr given) ≡ withUfr ufr (case_of given))
+  pub field-read : (refusal (with_ufr_field ufr given) ≡ 0) × (case_of (with_ufr_field ufr given) ≡ with_ufr ufr (case_of given))
   unfolding field-keeps
   field-read =
       let (x, is) = accepted-keeps given b accepted in
-      let (none, read) = keeps-accepted (withUfrField ufr given) (field-keeps x) in
-      (none, read ∙ ap (withUfr ufr) is)
+      let (none, read) = keeps-accepted (with_ufr_field ufr given) (field-keeps x) in
+      (none, read ∙ ap (with_ufr ufr) is)

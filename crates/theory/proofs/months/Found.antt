@@ -11,29 +11,29 @@ use lib.ListN.{length}
 use lib.IntN.{ℤ, pos, negsuc, ◌*ℤ◌}
 use Rattle.std.specs.Cmp.{second_so}
 use Rattle.method.specs.Curve.{natural}
-use Rattle.model.specs.Fields.{withinZ}
-use Rattle.monthsmodel.specs.Months.{monthsOf, oldestFirst, total, hundreds, roundedUfr, historyChecks, ufrRefusal, ufrFound}
+use Rattle.model.specs.Fields.{within_z}
+use Rattle.monthsmodel.specs.Months.{months_of, oldest_first, total, hundreds, rounded_ufr, history_checks, ufr_refusal, ufr_found}
 use Rattle.theory.proofs.acceptance.Checks.{Hold, none-hold}
 use Rattle.theory.proofs.months.Rotated.{oldest-sum}
 
 -- an integer of 0 to 5,000
-whole : (z : ℤ) → withinZ (pos 0) (pos 5000) z ≡ true → (natural z ≤ 5000) × (pos (natural z) ≡ z)
+whole : (z : ℤ) → within_z (pos 0) (pos 5000) z ≡ true → (natural z ≤ 5000) × (pos (natural z) ≡ z)
 whole (pos n) h = (leb-true n 5000 (second_so (leb 0 n) (leb n 5000) h), refl)
 whole (negsuc n) h = absurd (subst T (sym h) tt)
 
-module _ (history : List ℕ) (start : ℕ) (none : ufrRefusal history start ≡ 0) where
-  passed : Hold (historyChecks history start)
-  unfolding ufrRefusal
-  passed = none-hold (historyChecks history start) tt none
+module _ (history : List ℕ) (start : ℕ) (none : ufr_refusal history start ≡ 0) where
+  passed : Hold (history_checks history start)
+  unfolding ufr_refusal
+  passed = none-hold (history_checks history start) tt none
 
   pub start-within : start < 120
   start-within = let l = leb-true start 119 (second_so (eqb (length history) 240) (leb start 119) passed.0) in omega arith
 
-  pub found-most : ufrFound history ≤ 5000
-  found-most = (whole (roundedUfr history) passed.1.1.0).0
+  pub found-most : ufr_found history ≤ 5000
+  found-most = (whole (rounded_ufr history) passed.1.1.0).0
 
   -- the UFR found is the mean of the months from the oldest on, rounded as `Nearest` says (nearest-hundred)
-  pub found-rounded : pos (ufrFound history) ≡ pos 100 *ℤ hundreds (total (oldestFirst start (monthsOf history)))
-  unfolding roundedUfr
+  pub found-rounded : pos (ufr_found history) ≡ pos 100 *ℤ hundreds (total (oldest_first start (months_of history)))
+  unfolding rounded_ufr
   found-rounded =
-      (whole (roundedUfr history) passed.1.1.0).1 ∙ ap (λ z. pos 100 *ℤ hundreds z) (sym (oldest-sum history start start-within))
+      (whole (rounded_ufr history) passed.1.1.0).1 ∙ ap (λ z. pos 100 *ℤ hundreds z) (sym (oldest-sum history start start-within))

@@ -5,11 +5,11 @@ use mathlib.Core.Path.{◌≡◌, sym}
 use native.Mathlib.Nat.{le_antisymm}
 use native.Mathlib.Omega.{arith}
 use lib.IntN.{ℤ, pos, negsuc, nat_abs, ◌+ℤ◌, ◌-ℤ◌, ◌*ℤ◌}
-use Rattle.monthsmodel.specs.Months.{floorZ, hundreds, apart, Nearest}
+use Rattle.monthsmodel.specs.Months.{floor_z, hundreds, apart, Nearest}
 use Rattle.theory.proofs.general.Differences.{Diff, above, below, diff-self, again, one-diff, diff-pos, diff-sum, diff-minus, diff-times, diff-le, le-diff}
 
 -- z ÷ 12,000 rounded down, of either sign
-floor-between : (z : ℤ) (a b c d : ℕ) → Diff z a b → Diff (floorZ z 12000) c d
+floor-between : (z : ℤ) (a b c d : ℕ) → Diff z a b → Diff (floor_z z 12000) c d
     → (12000 * c + b ≤ a + 12000 * d) × (a + 12000 * d < 12000 * c + b + 12000)
 floor-between (pos n) a b c d h k = (omega arith, omega arith)
 floor-between (negsuc n) a b c d h k = (omega arith, omega arith)

@@ -10,8 +10,8 @@ use lib.IntN.{ℤ, pos, negsuc, nat_abs, ◌+ℤ◌, ◌-ℤ◌, ◌*ℤ◌}
 use lib.ListN.{length}
 use Rattle.model.specs.Numbers.{Bytes}
 use Rattle.model.specs.Refusals.{refusal}
-use Rattle.method.specs.Buffers.{factorsAfter, ratesAfter, valuationOf}
-use Rattle.monthsmodel.specs.Months.{apart, Nearest, ufrRefusal, monthsValuation, monthsFactorsAfter, monthsRatesAfter, withUfrField}
+use Rattle.method.specs.Buffers.{factors_after, rates_after, valuation_of}
+use Rattle.monthsmodel.specs.Months.{apart, Nearest, ufr_refusal, months_valuation, months_factors_after, months_rates_after, with_ufr_field}
 use Rattle.model.proofs.Computing.{pairs}
 use Rattle.monthsmodel.proofs.Computing.{all}
 use Rattle.theory.proofs.general.Differences.{Diff, again, diff-pos, diff-sum, diff-minus, diff-le}
@@ -54,19 +54,19 @@ plain-nearest z q a b c d h k n =
 abbrev flat : List ℕ
 flat = pairs 120 0x10 0x68
 
-flat-found : (start : ℕ) → start ≤ 119 → ufrRefusal flat start ≡ 0
+flat-found : (start : ℕ) → start ≤ 119 → ufr_refusal flat start ≡ 0
 unfolding all
 flat-found start l = rw (le-leb start 119 l)
 
 module _ (file : List ℕ) (b : Bytes file) (accepted : refusal file ≡ 0) (start : ℕ) (l : start ≤ 119) (factors : List ℕ) (rates : List ℤ) where
-  flat-answer : monthsValuation file flat start (length factors) (length rates) ≡ valuationOf (length factors) (length rates) (withUfrField 4200 file)
+  flat-answer : months_valuation file flat start (length factors) (length rates) ≡ valuation_of (length factors) (length rates) (with_ufr_field 4200 file)
   unfolding all
   flat-answer = (as-if-field file b accepted flat start (flat-found start l) factors rates).answer
 
-  flat-factors : monthsFactorsAfter file flat start factors rates ≡ factorsAfter (withUfrField 4200 file) factors rates
+  flat-factors : months_factors_after file flat start factors rates ≡ factors_after (with_ufr_field 4200 file) factors rates
   unfolding all
-  flat-factors = (as-if-field file b accepted flat start (flat-found start l) factors rates).factorsAfter
+  flat-factors = (as-if-field file b accepted flat start (flat-found start l) factors rates).factors_after
 
-  flat-rates : monthsRatesAfter file flat start factors rates ≡ ratesAfter (withUfrField 4200 file) factors rates
+  flat-rates : months_rates_after file flat start factors rates ≡ rates_after (with_ufr_field 4200 file) factors rates
   unfolding all
-  flat-rates = (as-if-field file b accepted flat start (flat-found start l) factors rates).ratesAfter
+  flat-rates = (as-if-field file b accepted flat start (flat-found start l) factors rates).rates_after

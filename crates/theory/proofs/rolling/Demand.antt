@@ -6,10 +6,10 @@ use mathlib.Core.List.{List}
 use lib.ListN.{length, drop}
 use lib.IntN.{ℤ}
 use Rattle.std.specs.Prelude.{Ok}
-use Rattle.method.specs.Buffers.{entry_of, rateEntryOf}
-use Rattle.model.specs.Case.{FileCase, withDays}
+use Rattle.method.specs.Buffers.{entry_of, rate_entry_of}
+use Rattle.model.specs.Case.{FileCase, with_days}
 use Rattle.method.specs.Demand3.{Demand3}
-use Rattle.rollingmodel.specs.Rolling.{daysHeld, windowRefusal, windowValuation, windowFactorsAfter, windowRatesAfter}
+use Rattle.rollingmodel.specs.Rolling.{days_held, rolling_refusal, rolling_valuation, rolling_factors_after, rolling_rates_after}
 use Rattle.model.specs.declared.figures.Valuation.{Valuation}
 use Rattle.rollingmodel.specs.declared.RollingWindow.{RollingWindow}
 use Rattle.theory.proofs.demand3.Demand3Proved.{demand3}
@@ -17,19 +17,19 @@ use Rattle.theory.proofs.demand3.Written.{no-refusal, written-rounded}
 use Rattle.theory.proofs.rolling.Valued.{within-limits}
 
 module _ (w : RollingWindow) (k : FileCase) (factors : List ℕ) (rates : List ℤ) (v : Valuation)
-    (e : windowValuation w k (length factors) (length rates) ≡ Ok v) where
-  none : windowRefusal w k (length factors) (length rates) ≡ 0
-  unfolding windowValuation
-  none = no-refusal (windowRefusal w k (length factors) (length rates)) (withDays 2 (daysHeld w) k) v e
+    (e : rolling_valuation w k (length factors) (length rates) ≡ Ok v) where
+  none : rolling_refusal w k (length factors) (length rates) ≡ 0
+  unfolding rolling_valuation
+  none = no-refusal (rolling_refusal w k (length factors) (length rates)) (with_days 2 (days_held w) k) v e
 
-  pub window-demand3 : Demand3 (withDays 2 (daysHeld w) k) (record {
+  pub window-demand3 : Demand3 (with_days 2 (days_held w) k) (record {
     figures = v.figures;
     verdict = v.verdict;
-    factor = entry_of (windowFactorsAfter w k factors rates);
-    rate = rateEntryOf (windowRatesAfter w k factors rates);
+    factor = entry_of (rolling_factors_after w k factors rates);
+    rate = rate_entry_of (rolling_rates_after w k factors rates);
   })
-  unfolding windowValuation windowFactorsAfter windowRatesAfter
+  unfolding rolling_valuation rolling_factors_after rolling_rates_after
   window-demand3 =
-      demand3 (withDays 2 (daysHeld w) k) (within-limits w k (length factors) (length rates) none) _
-      (written-rounded (withDays 2 (daysHeld w) k) v (windowFactorsAfter w k factors rates) (drop 240 factors)
-      (windowRatesAfter w k factors rates) (drop 240 rates) (rw none at (sym e)) (rw none) (rw none))
+      demand3 (with_days 2 (days_held w) k) (within-limits w k (length factors) (length rates) none) _
+      (written-rounded (with_days 2 (days_held w) k) v (rolling_factors_after w k factors rates) (drop 240 factors)
+      (rolling_rates_after w k factors rates) (drop 240 rates) (rw none at (sym e)) (rw none) (rw none))

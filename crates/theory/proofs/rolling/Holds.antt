@@ -13,11 +13,11 @@ use Rattle.std.proofs.lemmas.Bool.{and_from}
 use Rattle.std.specs.Cmp.{second_so}
 use Rattle.model.specs.Numbers.{table}
 use Rattle.model.specs.Case.{s}
-use Rattle.model.specs.Fields.{rightAll}
+use Rattle.model.specs.Fields.{right_all}
 use Rattle.model.specs.Layout.{day}
 use Rattle.model.specs.Refusals.{first_of}
-use Rattle.rollingmodel.specs.Rolling.{daysHeld, emptyWindow, addRefusal, dropRefusal, added, dropped, changed, addDay, dropDay}
-use Rattle.rollingmodel.specs.Rolling.{Change, add, dropOldest, change, changedBy, queue, queuedBy, HoldsAfter}
+use Rattle.rollingmodel.specs.Rolling.{days_held, empty_window, add_refusal, drop_refusal, added, dropped, changed, add_day, drop_day}
+use Rattle.rollingmodel.specs.Rolling.{Change, add, drop_oldest, change, changed_by, queue, queued_by, HoldsAfter}
 use Rattle.rollingmodel.specs.declared.RollingWindow.{RollingWindow}
 use Rattle.theory.proofs.general.Ring.{slot-less}
 use Rattle.theory.proofs.acceptance.Runs.{right-more}
@@ -34,8 +34,8 @@ added-right w new long r room good =
     record {
       count = omega arith;
       start = r.start;
-      days = ap (rightAll (day 2)) held ∙ right-more (day 2) (daysHeld w) new ∙ and_from (rightAll (day 2) (daysHeld w)) ((day 2).right new) r.days good;
-      sums = λ t l. sums_at (daysHeld w ++ (new ∷ [])) t l ∙ ap (λ days. s days (suc t)) (sym held);
+      days = ap (right_all (day 2)) held ∙ right-more (day 2) (days_held w) new ∙ and_from (right_all (day 2) (days_held w)) ((day 2).right new) r.days good;
+      sums = λ t l. sums_at (days_held w ++ (new ∷ [])) t l ∙ ap (λ days. s days (suc t)) (sym held);
     }
 
 pub dropped-right : (w : RollingWindow) → Right w → Right (dropped w)
@@ -43,23 +43,23 @@ unfolding dropped
 dropped-right w r = record {
   count = omega (arith, r.count);
   start = slot-less 70 w.start 1 (lit< tt);
-  days = ap (rightAll (day 2)) (held-dropped w) ∙ rest (daysHeld w) r.days;
-  sums = λ t l. sums_at (drop 1 (daysHeld w)) t l ∙ ap (λ days. s days (suc t)) (sym (held-dropped w));
+  days = ap (right_all (day 2)) (held-dropped w) ∙ rest (days_held w) r.days;
+  sums = λ t l. sums_at (drop 1 (days_held w)) t l ∙ ap (λ days. s days (suc t)) (sym (held-dropped w));
 }
   where
-    rest : (days : List (List ℤ)) → rightAll (day 2) days ≡ true → rightAll (day 2) (drop 1 days) ≡ true
+    rest : (days : List (List ℤ)) → right_all (day 2) days ≡ true → right_all (day 2) (drop 1 days) ≡ true
     rest [] h = refl
-    rest (first ∷ days) h = second_so ((day 2).right first) (rightAll (day 2) days) h
+    rest (first ∷ days) h = second_so ((day 2).right first) (right_all (day 2) days) h
 
 -- ---- a window that is right and holds these days
 
 pub record Holds (w : RollingWindow) (days : List (List ℤ)) : Type 0 where
   pub long : length w.rates ≡ 4200
   pub right : Right w
-  pub held : daysHeld w ≡ days
+  pub held : days_held w ≡ days
 
-empty_holds : Holds emptyWindow []
-unfolding daysHeld table s
+empty_holds : Holds empty_window []
+unfolding days_held table s
 empty_holds = record {
   long = length-replicate 4200 (pos 0);
   right = record { count = lit≤ tt; start = lit< tt; days = refl; sums = λ t l. get_or-replicate 60 t (pos 0) (pos 0) l };
@@ -72,9 +72,9 @@ module _ (w : RollingWindow) (days : List (List ℤ)) (h : Holds w days) where
 
   -- a day that finds room and is within the limits is the last of the days; any other leaves the window
   add_holds : (new : List ℤ) → Holds (change w (add new)) (queue days (add new))
-  unfolding addDay addRefusal first_of
+  unfolding add_day add_refusal first_of
   add_holds new =
-      let is : addRefusal w new ≡ cond (ltb w.count 70) (cond ((day 2).right new) 0 5) 15 = rw (facts-right w h.right) in
+      let is : add_refusal w new ≡ cond (ltb w.count 70) (cond ((day 2).right new) 0 5) 15 = rw (facts-right w h.right) in
       subst₂ (λ r n. Holds (changed r w (added w new)).window (cond (ltb n 70 && (day 2).right new) (days ++ (new ∷ [])) days)) (sym is)
       (sym count-is) (go (ltb w.count 70) ((day 2).right new) refl refl)
     where
@@ -90,10 +90,10 @@ module _ (w : RollingWindow) (days : List (List ℤ)) (h : Holds w days) where
             held = held-added w new h.long room (day-whole new f) ∙ ap (λ ds. ds ++ (new ∷ [])) h.held;
           }
 
-  drop-holds : Holds (change w dropOldest) (queue days dropOldest)
-  unfolding dropDay dropRefusal dropped first_of
+  drop-holds : Holds (change w drop_oldest) (queue days drop_oldest)
+  unfolding drop_day drop_refusal dropped first_of
   drop-holds =
-      let is : dropRefusal w ≡ cond (ltb 0 w.count) 0 16 = rw (facts-right w h.right) in
+      let is : drop_refusal w ≡ cond (ltb 0 w.count) 0 16 = rw (facts-right w h.right) in
       subst (λ r. Holds (changed r w (dropped w)).window (drop 1 days)) (sym is) (go (ltb 0 w.count) refl)
     where
       go : (some : Bool) → ltb 0 w.count ≡ some → Holds (changed (cond some 0 16) w (dropped w)).window (drop 1 days)
@@ -105,20 +105,20 @@ module _ (w : RollingWindow) (days : List (List ℤ)) (h : Holds w days) where
 
   change-holds : (c : Change) → Holds (change w c) (queue days c)
   change-holds (add new) = add_holds new
-  change-holds dropOldest = drop-holds
+  change-holds drop_oldest = drop-holds
 
 -- ---- after every list of changes
 
-pub changes-hold : (cs : List Change) (w : RollingWindow) (days : List (List ℤ)) → Holds w days → Holds (changedBy w cs) (queuedBy days cs)
-unfolding changedBy queuedBy
+pub changes-hold : (cs : List Change) (w : RollingWindow) (days : List (List ℤ)) → Holds w days → Holds (changed_by w cs) (queued_by days cs)
+unfolding changed_by queued_by
 changes-hold [] w days h = h
 changes-hold (c ∷ cs) w days h = changes-hold cs (change w c) (queue days c) (change-holds w days h c)
 
 pub holds_after : (cs : List Change) → HoldsAfter cs
 holds_after cs =
-    let h = changes-hold cs emptyWindow [] empty_holds in
+    let h = changes-hold cs empty_window [] empty_holds in
     record {
       days = h.held;
       sums = λ t l. h.right.sums t l ∙ ap (λ ds. s ds (suc t)) h.held;
-      right = facts-right (changedBy emptyWindow cs) h.right;
+      right = facts-right (changed_by empty_window cs) h.right;
     }

@@ -14,15 +14,15 @@ use Rattle.std.proofs.lemmas.Bool.{and_from}
 use Rattle.std.specs.Cmp.{first_so, second_so}
 use Rattle.model.specs.Numbers.{every}
 use Rattle.model.specs.Case.{s}
-use Rattle.model.specs.Fields.{rightAll}
-use Rattle.model.specs.Layout.{dailyRate, day}
-use Rattle.rollingmodel.specs.Rolling.{daysHeld, sumsOf, equalZ, windowRight}
+use Rattle.model.specs.Fields.{right_all}
+use Rattle.model.specs.Layout.{daily_rate, day}
+use Rattle.rollingmodel.specs.Rolling.{days_held, sums_of, equal_z, rolling_right}
 use Rattle.rollingmodel.specs.declared.RollingWindow.{RollingWindow}
-use Rattle.theory.proofs.general.Lists.{every-at, every-all, getD-table}
+use Rattle.theory.proofs.general.Lists.{every-at, every-all, get_or-table}
 
 -- ---- a test of two integers, both ways
 
-pub equal-true : (y z : ℤ) → equalZ y z ≡ true → y ≡ z
+pub equal-true : (y z : ℤ) → equal_z y z ≡ true → y ≡ z
 equal-true (pos a) (pos b) h =
     ap pos (le_antisymm (leb-true a b (first_so (leb a b) (leb b a) h)) (leb-true b a (second_so (leb a b) (leb b a) h)))
 equal-true (pos a) (negsuc b) h = absurd (subst T (sym h) tt)
@@ -30,8 +30,8 @@ equal-true (negsuc a) (pos b) h = absurd (subst T (sym h) tt)
 equal-true (negsuc a) (negsuc b) h =
     ap negsuc (le_antisymm (leb-true a b (second_so (leb b a) (leb a b) h)) (leb-true b a (first_so (leb b a) (leb a b) h)))
 
-pub equal-test : (y z : ℤ) → y ≡ z → equalZ y z ≡ true
-equal-test y z e = subst (λ x. equalZ y x ≡ true) e (and_from (le_z y y) (le_z y y) (self y) (self y))
+pub equal-test : (y z : ℤ) → y ≡ z → equal_z y z ≡ true
+equal-test y z e = subst (λ x. equal_z y x ≡ true) e (and_from (le_z y y) (le_z y y) (self y) (self y))
   where
     self : (z : ℤ) → le_z z z ≡ true
     self (pos a) = le-leb a a (omega arith)
@@ -41,19 +41,19 @@ equal-test y z e = subst (λ x. equalZ y x ≡ true) e (and_from (le_z y y) (le_
 
 -- a day within the limits has 60 rates
 pub day-whole : (new : List ℤ) → (day 2).right new ≡ true → length new ≡ 60
-day-whole new h = eqb-true (length new) 60 (first_so (eqb (length new) 60) (rightAll (dailyRate 2) new) h)
+day-whole new h = eqb-true (length new) 60 (first_so (eqb (length new) 60) (right_all (daily_rate 2) new) h)
 
-pub sums_at : (days : List (List ℤ)) (t : ℕ) → t < 60 → get_or (sumsOf days) t (pos 0) ≡ s days (suc t)
-unfolding sumsOf
-sums_at days t h = getD-table (λ i. s days (suc i)) 60 t (pos 0) h
+pub sums_at : (days : List (List ℤ)) (t : ℕ) → t < 60 → get_or (sums_of days) t (pos 0) ≡ s days (suc t)
+unfolding sums_of
+sums_at days t h = get_or-table (λ i. s days (suc i)) 60 t (pos 0) h
 
 -- ---- a window, both ways
 
 pub record Right (w : RollingWindow) : Type 0 where
   pub count : w.count ≤ 70
   pub start : w.start < 70
-  pub days : rightAll (day 2) (daysHeld w) ≡ true
-  pub sums : (t : ℕ) → t < 60 → get_or w.sums t (pos 0) ≡ s (daysHeld w) (suc t)
+  pub days : right_all (day 2) (days_held w) ≡ true
+  pub sums : (t : ℕ) → t < 60 → get_or w.sums t (pos 0) ≡ s (days_held w) (suc t)
 
 module _ (w : RollingWindow) where
   -- the stored sum of term t + 1 and that of the days held
@@ -61,30 +61,30 @@ module _ (w : RollingWindow) where
   stored t = get_or w.sums t (pos 0)
 
   abbrev summed : ℕ → ℤ
-  summed t = s (daysHeld w) (suc t)
+  summed t = s (days_held w) (suc t)
 
-  abbrev sumsRight : Bool
-  sumsRight = every (λ t. equalZ (stored t) (summed t)) 60
+  abbrev sums_right : Bool
+  sums_right = every (λ t. equal_z (stored t) (summed t)) 60
 
-  pub right-facts : windowRight w ≡ true → Right w
-  unfolding windowRight
+  pub right-facts : rolling_right w ≡ true → Right w
+  unfolding rolling_right
   right-facts h =
       let c = leb w.count 70 in
       let p = ltb w.start 70 in
-      let d = rightAll (day 2) (daysHeld w) in
-      let front = first_so (c && p && d) sumsRight h in
+      let d = right_all (day 2) (days_held w) in
+      let front = first_so (c && p && d) sums_right h in
       let place = first_so (c && p) d front in
       record {
         count = leb-true w.count 70 (first_so c p place);
         start = ltb-true w.start 70 (second_so c p place);
         days = second_so (c && p) d front;
         sums = λ t l.
-            equal-true (stored t) (summed t) (every-at (λ i. equalZ (stored i) (summed i)) 60 t (second_so (c && p && d) sumsRight h) l);
+            equal-true (stored t) (summed t) (every-at (λ i. equal_z (stored i) (summed i)) 60 t (second_so (c && p && d) sums_right h) l);
       }
 
-  pub facts-right : Right w → windowRight w ≡ true
-  unfolding windowRight
+  pub facts-right : Right w → rolling_right w ≡ true
+  unfolding rolling_right
   facts-right r =
       rw (le-leb w.count 70 r.count, lt-ltb w.start 70 r.start, r.days)
-      (every-all (λ i. equalZ (stored i) (summed i)) 60
+      (every-all (λ i. equal_z (stored i) (summed i)) 60
       (λ t l. equal-test (stored t) (summed t) (r.sums t l)))

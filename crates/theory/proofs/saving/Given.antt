@@ -8,18 +8,18 @@ use borrow.Author.Tests.{eq-eqb}
 use lib.ListN.{length, get_or, length-append}
 use lib.Seq.{take_at, drop_at}
 use lib.IntN.{ℤ}
-use Rattle.model.specs.Case.{FileCase, withDays}
+use Rattle.model.specs.Case.{FileCase, with_days}
 use Rattle.model.specs.Limits.{WithinLimits}
-use Rattle.savingmodel.specs.Saving.{daysIn, daysOf, given}
+use Rattle.savingmodel.specs.Saving.{days_in, days_of, given}
 use Rattle.model.specs.declared.case.CaseFields.{CaseFields}
 
 -- the days one after another, and the fields that are no lists
-abbrev pub ratesIn : List (List ℤ) → List ℤ
-ratesIn [] = []
-ratesIn (day ∷ days) = day ++ ratesIn days
+abbrev pub rates_in : List (List ℤ) → List ℤ
+rates_in [] = []
+rates_in (day ∷ days) = day ++ rates_in days
 
-abbrev pub fieldsIn : FileCase → CaseFields
-fieldsIn k = record { rate_bytes = k.rateBytes; ufr = k.ufr; amounts = k.amounts; shocks = k.shocks; people = k.people }
+abbrev pub fields_in : FileCase → CaseFields
+fields_in k = record { rate_bytes = k.rate_bytes; ufr = k.ufr; amounts = k.amounts; shocks = k.shocks; people = k.people }
 
 -- each day has 60 rates
 abbrev Whole : List (List ℤ) → Type 0
@@ -28,25 +28,25 @@ Whole days = (d : ℕ) → d < length days → length (get_or days d []) ≡ 60
 later : (day : List ℤ) (days : List (List ℤ)) → Whole (day ∷ days) → Whole days
 later day days h d l = h (suc d) (omega arith)
 
-rates-length : (days : List (List ℤ)) → Whole days → length (ratesIn days) ≡ 60 * length days
+rates-length : (days : List (List ℤ)) → Whole days → length (rates_in days) ≡ 60 * length days
 rates-length [] h = refl
 rates-length (day ∷ days) h =
-    length-append day (ratesIn days) ∙ omega (arith, h 0 (omega arith), rates-length days (later day days h))
+    length-append day (rates_in days) ∙ omega (arith, h 0 (omega arith), rates-length days (later day days h))
 
-days-back : (days : List (List ℤ)) → Whole days → daysIn (length days) (ratesIn days) ≡ days
+days-back : (days : List (List ℤ)) → Whole days → days_in (length days) (rates_in days) ≡ days
 days-back [] h = refl
 days-back (day ∷ days) h =
     let long : length day ≡ 60 = h 0 (omega arith) in
-    ap₂ (λ (d : List ℤ) (ds : List (List ℤ)). d ∷ ds) (take_at day (ratesIn days) 60 long)
-    (ap (daysIn (length days)) (drop_at day (ratesIn days) 60 long) ∙ days-back days (later day days h))
+    ap₂ (λ (d : List ℤ) (ds : List (List ℤ)). d ∷ ds) (take_at day (rates_in days) 60 long)
+    (ap (days_in (length days)) (drop_at day (rates_in days) 60 long) ∙ days-back days (later day days h))
 
-pub days-given : (days : List (List ℤ)) → Whole days → daysOf (ratesIn days) ≡ days
-unfolding daysOf
+pub days-given : (days : List (List ℤ)) → Whole days → days_of (rates_in days) ≡ days
+unfolding days_of
 days-given days h =
     let long = rates-length days h in
-    let none : length (ratesIn days) % 60 ≡ 0 = omega (arith, long) in
-    let count : length (ratesIn days) / 60 ≡ length days = omega (arith, long) in
-    rw (eq-eqb (length (ratesIn days) % 60) 0 none, count) (days-back days h)
+    let none : length (rates_in days) % 60 ≡ 0 = omega (arith, long) in
+    let count : length (rates_in days) / 60 ≡ length days = omega (arith, long) in
+    rw (eq-eqb (length (rates_in days) % 60) 0 none, count) (days-back days h)
 
-pub case-given : (k : FileCase) → WithinLimits k → given (fieldsIn k) (ratesIn k.days) k.pension k.bonds ≡ k
-case-given k w = ap (λ (days : List (List ℤ)). withDays k.rateBytes days k) (days-given k.days (λ d l. (w.days.each d l).terms))
+pub case-given : (k : FileCase) → WithinLimits k → given (fields_in k) (rates_in k.days) k.pension k.bonds ≡ k
+case-given k w = ap (λ (days : List (List ℤ)). with_days k.rate_bytes days k) (days-given k.days (λ d l. (w.days.each d l).terms))

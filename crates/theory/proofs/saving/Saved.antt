@@ -10,17 +10,17 @@ use borrow.Author.Tests.{eqb-true, ltb-true, ltb-false, le-leb, lt-leb, leb-true
 use lib.Dec.{T, leb, ltb, eqb, lit<}
 use lib.ListN.{length, get_or, length-append}
 use Rattle.std.specs.Cmp.{first_so, second_so}
-use Rattle.model.specs.Constants.{defaultUfr}
+use Rattle.model.specs.Constants.{default_ufr}
 use Rattle.model.specs.Numbers.{bytes_of}
-use Rattle.model.specs.Case.{FileCase, knownForm, perStep}
+use Rattle.model.specs.Case.{FileCase, known_form, per_step}
 use Rattle.model.specs.Limits.{WithinLimits}
 use Rattle.model.specs.Fields.{Check, Field, number_of, field, counted, optional}
-use Rattle.model.specs.Layout.{flow, amountsFrom, amountsInOrder, amounts, noAmounts, shocks, people, Present, mapOf, firstFields, layout}
-use Rattle.model.specs.Layout.{daysIf, parts_of}
-use Rattle.model.specs.Layout.{fileOf, case_of, Agrees, Keeps}
-use Rattle.model.specs.inner.Positions.{ufrField, daysField, pensionField, bondsField, amountsField}
+use Rattle.model.specs.Layout.{flow, amounts_from, amounts_in_order, amounts, no_amounts, shocks, people, Present, map_of, first_fields, layout}
+use Rattle.model.specs.Layout.{days_if, parts_of}
+use Rattle.model.specs.Layout.{file_of, case_of, Agrees, Keeps}
+use Rattle.model.specs.inner.Positions.{ufr_field, days_field, pension_field, bonds_field, amounts_field}
 use Rattle.model.specs.Refusals.{first_of, refusal}
-use Rattle.savingmodel.specs.Saving.{allZero, needed, shortest, caseChecks, caseRefusal, saveRefusal}
+use Rattle.savingmodel.specs.Saving.{all_zero, needed, shortest, case_checks, case_refusal, save_refusal}
 use Rattle.theory.proofs.general.Lists.{◌also◌}
 use Rattle.theory.proofs.acceptance.Checks.{numbered, numbered-append, hold-append, hold-parts, none-hold, hold-none, after_none, after-some}
 use Rattle.theory.proofs.acceptance.Checks.{below-append, below-if, first_below}
@@ -30,12 +30,12 @@ use Rattle.theory.proofs.acceptance.Acceptance.{sixth, forwards-within, keeps-ac
 
 -- ---- the fields that are left out
 
-zero-at : (vs : List ℕ) → allZero vs ≡ true → (i : ℕ) → get_or vs i 0 ≡ 0
+zero-at : (vs : List ℕ) → all_zero vs ≡ true → (i : ℕ) → get_or vs i 0 ≡ 0
 zero-at [] h i = refl
-zero-at (v ∷ vs) h zero = eqb-true v 0 (first_so (eqb v 0) (allZero vs) h)
-zero-at (v ∷ vs) h (suc i) = zero-at vs (second_so (eqb v 0) (allZero vs) h) i
+zero-at (v ∷ vs) h zero = eqb-true v 0 (first_so (eqb v 0) (all_zero vs) h)
+zero-at (v ∷ vs) h (suc i) = zero-at vs (second_so (eqb v 0) (all_zero vs) h) i
 
-no-amounts : (vs : List ℕ) → allZero vs ≡ true → amountsFrom vs ≡ noAmounts
+no-amounts : (vs : List ℕ) → all_zero vs ≡ true → amounts_from vs ≡ no_amounts
 no-amounts vs h =
     let z = zero-at vs h in
     rw (z 0, z 1, z 2, z 3, z 4, z 5, z 6, z 7)
@@ -47,50 +47,50 @@ no-entry (v ∷ vs) h = let never : ⊥ = omega (arith, ltb-false 0 (suc (length
 -- a field that is left out is one whose value a file without it has
 pub agrees-needed : (k : FileCase) → Agrees (needed k) k
 agrees-needed k = record {
-  ufrAbsent = λ e. eqb-true k.ufr defaultUfr (not-false (eqb k.ufr defaultUfr) e);
-  bondsAbsent = no-entry k.bonds;
-  bondsThere = ltb-true 0 (length k.bonds);
-  amountsAbsent = λ e. no-amounts (amountsInOrder k.amounts) (not-false (allZero (amountsInOrder k.amounts)) e);
+  ufr_absent = λ e. eqb-true k.ufr default_ufr (not-false (eqb k.ufr default_ufr) e);
+  bonds_absent = no-entry k.bonds;
+  bonds_there = ltb-true 0 (length k.bonds);
+  amounts_absent = λ e. no-amounts (amounts_in_order k.amounts) (not-false (all_zero (amounts_in_order k.amounts)) e);
 }
 
 -- ---- "a case outside the limits gets document 01's number"
 
 module _ (k : FileCase) where
   -- "3" of the form, then the fields, then 6
-  abbrev formCheck : List Check
-  formCheck = (knownForm k.rateBytes, 3) ∷ []
+  abbrev form_check : List Check
+  form_check = (known_form k.rate_bytes, 3) ∷ []
 
-  abbrev fieldChecks : List Check
-  fieldChecks = (layout k.rateBytes (needed k)).limits (parts_of k)
+  abbrev field_checks : List Check
+  field_checks = (layout k.rate_bytes (needed k)).limits (parts_of k)
 
   -- no check of a case has the number 0
-  pub case-numbered : T (numbered (caseChecks k))
-  unfolding caseChecks
-  case-numbered = numbered-append fieldChecks (sixth k) ((layout-limited k.rateBytes (needed k)).counts (parts_of k)) tt
+  pub case-numbered : T (numbered (case_checks k))
+  unfolding case_checks
+  case-numbered = numbered-append field_checks (sixth k) ((layout-limited k.rate_bytes (needed k)).counts (parts_of k)) tt
 
   -- a case is accepted exactly when it is within the limits
-  pub case-accepted : WithinLimits k → caseRefusal k ≡ 0
-  unfolding caseRefusal caseChecks
+  pub case-accepted : WithinLimits k → case_refusal k ≡ 0
+  unfolding case_refusal case_checks
   case-accepted w =
-      let within : PartsWithin k.rateBytes (needed k) (parts_of k) = limits-parts (needed k) k w (agrees-needed k) in
-      let limited : PartsLimited k.rateBytes (needed k) (parts_of k) = search in
-      let six = forwards-test (perStep k) k.days (forwards-within k w) in
-      hold-none (caseChecks k)
-      (w.form also hold-append fieldChecks (sixth k) ((layout-limited k.rateBytes (needed k)).tested (parts_of k) limited) (six also tt))
+      let within : PartsWithin k.rate_bytes (needed k) (parts_of k) = limits-parts (needed k) k w (agrees-needed k) in
+      let limited : PartsLimited k.rate_bytes (needed k) (parts_of k) = search in
+      let six = forwards-test (per_step k) k.days (forwards-within k w) in
+      hold-none (case_checks k)
+      (w.form also hold-append field_checks (sixth k) ((layout-limited k.rate_bytes (needed k)).tested (parts_of k) limited) (six also tt))
 
-  pub case-within : caseRefusal k ≡ 0 → WithinLimits k
-  unfolding caseRefusal caseChecks
+  pub case-within : case_refusal k ≡ 0 → WithinLimits k
+  unfolding case_refusal case_checks
   case-within h =
-      let (known, checked) = none-hold (caseChecks k) case-numbered h in
-      let (fields, six) = hold-parts fieldChecks (sixth k) checked in
-      let ((u, (d, (m, (b, (a, s))))), l) = (layout-limited k.rateBytes (needed k)).within (parts_of k) fields in
+      let (known, checked) = none-hold (case_checks k) case-numbered h in
+      let (fields, six) = hold-parts field_checks (sixth k) checked in
+      let ((u, (d, (m, (b, (a, s))))), l) = (layout-limited k.rate_bytes (needed k)).within (parts_of k) fields in
       let agrees = agrees-needed k in
-      let within : PartsWithin k.rateBytes (needed k) (parts_of k) =
-      (((u, agrees.ufrAbsent), ((d, none_in 2), (m, ((b, agrees.bondsAbsent), ((a, agrees.amountsAbsent), s))))), (l, none_in 4)) in
-      (parts-limits (needed k) k known within (forwards-true (perStep k) k.days six.0)).0
+      let within : PartsWithin k.rate_bytes (needed k) (parts_of k) =
+      (((u, agrees.ufr_absent), ((d, none_in 2), (m, ((b, agrees.bonds_absent), ((a, agrees.amounts_absent), s))))), (l, none_in 4)) in
+      (parts-limits (needed k) k known within (forwards-true (per_step k) k.days six.0)).0
     where
       -- the other days field has no days
-      none_in : (w : ℕ) → eqb k.rateBytes w ≡ false → daysIf w k ≡ []
+      none_in : (w : ℕ) → eqb k.rate_bytes w ≡ false → days_if w k ≡ []
       none_in w e = ap (λ (b : Bool). cond b k.days []) e
 
 -- ---- the saved bytes
@@ -119,32 +119,32 @@ fewer f absent v true true h = omega arith
 fewer f absent v true false h = absurd (subst T (h refl) tt)
 
 -- the bytes of the three optional fields, and all others
-abbrev pub optionalBytes : Present → FileCase → ℕ
-optionalBytes p k =
-    length ((ufrField p).bytes k.ufr) + length ((bondsField p).bytes k.bonds) + length ((amountsField p).bytes k.amounts)
+abbrev pub optional_bytes : Present → FileCase → ℕ
+optional_bytes p k =
+    length ((ufr_field p).bytes k.ufr) + length ((bonds_field p).bytes k.bonds) + length ((amounts_field p).bytes k.amounts)
 
-abbrev pub otherBytes : FileCase → ℕ
-otherBytes k =
-    2 + length ((daysField 2 k.rateBytes).bytes (daysIf 2 k)) + length (pensionField.bytes k.pension) + length (shocks.bytes k.shocks)
-    + length (people.bytes k.people) + length ((daysField 4 k.rateBytes).bytes (daysIf 4 k))
+abbrev pub other_bytes : FileCase → ℕ
+other_bytes k =
+    2 + length ((days_field 2 k.rate_bytes).bytes (days_if 2 k)) + length (pension_field.bytes k.pension) + length (shocks.bytes k.shocks)
+    + length (people.bytes k.people) + length ((days_field 4 k.rate_bytes).bytes (days_if 4 k))
 
-pub file-length : (p : Present) (k : FileCase) → length (fileOf p k) ≡ optionalBytes p k + otherBytes k
-unfolding fileOf
+pub file-length : (p : Present) (k : FileCase) → length (file_of p k) ≡ optional_bytes p k + other_bytes k
+unfolding file_of
 file-length p k =
-    let w = k.rateBytes in
-    let u = (ufrField p).bytes k.ufr in
-    let d = (daysField 2 w).bytes (daysIf 2 k) in
-    let m = pensionField.bytes k.pension in
-    let b = (bondsField p).bytes k.bonds in
-    let a = (amountsField p).bytes k.amounts in
+    let w = k.rate_bytes in
+    let u = (ufr_field p).bytes k.ufr in
+    let d = (days_field 2 w).bytes (days_if 2 k) in
+    let m = pension_field.bytes k.pension in
+    let b = (bonds_field p).bytes k.bonds in
+    let a = (amounts_field p).bytes k.amounts in
     let s = shocks.bytes k.shocks in
     let h = people.bytes k.people in
-    let l = (daysField 4 w).bytes (daysIf 4 k) in
+    let l = (days_field 4 w).bytes (days_if 4 k) in
     let first = u ++ (d ++ (m ++ (b ++ (a ++ (s ++ h))))) in
     omega (
       arith,
-      length-append (bytes_of 2 (mapOf w p)) (first ++ l),
-      length-bytes 2 (mapOf w p),
+      length-append (bytes_of 2 (map_of w p)) (first ++ l),
+      length-bytes 2 (map_of w p),
       length-append first l,
       length-append u (d ++ (m ++ (b ++ (a ++ (s ++ h))))),
       length-append d (m ++ (b ++ (a ++ (s ++ h)))),
@@ -162,26 +162,26 @@ saved-shortest file x =
     let k = x.held in
     let q = needed k in
     let a = x.agrees in
-    let u = fewer (field 9 (number_of 2 0 5000)) defaultUfr k.ufr q.ufr p.ufr (λ e. rw (a.ufrAbsent e)) in
-    let b = fewer (counted 60 7 8 flow) [] k.bonds q.bonds p.bonds (λ e. rw (a.bondsAbsent e)) in
-    let m = fewer (field 10 amounts) noAmounts k.amounts q.amounts p.amounts (λ e. rw (a.amountsAbsent e)) in
+    let u = fewer (field 9 (number_of 2 0 5000)) default_ufr k.ufr q.ufr p.ufr (λ e. rw (a.ufr_absent e)) in
+    let b = fewer (counted 60 7 8 flow) [] k.bonds q.bonds p.bonds (λ e. rw (a.bonds_absent e)) in
+    let m = fewer (field 10 amounts) no_amounts k.amounts q.amounts p.amounts (λ e. rw (a.amounts_absent e)) in
     omega (arith, file-length q k, ap length x.bytes ∙ file-length p k, u, b, m)
 
 -- ---- "then 14 when the lent buffer is shorter than the bytes needed"
 
 -- no check of a case has the number 14
-under-fourteen : (k : FileCase) → caseRefusal k < 14
-unfolding caseRefusal caseChecks
+under-fourteen : (k : FileCase) → case_refusal k < 14
+unfolding case_refusal case_checks
 under-fourteen k =
-    let w = k.rateBytes in
+    let w = k.rate_bytes in
     let p = needed k in
-    first_below 14 (caseChecks k) (lit< tt)
+    first_below 14 (case_checks k) (lit< tt)
     (below-append 14 ((layout w p).limits (parts_of k)) (sixth k)
-    (below-append 14 ((firstFields w p).limits (parts_of k).0) ((daysField 4 w).limits (daysIf 4 k))
-    (below-append 14 ((ufrField p).limits k.ufr) _ (below-if 14 p.ufr _ tt)
-    (below-append 14 ((daysField 2 w).limits (daysIf 2 k)) _ (below-if 14 (eqb w 2) _ tt)
-    (below-append 14 (pensionField.limits k.pension ++ (bondsField p).limits k.bonds) _ (below-if 14 p.bonds _ tt)
-    (below-append 14 ((amountsField p).limits k.amounts) _ (below-if 14 p.amounts _ tt) tt))))
+    (below-append 14 ((first_fields w p).limits (parts_of k).0) ((days_field 4 w).limits (days_if 4 k))
+    (below-append 14 ((ufr_field p).limits k.ufr) _ (below-if 14 p.ufr _ tt)
+    (below-append 14 ((days_field 2 w).limits (days_if 2 k)) _ (below-if 14 (eqb w 2) _ tt)
+    (below-append 14 (pension_field.limits k.pension ++ (bonds_field p).limits k.bonds) _ (below-if 14 p.bonds _ tt)
+    (below-append 14 ((amounts_field p).limits k.amounts) _ (below-if 14 p.amounts _ tt) tt))))
     (below-if 14 (eqb w 4) _ tt))
     tt)
 
@@ -190,26 +190,26 @@ module _ (k : FileCase) (room : ℕ) where
   room_check = (leb (length (shortest k)) room, 14) ∷ []
 
   -- a case outside the limits has its own number, whatever the buffer
-  pub refused-first : (r : ℕ) → caseRefusal k ≡ suc r → saveRefusal k room ≡ suc r
-  unfolding caseRefusal saveRefusal
-  refused-first r h = after-some (caseChecks k) room_check r h
+  pub refused-first : (r : ℕ) → case_refusal k ≡ suc r → save_refusal k room ≡ suc r
+  unfolding case_refusal save_refusal
+  refused-first r h = after-some (case_checks k) room_check r h
 
   -- any other case is saved where the buffer is long enough, and else gets 14
-  pub saved-fits : WithinLimits k → length (shortest k) ≤ room → saveRefusal k room ≡ 0
-  unfolding caseRefusal saveRefusal first_of
+  pub saved-fits : WithinLimits k → length (shortest k) ≤ room → save_refusal k room ≡ 0
+  unfolding case_refusal save_refusal first_of
   saved-fits w h =
-      after_none (caseChecks k) room_check (case-numbered k) (case-accepted k w) ∙ rw (le-leb (length (shortest k)) room h)
+      after_none (case_checks k) room_check (case-numbered k) (case-accepted k w) ∙ rw (le-leb (length (shortest k)) room h)
 
-  pub saved-too-long : WithinLimits k → room < length (shortest k) → saveRefusal k room ≡ 14
-  unfolding caseRefusal saveRefusal first_of
+  pub saved-too-long : WithinLimits k → room < length (shortest k) → save_refusal k room ≡ 14
+  unfolding case_refusal save_refusal first_of
   saved-too-long w h =
-      after_none (caseChecks k) room_check (case-numbered k) (case-accepted k w) ∙ rw (lt-leb (length (shortest k)) room h)
+      after_none (case_checks k) room_check (case-numbered k) (case-accepted k w) ∙ rw (lt-leb (length (shortest k)) room h)
 
   -- and 14 is given nowhere else
-  pub fourteen-only : saveRefusal k room ≡ 14 → WithinLimits k × (room < length (shortest k))
-  fourteen-only h = by (caseRefusal k) refl (leb (length (shortest k)) room) refl
+  pub fourteen-only : save_refusal k room ≡ 14 → WithinLimits k × (room < length (shortest k))
+  fourteen-only h = by (case_refusal k) refl (leb (length (shortest k)) room) refl
     where
-      by : (r : ℕ) → caseRefusal k ≡ r → (b : Bool) → leb (length (shortest k)) room ≡ b → WithinLimits k × (room < length (shortest k))
+      by : (r : ℕ) → case_refusal k ≡ r → (b : Bool) → leb (length (shortest k)) room ≡ b → WithinLimits k × (room < length (shortest k))
       by (suc r) e b f = let never : ⊥ = omega (arith, under-fourteen k, refused-first r e) in absurd never
       by zero e false f = (case-within k e, leb-false (length (shortest k)) room f)
       by zero e true f =

@@ -4,7 +4,7 @@ use Rattle.arith.specs.Rounding.{low, high}
 use Rattle.arith.specs.declared.bracket.Bracket.{Bracket}
 use Rattle.method.specs.Rounded.{tested}
 use Rattle.searchmodel.specs.declared.StepsLeft.{StepsLeft}
-use Rattle.curves.specs.inner.ByTerm.{factorAt}
+use Rattle.curves.specs.inner.ByTerm.{factor_at}
 
 -- of a test of the zero rate
 pub record StepWithin (t i : ℕ) : Type 0 where
@@ -27,5 +27,5 @@ pub record GuessWithin (t step before factor : ℕ) : Type 0 where
 
 -- of the factors of the terms 1 to 120: the first step passes the lower test, and the last one the upper test
 pub record RatesWithin (factors : List Bracket) : Type 0 where
-  pub lower : (t : ℕ) → 1 ≤ t → t ≤ 120 → factorAt factors high t ≤ tested low t 0
-  pub upper : (t : ℕ) → 1 ≤ t → t ≤ 120 → tested high t 22000 ≤ factorAt factors low t
+  pub lower : (t : ℕ) → 1 ≤ t → t ≤ 120 → factor_at factors high t ≤ tested low t 0
+  pub upper : (t : ℕ) → 1 ≤ t → t ≤ 120 → tested high t 22000 ≤ factor_at factors low t

@@ -4,13 +4,13 @@ use Rattle.std.specs.Ordering.{is_le, is_ge}
 use Rattle.std.specs.declared.cmp.Ordering.{Ordering}
 use Rattle.arith.specs.Rounding.{End, low, high}
 use Rattle.method.specs.Rounded.{tested}
-use Rattle.searchmodel.specs.Bisection.{rateTest}
+use Rattle.searchmodel.specs.Bisection.{rate_test}
 use Rattle.arith.specs.declared.bracket.Bracket.{Bracket}
 
 -- whether step i passes document 01's test of a rate of term t. The lower rate goes by the upper factor and the upper rate by the lower, so
 -- a test has one number as its factor.
 abbrev pub passed : End → ℕ → ℕ → ℕ → Bool
-passed e t factor i = rateTest (λ e s. factor) e t i
+passed e t factor i = rate_test (λ e s. factor) e t i
 
 -- the same, by how the result compares with the factor
 abbrev pub passing : End → Ordering → Bool

@@ -2,13 +2,13 @@
 use Rattle.std.proofs.Common.{◌≡◌, ◌+◌, refl, ap, ◌∙◌, arith}
 use Rattle.std.proofs.Math.ListN.{length-set}
 use Rattle.model.specs.Numbers.{table}
-use Rattle.curves.specs.inner.Shifted.{shiftedSum}
+use Rattle.curves.specs.inner.Shifted.{shifted_sum}
 use Rattle.theory.proofs.general.Lists.{table_filled, all-filled}
 use Rattle.curves.proofs.sums.Shifting.{sum-at, all-sums}
 use Rattle.curves.proofs.sums.shifted.Goals as goal
 
 pub loop-t-init : goal.loop-t-init
-unfolding table shiftedSum
+unfolding table shifted_sum
 loop-t-init c = record { all = refl; filled = refl }
 
 pub loop-t-preserved : goal.loop-t-preserved

@@ -6,4 +6,4 @@ use Rattle.money.proofs.losses.s2.Goals as goal
 
 pub returns-clause-bound : goal.returns-clause-bound
 returns-clause-bound c =
-    thousandths-most _ _ (omega (arith, c.loss.ensures.1, c.loss-2.ensures.1, c.loss-3.ensures.1, c.loss-4.ensures.1)) c.quotient.ensures
+    thousandths-most _ _ (omega (arith, c.loss.ensures.bound, c.loss-2.ensures.bound, c.loss-3.ensures.bound, c.loss-4.ensures.bound)) c.quotient.ensures

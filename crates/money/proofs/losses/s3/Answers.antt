@@ -5,4 +5,4 @@ use Rattle.money.proofs.Products.{thousandths-most}
 use Rattle.money.proofs.losses.s3.Goals as goal
 
 pub returns-clause-bound : goal.returns-clause-bound
-returns-clause-bound c = thousandths-most _ _ (omega (arith, c.loss.ensures.1)) c.quotient.ensures
+returns-clause-bound c = thousandths-most _ _ (omega (arith, c.loss.ensures.bound)) c.quotient.ensures

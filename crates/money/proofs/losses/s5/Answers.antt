@@ -1,6 +1,6 @@
 -- `money::losses::s5` meets its contract: a quotient by 10^7 is the loss of the definition, which divides 100 times as much by 10^9.
 -- The check leaves each of these goals open without its answer.
-use Rattle.method.specs.Rounded.{creditLoss}
+use Rattle.method.specs.Rounded.{credit_loss}
 use Rattle.money.proofs.Products.{credit-both, credit-of, credit-most, up_to}
 use Rattle.money.proofs.losses.s5.Goals as goal
 
@@ -12,4 +12,4 @@ returns-clause-value c = credit-of c.args.a.now c.args.x.now _ _ c.exactly.ensur
 
 pub returns-clause-bound : goal.returns-clause-bound
 returns-clause-bound c =
-    up_to _ (creditLoss c.args.a.now c.args.x.now) (credit-of c.args.a.now c.args.x.now _ _ c.exactly.ensures c.scaled.ensures) (credit-most c.requires)
+    up_to _ (credit_loss c.args.a.now c.args.x.now) (credit-of c.args.a.now c.args.x.now _ _ c.exactly.ensures c.scaled.ensures) (credit-most c.requires)

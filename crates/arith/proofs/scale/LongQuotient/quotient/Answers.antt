@@ -1,6 +1,6 @@
 -- `arith::scale::Long` divides as its trait says, by the laws of a division by hand. Assumes nothing.
 -- The check leaves each of these goals open without its answer.
-use Rattle.std.proofs.Common.{◌∙◌, ap, ◌+◌, ℕ, arith}
+use Rattle.std.proofs.Common.{arith}
 use Rattle.arith.specs.Rounding.{low}
 use Rattle.arith.proofs.LongDivision.{quotient_is, quotient_fits}
 use Rattle.arith.proofs.scale.LongQuotient.quotient.Goals as goal

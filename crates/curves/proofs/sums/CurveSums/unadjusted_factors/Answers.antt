@@ -6,10 +6,10 @@ use Rattle.curves.proofs.UnadjustedLaws.{unadjusted-within, unadjusted-are, firs
 use Rattle.curves.proofs.sums.CurveSums.unadjusted_factors.Goals as goal
 
 pub loop-t-init : goal.loop-t-init
-loop-t-init c = record { to = omega arith; all = search rules; filled = first-terms _ _ c.requires.1 }
+loop-t-init c = record { to = omega arith; all = search rules; filled = first-terms _ _ c.requires.adjusted }
 
 pub over_years-requires : goal.over_years-requires
-over_years-requires c = unadjusted-within _ c.requires.0 _ (omega arith)
+over_years-requires c = unadjusted-within _ c.requires.sums _ (omega arith)
 
 pub loop-t-preserved : goal.loop-t-preserved
 loop-t-preserved c =

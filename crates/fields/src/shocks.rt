@@ -1,0 +1,103 @@
+// The shocks, the credit spread and the credit duration.
+#![tactic(auto, using(crate::proofs::Lengths::lengths, crate::proofs::Digits::all_right))]
+
+ghost use Rattle.std.specs.Prelude.{◌≡◌};
+ghost use Rattle.model.specs.Fields.{field};
+ghost use Rattle.model.specs.Layout.{shocks, shocks_in_order};
+
+use crate::check::check;
+use crate::cursor::Cursor;
+use crate::field::Field;
+use crate::numbers::all_at_most;
+use crate::writer::Writer;
+use model::case;
+use refusal::Refusal;
+
+// By name, as the amounts: the ten of one limit, which is all but the credit spread and the credit duration.
+pub fn shocks_in_order(x: &case::Shocks) -> [u64; 10]
+    ensures { result ≡ (shocks_in_order x.now).0 }
+{
+    [
+        x.up_shift,
+        x.down_shift,
+        x.mature_fall,
+        x.emerging_fall,
+        x.private_fall,
+        x.property_fall,
+        x.currency_fall,
+        x.commodities_fall,
+        x.spread_rise,
+        x.correlation,
+    ]
+}
+
+// Ten shocks of 0 to 1,000, a credit spread of 0 to 10,000 and a credit duration of 0 to 500.
+fn shocks_within(x: &case::Shocks) -> bool
+    ensures { result ≡ shocks.right x.now }
+{
+    all_at_most(&shocks_in_order(x), 1_000) && x.spread <= 10_000 && x.duration <= 500
+}
+
+#[derive(Drop)]
+pub struct Shocks;
+
+impl<'a> Field<'a> for Shocks {
+    type Read = case::Shocks;
+
+    type Given = case::Shocks;
+
+    type Value = case::Shocks;
+
+    ghost told = { λ _. field 11 shocks };
+
+    ghost is_read = { λ _ _ _ v x. v ≡ x };
+
+    ghost said = { λ v. v };
+
+    fn read(&self, cursor: &mut Cursor<'a>) -> Result<case::Shocks, Refusal> {
+        let [
+            up_shift,
+            down_shift,
+            mature_fall,
+            emerging_fall,
+            private_fall,
+            property_fall,
+            currency_fall,
+            commodities_fall,
+            spread_rise,
+            correlation,
+            spread,
+            duration,
+        ] = cursor.numbers::<2, 12>()?;
+        let shocks = case::Shocks {
+            up_shift,
+            down_shift,
+            mature_fall,
+            emerging_fall,
+            private_fall,
+            property_fall,
+            currency_fall,
+            commodities_fall,
+            spread_rise,
+            correlation,
+            spread,
+            duration,
+        };
+        check(shocks_within(&shocks), Refusal::Shock)?;
+        Ok(shocks)
+    }
+
+    fn check(&self, given: &case::Shocks) -> Result<(), Refusal> {
+        check(shocks_within(given), Refusal::Shock)
+    }
+
+    fn room_after(&self, _given: &case::Shocks, room: usize) -> Option<usize> {
+        room.checked_sub(24)
+    }
+
+    fn write(&self, given: &case::Shocks, out: &mut Writer<'_>) {
+        out.numbers(2, &shocks_in_order(given));
+        out.number(2, given.spread);
+        out.number(2, given.duration);
+    }
+}

@@ -1,0 +1,92 @@
+// Of each term the sum of its rates over some days.
+ghost use Rattle.std.specs.Prelude.{◌≡◌, ◌*◌, ◌≤◌, [], ◌∷◌, pos, neg_ℤ, ◌*ℤ◌, ◌+ℤ◌};
+ghost use Rattle.model.specs.Numbers.{every};
+ghost use Rattle.model.specs.Limits.{Between};
+ghost use Rattle.method.specs.Curve.{natural};
+ghost use Rattle.fields.specs.Checks.{Checked};
+ghost use Rattle.fields.specs.Sums.{Bounded, raised, difference_right, forward_right};
+
+use crate::check::check;
+use refusal::Refusal;
+
+// What a rate step adds to a sum, too.
+#[derive(Clone, Copy)]
+pub struct DaySums {
+    pub per_step: u64,
+    pub sums: [i64; 60],
+    ghost few: { per_step ≤ 7000 },
+    ghost bounded: { Bounded (10000 * per_step) sums },
+}
+
+// The days of a file: their sums, the file's bytes that hold the rates, and where these stand.
+#[derive(Clone, Copy)]
+pub struct FileDays<'a> {
+    pub summed: DaySums,
+    pub rates: &'a [u8],
+    // A host is told where its rates stand, and C has no slice of a slice: so an offset goes beside the bytes.
+    pub rates_at: usize,
+}
+
+// t × s(t). The range of a sum is told in clauses here and in the two functions below: each has another one, of a number that goes into the
+// next step.
+fn weighted(t: usize, sum: i64) -> i64
+    requires term { t ≤ 60 }
+    requires small { Between (neg_ℤ (pos 70000000)) (pos 70000000) sum }
+    ensures value { result ≡ pos t *ℤ sum }
+    ensures small { Between (neg_ℤ (pos 4200000000)) (pos 4200000000) result }
+{
+    t as i64 * sum
+}
+
+// The limits of 6, from (t - 1) × s(t-1) to t × s(t).
+fn difference_within(per_step: u64, last: i64, next: i64) -> bool
+    requires step { per_step ≤ 7000 }
+    requires last { Between (neg_ℤ (pos 4200000000)) (pos 4200000000) last }
+    requires next { Between (neg_ℤ (pos 4200000000)) (pos 4200000000) next }
+    ensures { result ≡ difference_right per_step last next }
+{
+    let step = per_step as i64;
+    let forward = next - last;
+    // By two tests: of `contains` over a range of products no proof was found.
+    -2_000 * step <= forward && forward <= 12_000 * step
+}
+
+// P(t).
+fn raised_sum(per_step: u64, sum: i64) -> u64
+    requires step { per_step ≤ 7000 }
+    requires small { Between (neg_ℤ (pos (10000 * per_step))) (pos (10000 * per_step)) sum }
+    ensures { result ≡ natural (pos (100000 * per_step) +ℤ sum) }
+{
+    (100_000 * per_step as i64 + sum) as u64
+}
+
+impl DaySums {
+    // 6: some t × s(t) - (t - 1) × s(t-1) may be out of its limits.
+    pub fn forwards_within(&self) -> Result<(), Refusal>
+        ensures { Checked ((every (forward_right self.now.per_step self.now.sums) 60, 6) ∷ []) (λ _. Unit {0}) result }
+    {
+        let mut last = 0;
+        // t is a number of the rule: the sum of term t + 1 weighs t + 1.
+        for (t, sum) in self.sums.iter().enumerate() {
+            let next = weighted(t + 1, *sum);
+            check(
+                difference_within(self.per_step, last, next),
+                Refusal::Forward,
+            )?;
+            last = next;
+        }
+        Ok(())
+    }
+
+    // P(t) of the terms 1 to 60.
+    pub fn raised(&self) -> [u64; 60]
+        ensures { result ≡ raised self.now.per_step self.now.sums }
+    {
+        let mut raised = [0; 60];
+        // By an index: of `map` the check does not find alone that its closure may be called at each sum, nor what the calls give.
+        for (t, sum) in self.sums.iter().enumerate() {
+            raised[t] = raised_sum(self.per_step, *sum);
+        }
+        raised
+    }
+}

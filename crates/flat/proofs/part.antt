@@ -1,0 +1,2 @@
+-- The place of the part that holds the rates.
+mod Placed

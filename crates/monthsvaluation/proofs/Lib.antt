@@ -1,2 +1,0 @@
--- Answering: what is answered of the parts that were read.
-mod Answering

@@ -1,2 +1,0 @@
--- Part: the part that holds the rates, by its place.
-mod Part

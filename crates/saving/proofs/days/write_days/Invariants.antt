@@ -1,9 +1,0 @@
--- The days of a front are written.
-use Rattle.std.proofs.Common.{take}
-use Rattle.model.specs.Fields.{bytesAll}
-use Rattle.model.specs.Layout.{day}
-use Rattle.saving.specs.Wrote.{Wrote}
-use Rattle.saving.proofs.days.write_days.Given as goal
-
-abbrev pub invariant-loop-day : goal.invariant-loop-day
-invariant-loop-day g l = Wrote l.fn.out (bytesAll (day g.F.RateForm.WIDTH) (take l.day-index l.held)) l.out

@@ -1,2 +1,0 @@
--- Printing: what is printed is the listing of what was read.
-mod Printing

@@ -1,2 +1,0 @@
--- Printed has to be believed: what the program prints.
-pub mod Printed

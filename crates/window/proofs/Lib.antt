@@ -1,6 +1,0 @@
--- Laws that the proofs of the functions cite, and the theorem that the window shows every factor and figure of an accepted case.
-pub mod Chunks
-pub mod Whole
-pub mod Points
-pub mod Shown
-pub mod Plain

@@ -27,7 +27,7 @@ from edits import EDITS, ROOT, edited, facts, functions_of, parts, place, read_t
 LOGS = os.path.join(ROOT, "target", "must-fail")
 COPIES = "ginghamowl-edits-"
 PART = 7  # so many edits share a copy of the crates
-NOTE = re.compile(r"note: \S+:\d+:\d+: it is not proved that .*? \(`([^`]+)`\)")
+NOTE = re.compile(r"note: \S+:\d+:\d+: (?:it is not proved that .*?|`search` found no proof) \(`([^`]+)`\)")
 TOLD = re.compile(r"fn (\S+): (.*)")
 
 

@@ -13,6 +13,10 @@ LEFT_OUT = "left out"
 
 # ---------------------------------------------------------------- what is exchanged for what
 
+# The variants of `Refusal`.
+REFUSALS = ("EndsEarly BytesFollow WrongFields DayCount Rate Forward FlowCount Flow Ufr Amount Shock People Buffers Room WindowFull WindowEmpty "
+            "History Month MonthsUfr Damaged").split()
+
 # One token for another of the same type, by the kind of the mistake.
 EXCHANGED = {
     "order": {"≤": "<", "<": "≤", "nat_le": "nat_lt", "nat_lt": "nat_le", "≤ℤ": "<ℤ", "<ℤ": "≤ℤ", "le_z": "lt_z", "lt_z": "le_z", "less": "at_most",
@@ -22,6 +26,8 @@ EXCHANGED = {
     "curve": {"base": "up", "up": "down", "down": "up"},
     "verdict": {"Dekkingstekort": "Reservetekort", "Reservetekort": "VrijVermogen", "VrijVermogen": "Onbeslist",
                 "Onbeslist": "Dekkingstekort", "Factor": "Money", "Money": "Factor"},
+    # Each for the one before, since `People` in Layout is the type.
+    "refusal": dict(zip(REFUSALS, REFUSALS[-1:] + REFUSALS)) | {"Refusal.People": "Shock"},
     "operator": {"+": "-", "-": "+", "/": "%", "%": "/", "+ᶠ": "∸ᶠ", "∸ᶠ": "+ᶠ", "*ᶠ": "÷ᶠ", "÷ᶠ": "*ᶠ", "+ℤ": "-ℤ", "-ℤ": "+ℤ"},
     "list": {"take": "drop", "drop": "take"},
     "truth": {"true": "false", "false": "true", "&&": "||"},
@@ -50,8 +56,11 @@ KIT = {
     "Rattle.std.specs.Prelude": "◌≤◌ ◌<◌ ◌+◌ ◌-◌ ◌*◌ ◌/◌ ◌%◌ min nat_le nat_lt ◌≤ℤ◌ ◌<ℤ◌ ◌+ℤ◌ ◌-ℤ◌ take drop true false ◌||◌",
     "Rattle.std.specs.Int.Signed": "le_z lt_z",
 }
-# The variants of the model's types that are exchanged, by the module of the type.
-VARIANTS = {"figures.Verdict": "Dekkingstekort Reservetekort VrijVermogen Onbeslist", "window.Point": "Factor Money"}
+# The variants that are exchanged, by the crate and the module of their type.
+VARIANTS = {
+    ("model", "figures.Verdict"): "Dekkingstekort Reservetekort VrijVermogen Onbeslist", ("model", "window.Point"): "Factor Money",
+    ("refusal", "Refusal"): " ".join(REFUSALS),
+}
 
 
 @dataclass(frozen=True)
@@ -287,8 +296,8 @@ def homes(root, paths):
         crate, stem = path.split("/")[1], os.path.basename(path)[:-len(".antt")]
         for name in defined(read(root, path)):
             found[name] = None if name in found else (crate, stem)
-    for module, variants in VARIANTS.items():
-        found.update({name: ("model", f"declared.{module}.TheVariants") for name in variants.split()})
+    for (crate, module), variants in VARIANTS.items():
+        found.update({name: (crate, f"declared.{module}.TheVariants") for name in variants.split()})
     return {name: home for name, home in found.items() if home}
 
 

@@ -25,7 +25,7 @@ refusal, since what is taken was admitted; and a survivor can be tried anew with
 
 Survivors that mean the same as the original are listed in tests/mutants_same.txt, each line KEY because REASON.
 
-The programs (ginghamowl, command, report, batch, answers, searches) are left out: no host calls them.
+The programs (ginghamowl, command, report, batch, answers, searches) and their tests (trials) are left out: no host calls them.
 """
 
 import argparse
@@ -69,7 +69,7 @@ DEFINITIONS = {
     "engine": "Guarantee",
     "flat": "Flat",
 }
-PROGRAMS = {"ginghamowl", "command", "report", "batch", "answers", "searches"}
+PROGRAMS = {"ginghamowl", "command", "report", "batch", "answers", "searches", "trials"}
 # Crates with no function, by what they hold: computed statements beside definitions, theorems, and statements that take long to compute.
 # A refusal by one of them is counted apart.
 APART = {"definitions": DEFINED, "theory": ("theory",),

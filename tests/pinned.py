@@ -29,6 +29,9 @@ from reference import (ALL_STEPS, AMOUNTS, LOWER, MONEY, SHOCKS, TESTS, UPPER, E
 ROOT = os.path.join(os.path.dirname(os.path.abspath(__file__)), "..")
 VERDICTS = {reference.DEKKINGSTEKORT: "Dekkingstekort", reference.RESERVETEKORT: "Reservetekort",
             reference.VRIJ_VERMOGEN: "VrijVermogen"}  # of the exact working
+NAMES = {1: "EndsEarly", 2: "BytesFollow", 3: "WrongFields", 4: "DayCount", 5: "Rate", 6: "Forward", 7: "FlowCount", 8: "Flow", 9: "Ufr",
+         10: "Amount", 11: "Shock", 12: "People", 13: "Buffers", 14: "Room", 15: "WindowFull", 16: "WindowEmpty", 17: "History",
+         18: "Month", 19: "MonthsUfr", 27: "Damaged"}  # of refusals, as the definitions have them
 
 WRITTEN = """\
 -- tests/pinned.py wrote this file, from an implementation in Python that was written from the papers and, for request Six, from the
@@ -115,6 +118,7 @@ use mathlib.Core.Path.{◌≡◌, refl}
 use mathlib.Core.List.{List, [], ◌∷◌}
 use lib.Dec.{lit<}
 use lib.IntN.{pos, neg_ℤ}
+use Rattle.refusal.specs.Numbered.{answer_of}
 use Rattle.arith.specs.Rounding.{low, high}
 use Rattle.method.specs.Fraction.{◌//◌, ◌≐◌}
 use Rattle.method.specs.Curve.{base, up, down, curve}
@@ -136,6 +140,7 @@ use mathlib.Core.List.{List, [], ◌∷◌, ◌++◌, map}
 use lib.ListN.{replicate}
 use lib.IntN.{pos, neg_ℤ}
 use Rattle.std.specs.Prelude.{Ok, Err}
+use Rattle.refusal.specs.declared.Refusal.TheVariants.{Forward, Room}
 use Rattle.model.specs.Case.{FileCase}
 use Rattle.savingmodel.specs.Saving.{given, case_refusal, shortest, save_refusal, save_answer, saved_after}
 use Rattle.model.specs.declared.case.Amounts.{Amounts}
@@ -173,6 +178,7 @@ use mathlib.Core.List.{List, [], ◌∷◌, ◌++◌, map}
 use lib.Dec.{ltb}
 use lib.ListN.{replicate, take, drop}
 use lib.IntN.{ℤ, pos, neg_ℤ}
+use Rattle.refusal.specs.Numbered.{answer_of}
 use Rattle.model.specs.Refusals.{first_of}
 use Rattle.savingmodel.specs.Saving.{given}
 use Rattle.rollingmodel.specs.Rolling.{
@@ -248,6 +254,8 @@ use mathlib.Core.List.{List, [], ◌∷◌, ◌++◌}
 use lib.ListN.{replicate, take, drop}
 use lib.IntN.{pos, neg_ℤ}
 use Rattle.std.specs.Prelude.{Ok, Err}
+use Rattle.refusal.specs.Numbered.{answer_of}
+use Rattle.refusal.specs.declared.Refusal.TheVariants.{History, MonthsUfr}
 use Rattle.arith.specs.Rounding.{low, high}
 use Rattle.method.specs.Buffers.{entry_of, rate_entry_of}
 use Rattle.monthsmodel.specs.Months.{months_of, oldest_first, total, ufr_refusal, ufr_answer}
@@ -306,6 +314,7 @@ use mathlib.Core.List.{List, [], ◌∷◌, ◌++◌, map}
 use lib.ListN.{replicate}
 use lib.IntN.{pos, neg_ℤ}
 use Rattle.std.specs.Prelude.{Ok, Err}
+use Rattle.refusal.specs.declared.Refusal.TheVariants.{WrongFields, Room}
 use Rattle.model.specs.Case.{FileCase}
 use Rattle.model.proofs.Computing.{pairs}
 use Rattle.model.proofs.FourByteCases.{quads, finer_file, finer_case, old_case, new_case, old_file, new_file}
@@ -322,6 +331,7 @@ use mathlib.Core.Path.{◌≡◌, refl}
 use mathlib.Core.List.{List, [], ◌∷◌}
 use lib.ListN.{replicate, take}
 use lib.IntN.{pos}
+use Rattle.refusal.specs.Numbered.{answer_of}
 use Rattle.method.specs.Listing.{listing}
 use Rattle.method.proofs.Computing.{text}
 use Rattle.model.proofs.FourByteCases.{finer_case}
@@ -354,6 +364,7 @@ use mathlib.Core.Path.{◌≡◌, refl}
 use mathlib.Core.List.{List, [], ◌∷◌, ◌++◌, map}
 use lib.ListN.{replicate}
 use lib.IntN.{pos, neg_ℤ}
+use Rattle.refusal.specs.Numbered.{answer_of}
 use Rattle.arith.specs.Rounding.{low, high}
 use Rattle.model.specs.Refusals.{refusal, rates_part}
 use Rattle.model.specs.Case.{FileCase}
@@ -689,7 +700,7 @@ def after_equation(name, given, held):
 def answer_equation(name, given, room):
     """What a call with a buffer of this length answers."""
     saved = reference.save(given, bytes(room))
-    answer = f"Err {saved.refusal}" if saved.refusal else f"Ok {saved.written}"
+    answer = f"Err {NAMES[saved.refusal]}" if saved.refusal else f"Ok {saved.written}"
     return f"save_answer {name} {room} ≡ {answer}"
 
 
@@ -974,7 +985,7 @@ def value_statements():
     short_rates, same_factors, _ = into_buffers(240, 239)
     short_factors, _, same_rates = into_buffers(239, 240)
     return [definition("flat_listing", "List String", strings(lines)),
-            computed("flat-listing", "listing (rolling_valuation flat_days small 240 240) ≡ text flat_listing"),
+            computed("flat-listing", "listing (answer_of (rolling_valuation flat_days small 240 240)) ≡ text flat_listing"),
             computed("window-factors", f"take 2 (rolling_factors_after {long}) ≡ {list_term(factors[:2])}"),
             computed("window-kept", f"drop 240 (rolling_factors_after {long}) ≡ {list_term(factors[240:])}",
                      f"drop 240 (rolling_rates_after {long}) ≡ {list_term(rates[240:], integer)}"),
@@ -1111,7 +1122,7 @@ def month_statements():
 
 def ufr_equation(history, start):
     found = months.ufr_of(history, start)
-    answer = f"Err {found.refusal}" if found.refusal else f"Ok {found.ufr}"
+    answer = f"Err {NAMES[found.refusal]}" if found.refusal else f"Ok {found.ufr}"
     return f"ufr_answer {bytes_argument(history)} {start} ≡ {answer}"
 
 
@@ -1144,7 +1155,7 @@ def months_listing(name, file):
     """What is printed of a valuation with the UFR found."""
     named = months.with_ufr_field(file, months.ufr_of(histories.FOUND, 119).ufr)
     return [definition(f"{name}_listing", "List String", strings(reference.listing(named).decode().splitlines())),
-            computed(f"{name}-listing", f"listing (months_valuation {name}_file found_history 119 240 240) ≡ text {name}_listing")]
+            computed(f"{name}-listing", f"listing (answer_of (months_valuation {name}_file found_history 119 240 240)) ≡ text {name}_listing")]
 
 
 def factor_21(name, file, start):
@@ -1295,7 +1306,7 @@ def four_window_statements():
     """The listing and the first factor of the fund with the window's days, which are two-byte days."""
     lines, into, factors, _ = finer_in_window()
     return [definition("in_window_listing", "List String", strings(lines), "The fund with the days of a window."),
-            computed("in-window-listing", "listing (rolling_valuation flat_days finer_case 240 240) ≡ text in_window_listing"),
+            computed("in-window-listing", "listing (answer_of (rolling_valuation flat_days finer_case 240 240)) ≡ text in_window_listing"),
             computed("in-window-factors", f"take 2 (rolling_factors_after {into}) ≡ {list_term(factors[:2])}")]
 
 
@@ -1393,7 +1404,7 @@ def rate_statement(name, on, rounded, t, of=("low", "high")):
 
 def listing_statement(name, data):
     return [definition(f"{name}_listing", "List String", strings(reference.listing(data).decode().splitlines())),
-            computed(f"{name}-listing", f"listing (valuation_of 240 240 {name}_file) ≡ text {name}_listing")]
+            computed(f"{name}-listing", f"listing (answer_of (valuation_of 240 240 {name}_file)) ≡ text {name}_listing")]
 
 
 def shifted_figures():

@@ -85,6 +85,7 @@ LOG = """\
 ./proofs/years/+take/Answers.antt:3:5: error: `returns-then`: the two types differ
 ./proofs/Worked.antt:9:1: error: `c5-factor`: expected type
 note: src/rates.rt:9:1: it is not proved that the sum fits its type (`sum-a`); the facts known there allow values at which this goal is false
+note: src/rates.rt:9:7: `search` found no proof (`bounds-a`); `search` gave up at one of its limits
 fn k::rates::add_day: not proved
 fn k::rates::sum_days: proved
 fn k::roots::roots: no proof: expected answers in ./proofs/roots/roots/Answers.antt; `search` did not prove `mul-lower`, `returns`
@@ -102,7 +103,7 @@ class Logs(unittest.TestCase):
         self.assertEqual(self.silent("A slip: `returns` of rates::add_day no longer holds."), ["returns of rates::add_day"])
 
     def test_a_goal_that_the_answers_leave_out(self):
-        self.assertEqual(self.silent("A slip: `sum-a` of rates::add_day no longer holds."), [])
+        self.assertEqual(self.silent("A slip: `sum-a` and `bounds-a` of rates::add_day no longer hold."), [])
         self.assertEqual(self.silent("A slip: `sum-a` of rates::sum_days no longer holds."), ["sum-a of rates::sum_days"])
 
     def test_a_function_without_a_proof_file(self):

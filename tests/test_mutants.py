@@ -159,6 +159,10 @@ class OfCode(unittest.TestCase):
         self.assertFalse({m.path.split("/")[1] for m in made} & mutants.PROGRAMS)
         self.assertEqual(len({m.key for m in made}), len(made))
 
+    def test_no_crate_needs_one_that_is_left_out(self):
+        for name, below in mutants.crates(mutants.ROOT).items():
+            self.assertFalse(mutants.PROGRAMS & set(below), name)
+
 
 SAID = '''\
 /t/crates/model/proofs/Worked.antt:150:14: error: `c1-listing`: the two types differ

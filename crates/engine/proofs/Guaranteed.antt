@@ -1,10 +1,8 @@
 -- What specs/Guarantee.antt says, of every list of bytes and all buffers.
 -- Assumes nothing.
-use Prim.Native.Nat.{ℕ, zero, suc, ◌+◌, ◌*◌, ◌≤◌, ◌<◌}
+use Prim.Native.Nat.{ℕ, suc, ◌+◌, ◌*◌, ◌≤◌, ◌<◌}
 use mathlib.Core.Path.{◌≡◌, refl, sym, ◌∙◌}
-use mathlib.Core.Bool.{Bool, true, false, ◌&&◌}
-use mathlib.Core.List.{List, ◌∷◌, ◌++◌}
-use native.Mathlib.Omega.{arith}
+use mathlib.Core.List.{List, ◌++◌}
 use borrow.Author.Tests.{leb-true}
 use lib.Dec.{leb}
 use lib.IntN.{ℤ, pos}
@@ -13,70 +11,68 @@ use lib.Seq.{drop_at}
 use mir.Syntax.{w8}
 use mir.Val.{Fits}
 use Rattle.std.specs.Cmp.{first_so, second_so}
-use Rattle.std.specs.Prelude.{Ok}
+use Rattle.std.specs.Prelude.{Option, Some, None, Ok}
+use Rattle.refusal.specs.Numbered.{number_in}
+use Rattle.refusal.specs.declared.Refusal.{Refusal}
 use Rattle.arith.specs.Rounding.{End, low, high}
 use Rattle.model.specs.Numbers.{Bytes}
 use Rattle.model.specs.Case.{FileCase}
 use Rattle.model.specs.Layout.{case_of}
-use Rattle.model.specs.Fields.{Check}
-use Rattle.model.specs.Refusals.{first_of, checks, refusal}
+use Rattle.model.specs.Refusals.{failing, first_of, checks, refusal}
 use Rattle.method.specs.Curve.{base, curve}
 use Rattle.method.specs.Rounded as Rounded
-use Rattle.method.specs.Buffers.{valuation_refusal, by_term, factor_entries, rate_entries, factors_after, rates_after, answered, valuation_of, refusal_number}
+use Rattle.method.specs.Buffers.{valuation_checks, valuation_refusal, by_term, factor_entries, rate_entries, factors_after, rates_after, answered, valuation_of, refusal_number}
 use Rattle.model.specs.declared.figures.Valuation.{Valuation}
-use Rattle.theory.proofs.acceptance.Acceptance.{accepted-keeps, keeps-accepted}
+use Rattle.theory.proofs.acceptance.Acceptance.{accepted-none, accepted-keeps, keeps-accepted}
+use Rattle.theory.proofs.acceptance.Checks.{none-hold, hold-none, none-fails, first-fails}
 use Rattle.theory.proofs.demand3.Demand3Proved.{IsRounded}
 use Rattle.theory.proofs.general.Entries.{length-by_term, lower_in, upper_in}
 use Rattle.theory.proofs.demand3.Files.{demand3-of-files}
 use Rattle.theory.proofs.demand3.Written.{written-rounded}
 use Rattle.reader.proofs.Exactly.{slice-bytes}
 use Rattle.engine.specs.Guarantee.{given, RefusedCall, AcceptedCall, AcceptedExactly, Call}
-use Rattle.engine.proofs.Valued.{passes, fails, own-refusal}
+use Rattle.engine.proofs.Valued.{own-refusal}
 
 -- what follows the entries of the terms
 later : {A : Type 0} (f : End → ℕ → A) (rest : List A) → drop 240 (by_term f 120 ++ rest) ≡ rest
 later f rest = drop_at (by_term f 120) rest 240 (length-by_term f 120)
 
--- one check before the file's own
-split : (b : Bool) (rest : List Check) → first_of ((b, 13) ∷ rest) ≡ 0 → (b ≡ true) × (first_of rest ≡ 0)
-split true rest h = (refl, sym (passes true rest refl) ∙ h)
-split false rest h = absurd (never (sym (fails false rest refl) ∙ h))
-  where
-    never : ◌≡◌ {A = ℕ} 13 0 → ⊥
-    never e = omega arith
-
 -- the number of an answer
-answered-number : (r : ℕ) (k : FileCase) → refusal_number (answered r k) ≡ r
-answered-number zero k = refl
-answered-number (suc r) k = refl
+answered-number : (o : Option Refusal) (k : FileCase) → refusal_number (answered o k) ≡ number_in o
+answered-number None k = refl
+answered-number (Some r) k = refl
 
 module _ (file : List ℕ) (factors : List ℕ) (rates : List ℤ) where
   enough : valuation_refusal (length factors) (length rates) file ≡ 0 → (240 ≤ length factors) × (240 ≤ length rates) × (refusal file ≡ 0)
   unfolding valuation_refusal refusal
   enough h =
-      let p = split (leb 240 (length factors) && leb 240 (length rates)) (checks file) h in (
+      let p = none-hold (valuation_checks (length factors) (length rates) file) h in (
         leb-true 240 (length factors) (first_so (leb 240 (length factors)) (leb 240 (length rates)) p.0),
         leb-true 240 (length rates) (second_so (leb 240 (length factors)) (leb 240 (length rates)) p.0),
-        p.1,
+        hold-none (checks file) p.1,
       )
 
-  refused-call : (n : ℕ) → valuation_refusal (length factors) (length rates) file ≡ suc n → RefusedCall file factors rates
+  refused-call : (r : Refusal) → failing (valuation_checks (length factors) (length rates) file) ≡ Some r → RefusedCall r file factors rates
   unfolding valuation_of factors_after rates_after
-  refused-call n e = record { answer = rw e; factors_kept = rw e; rates_kept = rw e }
+  refused-call r e = record { answer = rw e; factors_kept = rw e; rates_kept = rw e }
 
   module _ (h : valuation_refusal (length factors) (length rates) file ≡ 0) where
+    none-refused : failing (valuation_checks (length factors) (length rates) file) ≡ None
+    unfolding valuation_refusal
+    none-refused = none-fails (valuation_checks (length factors) (length rates) file) h
+
     answer-is : valuation_of (length factors) (length rates) file
         ≡ Ok (record { figures = Rounded.figures (case_of file); verdict = Rounded.verdict (case_of file) })
     unfolding valuation_of
-    answer-is = rw h
+    answer-is = rw none-refused
 
     factors-are : factors_after file factors rates ≡ by_term (Rounded.factor (curve (case_of file) base)) 120 ++ drop 240 factors
     unfolding factors_after factor_entries
-    factors-are = rw h
+    factors-are = rw none-refused
 
     rates-are : rates_after file factors rates ≡ by_term (Rounded.zero_rate (curve (case_of file) base)) 120 ++ drop 240 rates
     unfolding rates_after rate_entries
-    rates-are = rw h
+    rates-are = rw none-refused
 
     lower-factor : (t : ℕ) → t < 120 → get_or (factors_after file factors rates) (2 * t) 0 ≡ Rounded.factor (curve (case_of file) base) low (suc t)
     lower-factor t l = rw factors-are (lower_in (Rounded.factor (curve (case_of file) base)) 120 (drop 240 factors) 0 t l)
@@ -118,16 +114,19 @@ module _ (file : List ℕ) (factors : List ℕ) (rates : List ℤ) where
         }
 
   accepted-exactly : Bytes file → AcceptedExactly file factors rates
+  unfolding valuation_refusal
   accepted-exactly b = record {
-    keeps_accepted = λ hf hz x. own-refusal file factors rates hf hz ∙ (keeps-accepted file x).0;
+    keeps_accepted = λ hf hz x.
+        first-fails (valuation_checks (length factors) (length rates) file) None
+        (own-refusal file factors rates hf hz ∙ accepted-none file (keeps-accepted file x).0);
     accepted_keeps = λ h. (accepted-keeps file b (enough h).2).0;
   }
 
   call : Bytes file → Call file factors rates
-  unfolding valuation_of
+  unfolding valuation_of valuation_refusal first_of
   call b = record {
     bytes = b;
-    number = answered-number (valuation_refusal (length factors) (length rates) file) (case_of file);
+    number = answered-number (failing (valuation_checks (length factors) (length rates) file)) (case_of file);
     refused = refused-call;
     accepted = λ h. accepted-call h b;
     exactly = accepted-exactly b;

@@ -1,16 +1,18 @@
 -- The page to open first: what holds of every call `value(file, factors, rates)`. Its contract (src/lib.rt) says that it answers
--- `valuation_of (length factors) (length rates) file`, a refusal by its number (`answer_of`), that it leaves `factors_after file factors rates`
+-- `valuation_of (length factors) (length rates) file`, that it leaves `factors_after file factors rates`
 -- and `rates_after file factors rates` in the buffers, and that `Call file factors rates` holds. So nothing is asked of a host: that the file
 -- is a list of bytes is known of the lent slice, whose type is `&[u8]`. proofs/Guaranteed.antt proves `Call` of every list of bytes.
-use Rattle.std.specs.Prelude.{ℕ, suc, ◌+◌, ◌*◌, ◌≤◌, ◌<◌, ◌≡◌, List, ℤ, pos, length, slice_index, slice_index_or, drop, Ok, Err}
+use Rattle.std.specs.Prelude.{ℕ, suc, Some, ◌+◌, ◌*◌, ◌≤◌, ◌<◌, ◌≡◌, List, ℤ, pos, length, slice_index, slice_index_or, drop, Ok, Err}
+use Rattle.refusal.specs.declared.Refusal.{Refusal}
 use Rattle.arith.specs.Rounding.{low, high}
 use Rattle.model.specs.Numbers.{Bytes}
 use Rattle.model.specs.Layout.{Keeps}
 use Rattle.model.specs.Layout.{case_of}
+use Rattle.model.specs.Refusals.{failing}
 use Rattle.method.specs.Curve.{base, curve}
 use Rattle.method.specs.Rounded as Rounded
 use Rattle.method.specs.Demand3.{Given, Demand3}
-use Rattle.method.specs.Buffers.{valuation_refusal, valuation_of, refusal_number, factors_after, rates_after, entry_of, rate_entry_of}
+use Rattle.method.specs.Buffers.{valuation_checks, valuation_refusal, valuation_of, refusal_number, factors_after, rates_after, entry_of, rate_entry_of}
 use Rattle.model.specs.declared.figures.Valuation.{Valuation}
 
 -- what a call gives: the figures and the verdict of its answer, and what stands in both buffers after it
@@ -23,8 +25,8 @@ given v factors rates = record {
 }
 
 -- a refused call: "it gets the number that document 01's order of checks gives it, and every lent buffer then holds what it held"
-pub record RefusedCall (file : List ℕ) (factors : List ℕ) (rates : List ℤ) : Type 0 where
-  pub answer : valuation_of (length factors) (length rates) file ≡ Err (valuation_refusal (length factors) (length rates) file)
+pub record RefusedCall (r : Refusal) (file : List ℕ) (factors : List ℕ) (rates : List ℤ) : Type 0 where
+  pub answer : valuation_of (length factors) (length rates) file ≡ Err r
   pub factors_kept : factors_after file factors rates ≡ factors
   pub rates_kept : rates_after file factors rates ≡ rates
 
@@ -61,6 +63,6 @@ pub record Call (file : List ℕ) (factors : List ℕ) (rates : List ℤ) : Type
   pub bytes : Bytes file
   -- "When an answer is an enum, a definition gives this paper's number": 0 for a case that is valued
   pub number : refusal_number (valuation_of (length factors) (length rates) file) ≡ valuation_refusal (length factors) (length rates) file
-  pub refused : (n : ℕ) → valuation_refusal (length factors) (length rates) file ≡ suc n → RefusedCall file factors rates
+  pub refused : (r : Refusal) → failing (valuation_checks (length factors) (length rates) file) ≡ Some r → RefusedCall r file factors rates
   pub accepted : valuation_refusal (length factors) (length rates) file ≡ 0 → AcceptedCall file factors rates
   pub exactly : AcceptedExactly file factors rates

@@ -4,9 +4,8 @@
 ghost use Rattle.std.specs.Prelude.{◌≡◌, length};
 ghost use Rattle.method.specs.Buffers.{answered, valuation_of, factors_after, rates_after};
 ghost use Rattle.model.specs.Layout.{case_of};
-ghost use Rattle.model.specs.Refusals.{refusal};
+ghost use Rattle.model.specs.Refusals.{failing, checks};
 ghost use Rattle.engine.specs.Guarantee.{Call};
-ghost use Rattle.refusal.specs.Numbered.{answer_of};
 
 use model::figures::Valuation;
 use reader::file::read;
@@ -17,7 +16,7 @@ use working::{money_of, value_case};
 /// 240 entries is `Buffers`, ahead of all; a refused file has its own refusal. A refusal leaves both buffers as they were. Hosts in C lend
 /// each by a pointer and a length, so they stay two slices.
 pub fn value(file: &[u8], factors: &mut [u64], rates: &mut [i64]) -> Result<Valuation, Refusal>
-    ensures value { answer_of result ≡ valuation_of (length factors.old) (length rates.old) file.now }
+    ensures value { result ≡ valuation_of (length factors.old) (length rates.old) file.now }
     ensures factors { factors.new ≡ factors_after file.now factors.old rates.old }
     ensures rates { rates.new ≡ rates_after file.now factors.old rates.old }
     ensures call { Call file.now factors.old rates.old }
@@ -33,7 +32,7 @@ pub fn value(file: &[u8], factors: &mut [u64], rates: &mut [i64]) -> Result<Valu
 
 /// The figures and the verdict of a case file, or its refusal: no buffer is lent and no zero rate is worked out.
 pub fn figures_of(file: &[u8]) -> Result<Valuation, Refusal>
-    ensures { answer_of result ≡ answered (refusal file.now) (case_of file.now) }
+    ensures { result ≡ answered (failing (checks file.now)) (case_of file.now) }
 {
     // Not by `?`, as above.
     match read(file) {

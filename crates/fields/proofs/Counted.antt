@@ -6,10 +6,10 @@ use mathlib.Core.Path.{ap₂}
 use borrow.Author.Tests.{leb-true}
 use lib.Dec.{leb, lit<}
 use native.Mathlib.Nat.{mul-div_cancel_left}
+use Rattle.refusal.specs.declared.Refusal.TheVariants.{EndsEarly}
 use Rattle.model.specs.Fields.{Check, reaches, within, value_all}
 use Rattle.model.specs.Layout.{flow}
-use Rattle.fields.specs.Failing.{failing}
-use Rattle.refusal.specs.Numbered.{number_of}
+use Rattle.model.specs.Refusals.{failing}
 use Rattle.fields.specs.Checks.{count_checks}
 use Rattle.fields.specs.Reading.{Moved, IsPart}
 use Rattle.refusal.specs.declared.Refusal.{Refusal}
@@ -19,24 +19,24 @@ use Rattle.fields.proofs.Steps.{go, stop}
 
 module _ (most size : ℕ) (r : Refusal) (file : List ℕ) (at n : ℕ) (is : n ≡ get_or file at 0) where
   abbrev byte : List Check
-  byte = (reaches file (at + 1), 1) ∷ []
+  byte = (reaches file (at + 1), EndsEarly) ∷ []
 
   abbrev few : List Check
-  few = (within 1 most n, number_of r) ∷ []
+  few = (within 1 most n, r) ∷ []
 
   abbrev whole : List Check
-  whole = (reaches file (at + 1 + size * n), 1) ∷ []
+  whole = (reaches file (at + 1 + size * n), EndsEarly) ∷ []
 
   abbrev all : List Check
-  all = count_checks most (number_of r) size file at
+  all = count_checks most r size file at
 
   in_order : failing (byte ++ (few ++ whole)) ≡ failing all
-  in_order = ap (λ k. failing ((reaches file (at + 1), 1) ∷ (within 1 most k, number_of r) ∷ (reaches file (at + 1 + size * k), 1) ∷ [])) is
+  in_order = ap (λ k. failing ((reaches file (at + 1), EndsEarly) ∷ (within 1 most k, r) ∷ (reaches file (at + 1 + size * k), EndsEarly) ∷ [])) is
 
-  pub not-few : (e : Refusal) → failing byte ≡ None → Some (number_of e) ≡ failing few → Some (number_of e) ≡ failing all
+  pub not-few : (e : Refusal) → failing byte ≡ None → Some e ≡ failing few → Some e ≡ failing all
   not-few e b h = go byte (few ++ whole) b (stop e few whole h) ∙ in_order
 
-  pub whole-last : {y : Option ℕ} → failing byte ≡ None → failing few ≡ None → y ≡ failing whole → y ≡ failing all
+  pub whole-last : {y : Option Refusal} → failing byte ≡ None → failing few ≡ None → y ≡ failing whole → y ≡ failing all
   whole-last b f h = go byte (few ++ whole) b (go few whole f h) ∙ in_order
 
 pub within-both : (a b v : ℕ) → within a b v ≡ true → (a ≤ v) × (v ≤ b)

@@ -4,9 +4,8 @@ use Rattle.std.specs.Prelude.{List, None, Some, Ok}
 use Rattle.std.specs.Borrow.{Bor}
 use mathlib.Core.Path.{ap₂}
 use Rattle.model.specs.Fields.{Field, optional, ◌then◌}
-use Rattle.refusal.specs.Numbered.{number_of}
 use Rattle.refusal.specs.declared.Refusal.{Refusal}
-use Rattle.fields.specs.Failing.{failing}
+use Rattle.model.specs.Refusals.{failing}
 use Rattle.fields.specs.Reading.{IfThere, Moved, Reads}
 use Rattle.fields.specs.declared.cursor.Cursor.{Cursor}
 use Rattle.fields.proofs.Steps.{go}
@@ -17,8 +16,8 @@ module _ {A B : Type 0} (f : Field A) (h : Field B) {old mid : Cursor} where
 
   -- the first holds, and the second fails
   pub halt_behind : (e : Refusal) → failing (f.checks old.file.now old.at) ≡ None
-      → Moved old mid (f.end old.file.now old.at) → Some (number_of e) ≡ failing (h.checks mid.file.now mid.at)
-      → Some (number_of e) ≡ failing ((f then h).checks old.file.now old.at)
+      → Moved old mid (f.end old.file.now old.at) → Some e ≡ failing (h.checks mid.file.now mid.at)
+      → Some e ≡ failing ((f then h).checks old.file.now old.at)
   halt_behind e none m k = go (f.checks old.file.now old.at) (h.checks old.file.now (f.end old.file.now old.at)) none (k ∙ ap failing (there m))
 
   -- both are read

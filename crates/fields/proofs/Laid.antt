@@ -1,5 +1,6 @@
 -- The fields that a map announces are those of the definitions.
 use Rattle.std.proofs.Common.{◌≡◌, ◌∙◌, ℕ, Bool, true, false, not, cond, [], refl, sym}
+use Rattle.refusal.specs.declared.Refusal.TheVariants.{FlowCount, Flow, Ufr, Amount, Shock, People}
 use Rattle.model.specs.Constants.{default_ufr}
 use Rattle.model.specs.Fields.{number_of, Field, field, counted, optional, ◌then◌}
 use Rattle.model.specs.Layout.{days, flow, amounts, no_amounts, shocks, people, stands, rate_bytes_in, present_in, FirstParts, Parts, layout}
@@ -7,13 +8,13 @@ use Rattle.fields.specs.Reading.{IfThere}
 
 abbrev pub first_laid : Bool → Bool → Bool → Bool → Field FirstParts
 first_laid u s b a =
-    optional u default_ufr (field 9 (number_of 2 0 5000))
+    optional u default_ufr (field Ufr (number_of 2 0 5000))
     then optional s [] (days 2)
-    then counted 120 7 8 flow
-    then optional b [] (counted 60 7 8 flow)
-    then optional a no_amounts (field 10 amounts)
-    then field 11 shocks
-    then field 12 people
+    then counted 120 FlowCount Flow flow
+    then optional b [] (counted 60 FlowCount Flow flow)
+    then optional a no_amounts (field Amount amounts)
+    then field Shock shocks
+    then field People people
 
 abbrev pub laid : Bool → Bool → Bool → Bool → Bool → Field Parts
 laid u s b a l = first_laid u s b a then optional l [] (days 4)

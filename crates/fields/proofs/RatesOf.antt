@@ -1,11 +1,11 @@
 -- The days: their limits, their bytes, and the bytes of one rate.
 use Prim.Native.Nat.{ℕ, zero, suc, ◌+◌, ◌*◌, ◌-◌, ◌/◌, ◌%◌, ◌≤◌, ◌<◌}
 use mathlib.Core.Path.{◌≡◌, refl, ap, ap₂, sym, ◌∙◌, subst}
-use mathlib.Core.Bool.{Bool, true, false, ◌&&◌}
+use mathlib.Core.Bool.{Bool, true, false}
 use mathlib.Core.List.{List, [], ◌∷◌}
 use native.Mathlib.Omega.{arith}
 use borrow.Author.Tests.{leb-true, eqb-true}
-use native.Mathlib.Nat.{le_of_suc-le-suc, mul-le-mul_left, not-suc-le-zero}
+use native.Mathlib.Nat.{mul-le-mul_left}
 use native.Mathlib.Numerals.{add-one}
 use lib.Dec.{leb, eqb}
 use lib.ListN.{length, get_or, take, drop, length-append}
@@ -14,20 +14,20 @@ use lib.IntN.{ℤ, pos, negsuc}
 use mir.Syntax.{w32}
 use mir.Val.{of_z}
 use Rattle.std.specs.Cmp.{first_so, second_so}
-use Rattle.std.proofs.lemmas.Bool.{and_from, and_right}
+use Rattle.std.proofs.lemmas.Bool.{and_from}
 use Rattle.std.proofs.Common.{Option, None}
 use Rattle.std.specs.Int.{bytes_high_first}
 use Rattle.std.specs.Option.{SomeIff}
-use Rattle.model.specs.Fields.{Fixed, within, bytes_all, right_all}
+use Rattle.refusal.specs.declared.Refusal.TheVariants.{DayCount, Rate}
+use Rattle.model.specs.Fields.{within, bytes_all, right_all}
 use Rattle.model.specs.Case.{known_form}
 use Rattle.model.specs.Layout.{daily_rate, day, days}
 use Rattle.model.specs.Numbers.{bytes_of, unsigned}
 use Rattle.theory.proofs.acceptance.Encoding.{length-bytes}
 use Rattle.theory.proofs.acceptance.Form.{by_form}
-use Rattle.theory.proofs.acceptance.Runs.{right-front}
 use Rattle.fields.specs.Sums.{added, sums_of}
 use Rattle.fields.proofs.DaySums.{sums-more}
-use Rattle.fields.specs.Failing.{failing}
+use Rattle.model.specs.Refusals.{failing}
 use Rattle.fields.specs.Wrote.{Wrote}
 use Rattle.fields.specs.declared.writer.Writer.{Writer}
 use Rattle.fields.proofs.Bytes.{length_run, drop-high, high-bytes}
@@ -76,7 +76,7 @@ module _ (w : ℕ) where
     pub days-hold : failing ((days w).limits ds) ≡ None → (within 1 70 (length ds) ≡ true) × (right_all (day w) ds ≡ true)
     days-hold h = go (within 1 70 (length ds)) (right_all (day w) ds) h
       where
-        go : (a b : Bool) → failing ((a, 4) ∷ (b, 5) ∷ []) ≡ None → (a ≡ true) × (b ≡ true)
+        go : (a b : Bool) → failing ((a, DayCount) ∷ (b, Rate) ∷ []) ≡ None → (a ≡ true) × (b ≡ true)
         go true true h = (refl, refl)
         go true false h = cc
         go false b h = cc

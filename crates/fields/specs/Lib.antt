@@ -1,6 +1,5 @@
 -- Nothing here has to be believed: it serves contracts of functions that no host calls.
 pub mod Checks
-pub mod Failing
 pub mod IsDays
 pub mod MapField
 pub mod Reading

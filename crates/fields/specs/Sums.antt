@@ -1,5 +1,6 @@
 -- The sums of the rates over the days.
 use Rattle.std.specs.Prelude.{ℕ, zero, suc, ◌*◌, ◌<◌, ◌≡◌, Bool, List, [], ◌∷◌, ◌++◌, length, slice_index_or, ℤ, pos, neg_ℤ, ◌+ℤ◌, ◌-ℤ◌, ◌*ℤ◌}
+use Rattle.refusal.specs.declared.Refusal.TheVariants.{Forward}
 use Rattle.model.specs.Numbers.{table}
 use Rattle.model.specs.Constants.{steps_per_one}
 use Rattle.model.specs.Case.{units_per_step, s}
@@ -44,4 +45,4 @@ forward_right per_step sums t = difference_right per_step (pos t *ℤ sum_at sum
 
 -- the limits of days whose rates have w bytes, and then that of their forward rates
 abbrev pub days_checks : ℕ → List (List ℤ) → List Check
-days_checks w ds = (days w).limits ds ++ ((forwards_right (units_per_step w * length ds) ds, 6) ∷ [])
+days_checks w ds = (days w).limits ds ++ ((forwards_right (units_per_step w * length ds) ds, Forward) ∷ [])

@@ -2,6 +2,7 @@
 #![tactic(auto, using(crate::proofs::Lengths::lengths, crate::proofs::Digits::all_right))]
 
 ghost use Rattle.std.specs.Prelude.{◌≡◌};
+ghost use Rattle.refusal.specs.declared.Refusal.TheVariants.{Amount};
 ghost use Rattle.model.specs.Fields.{field};
 ghost use Rattle.model.specs.Layout.{amounts, amounts_in_order, no_amounts};
 
@@ -45,7 +46,7 @@ impl<'a> Field<'a> for Amounts {
 
     type Value = case::Amounts;
 
-    ghost told = { λ _. field 10 amounts };
+    ghost told = { λ _. field Amount amounts };
 
     ghost is_read = { λ _ _ _ v x. v ≡ x };
 

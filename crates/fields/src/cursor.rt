@@ -16,7 +16,7 @@ impl<'a> Cursor<'a> {
     ghost use Rattle.model.specs.Numbers.{number};
     ghost use Rattle.model.specs.Fields.{reaches, number_of, value_all};
     ghost use Rattle.fields.specs.Checks.{Checked, count_checks};
-    ghost use Rattle.refusal.specs.Numbered.{number_of as number_of_refusal};
+    ghost use Rattle.refusal.specs.declared.Refusal.TheVariants.{EndsEarly, BytesFollow};
     ghost use Rattle.fields.specs.Reading.{Moved, IsPart};
 
     pub fn new(file: &'a [u8]) -> Cursor<'a>
@@ -27,7 +27,7 @@ impl<'a> Cursor<'a> {
 
     // The next bytes, if the file has so many.
     pub fn take(&mut self, count: usize) -> Result<&'a [u8], Refusal>
-        ensures { Checked ((reaches self.old.file.now (self.old.at + count), 1) ∷ [])
+        ensures { Checked ((reaches self.old.file.now (self.old.at + count), EndsEarly) ∷ [])
             (λ part. IsPart self.old.file part self.old.at count × Moved self.old self.new (self.old.at + count)) result }
     {
         let file = self.file;
@@ -42,7 +42,7 @@ impl<'a> Cursor<'a> {
     // The next number, if the file has its bytes.
     pub fn number<const W: usize>(&mut self) -> Result<u64, Refusal>
         requires { W ≤ 8 }
-        ensures { Checked ((reaches self.old.file.now (self.old.at + W), 1) ∷ [])
+        ensures { Checked ((reaches self.old.file.now (self.old.at + W), EndsEarly) ∷ [])
             (λ v. (v ≡ number self.old.file.now self.old.at W) × (v < 256 ^ W) × Moved self.old self.new (self.old.at + W)) result }
     {
         Ok(big_endian(self.take(W)?))
@@ -51,7 +51,7 @@ impl<'a> Cursor<'a> {
     // The next numbers, if the file has the bytes of all of them.
     pub fn numbers<const W: usize, const N: usize>(&mut self) -> Result<[u64; N], Refusal>
         requires { (1 ≤ W) × (W ≤ 8) × (W * N < 2 ^ 64) }
-        ensures { Checked ((reaches self.old.file.now (self.old.at + W * N), 1) ∷ [])
+        ensures { Checked ((reaches self.old.file.now (self.old.at + W * N), EndsEarly) ∷ [])
             (λ vs. (vs ≡ value_all (number_of W 0 0) self.old.file.now self.old.at N) × Moved self.old self.new (self.old.at + W * N)) result }
     {
         Ok(big_endian_all::<W, N>(self.take(W * N)?))
@@ -66,7 +66,7 @@ impl<'a> Cursor<'a> {
     ) -> Result<(usize, &'a [u8]), Refusal>
         requires { size ≤ 240 }
         ensures { let count = get_or self.old.file.now self.old.at 0 in
-            Checked (count_checks most (number_of_refusal refusal) size self.old.file.now self.old.at)
+            Checked (count_checks most refusal size self.old.file.now self.old.at)
             (λ v. (v.0 ≡ count) × (1 ≤ v.0) × (v.0 ≤ most) × IsPart self.old.file v.1 (self.old.at + 1) (size * v.0)
             × Moved self.old self.new (self.old.at + 1 + size * count)) result }
     {
@@ -77,7 +77,7 @@ impl<'a> Cursor<'a> {
 
     // Nothing may follow.
     pub fn finish(&self) -> Result<(), Refusal>
-        ensures { Checked ((leb (length self.now.file.now) self.now.at, 2) ∷ []) (λ _. Unit {0}) result }
+        ensures { Checked ((leb (length self.now.file.now) self.now.at, BytesFollow) ∷ []) (λ _. Unit {0}) result }
     {
         check(self.file.len() <= self.at, Refusal::BytesFollow)
     }

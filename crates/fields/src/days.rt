@@ -2,6 +2,7 @@
 #![tactic(auto, using(crate::proofs::Lengths::lengths))]
 
 ghost use Rattle.std.specs.Prelude.{◌≡◌, true, ◌+◌, ◌*◌, ◌/◌, ◌≤◌, [], ◌∷◌, length, MatchOption, None};
+ghost use Rattle.refusal.specs.declared.Refusal.TheVariants.{Rate};
 ghost use Rattle.model.specs.Fields.{bytes_all, value_all, right_all};
 ghost use Rattle.model.specs.Layout.{daily_rate, day, days};
 ghost use Rattle.fields.specs.Checks.{Checked};
@@ -23,7 +24,7 @@ fn add_day<F: RateForm>(day: &[u8], sums: &mut [i64; 60]) -> Result<(), Refusal>
     requires terms { length day.now ≡ F.WIDTH * 60 }
     requires room { Bounded 69000000 sums.old }
     ensures { let rates = value_all (daily_rate F.WIDTH) day.now 0 60 in
-        Checked ((right_all (daily_rate F.WIDTH) rates, 5) ∷ []) (λ _. sums.new ≡ added sums.old rates) result }
+        Checked ((right_all (daily_rate F.WIDTH) rates, Rate) ∷ []) (λ _. sums.new ≡ added sums.old rates) result }
 {
     let width = F::WIDTH;
     // By an index: what a loop over `iter_mut().zip(..)` has written so far has no name for its invariant.
@@ -39,7 +40,7 @@ fn add_day<F: RateForm>(day: &[u8], sums: &mut [i64; 60]) -> Result<(), Refusal>
 fn sum_days<F: RateForm>(rates: &[u8]) -> Result<[i64; 60], Refusal>
     requires few { length rates.now / (F.WIDTH * 60) ≤ 70 }
     ensures { let ds = value_all (day F.WIDTH) rates.now 0 (length rates.now / (F.WIDTH * 60)) in
-        Checked ((right_all (day F.WIDTH) ds, 5) ∷ []) (λ sums. sums ≡ sums_of ds) result }
+        Checked ((right_all (day F.WIDTH) ds, Rate) ∷ []) (λ sums. sums ≡ sums_of ds) result }
 {
     let mut sums = [0; 60];
     for day in rates.chunks_exact(F::WIDTH * 60) {

@@ -3,11 +3,11 @@
 // more.
 ghost use Rattle.std.specs.Prelude.{◌≡◌, ◌+◌, ◌-◌, ◌≤◌, ℕ, List, length, None};
 ghost use Rattle.std.specs.Option.{SomeIff};
+ghost use Rattle.std.specs.Result.{result_err};
 ghost use Rattle.std.specs.Borrow.{Bor};
 ghost use Rattle.std.proofs.lemmas.List.Edits.{sets};
 ghost use Rattle.model.specs.Fields.{Field as FieldOf, optional, ◌then◌};
-ghost use Rattle.refusal.specs.Numbered.{refusal_in};
-ghost use Rattle.fields.specs.Failing.{failing};
+ghost use Rattle.model.specs.Refusals.{failing};
 ghost use Rattle.fields.specs.Reading.{Reads, IfThere};
 ghost use Rattle.fields.specs.Wrote.{Wrote};
 
@@ -37,7 +37,7 @@ pub trait Field<'a> {
 
     // The first of its limits that is passed.
     fn check(&self, given: &Self::Given) -> Result<(), Refusal>
-        ensures { refusal_in result ≡ failing ((told self.now).limits (said given.now)) };
+        ensures { result_err result ≡ failing ((told self.now).limits (said given.now)) };
 
     // The room that its bytes leave, if they fit.
     fn room_after(&self, given: &Self::Given, room: usize) -> Option<usize>

@@ -2,6 +2,7 @@
 #![tactic(auto, using(crate::proofs::Lengths::lengths, crate::proofs::Digits::all_right))]
 
 ghost use Rattle.std.specs.Prelude.{◌≡◌, ◌≤◌, ◌*◌, ◌/◌, [], ◌∷◌, length};
+ghost use Rattle.refusal.specs.declared.Refusal.TheVariants.{FlowCount, Flow};
 ghost use Rattle.model.specs.Fields.{counted, value_all, right_all};
 ghost use Rattle.model.specs.Layout.{flow};
 ghost use Rattle.fields.specs.Checks.{Checked};
@@ -24,7 +25,7 @@ fn flows_within(flows: &[u64]) -> bool
 fn flows_in<const MOST: usize>(bytes: &[u8]) -> Result<flows::Flows<MOST>, Refusal>
     requires { length bytes.now ≤ 4 * MOST }
     ensures { let flows = value_all flow bytes.now 0 (length bytes.now / 4) in
-        Checked ((right_all flow flows, 8) ∷ []) (λ v. v ≡ flows) result }
+        Checked ((right_all flow flows, Flow) ∷ []) (λ v. v ≡ flows) result }
 {
     let (chunks, _) = bytes.as_chunks::<4>();
     let mut flows = flows::Flows::default();
@@ -47,7 +48,7 @@ impl<'a, const MOST: usize> Field<'a> for Flows<MOST> {
 
     type Value = [u64; MOST];
 
-    ghost told = { λ _. counted MOST 7 8 flow };
+    ghost told = { λ _. counted MOST FlowCount Flow flow };
 
     ghost is_read = { λ _ _ _ v x. v ≡ x };
 

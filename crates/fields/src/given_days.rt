@@ -1,12 +1,12 @@
 // Days as a host hands them in, as a list of rates.
 ghost use Rattle.std.specs.Prelude.{◌≡◌, ◌*◌, [], ◌∷◌, length, IfOk, None};
+ghost use Rattle.std.specs.Result.{result_err};
+ghost use Rattle.refusal.specs.declared.Refusal.TheVariants.{Forward};
 ghost use Rattle.model.specs.Case.{units_per_step};
 ghost use Rattle.model.specs.Fields.{within};
 ghost use Rattle.model.specs.Layout.{day, days};
-ghost use Rattle.model.specs.Refusals.{forwards_right};
-ghost use Rattle.refusal.specs.Numbered.{refusal_in};
+ghost use Rattle.model.specs.Refusals.{failing, forwards_right};
 ghost use Rattle.savingmodel.specs.Saving.{days_of};
-ghost use Rattle.fields.specs.Failing.{failing};
 ghost use Rattle.fields.specs.Sums.{Bounded, added, sums_of, days_checks};
 
 use crate::check::check;
@@ -48,7 +48,7 @@ fn add_day<F: RateForm>(rates: &[i32; 60], sums: &mut [i64; 60]) -> bool
 
 // The sums of days, if their count and each of their rates is within its limits.
 fn sum_days<F: RateForm>(held: &[[i32; 60]]) -> Result<[i64; 60], Refusal>
-    ensures refusal { refusal_in result ≡ failing ((days F.WIDTH).limits held.now) }
+    ensures refusal { result_err result ≡ failing ((days F.WIDTH).limits held.now) }
     ensures sums { IfOk result (λ sums. sums ≡ sums_of held.now) }
 {
     check(is_day_count(held.len()), Refusal::DayCount)?;
@@ -63,7 +63,7 @@ fn sum_days<F: RateForm>(held: &[[i32; 60]]) -> Result<[i64; 60], Refusal>
 fn forwards_within<F: RateForm>(held: &[[i32; 60]], sums: [i64; 60]) -> Result<(), Refusal>
     requires right { failing ((days F.WIDTH).limits held.now) ≡ None }
     requires sums { sums ≡ sums_of held.now }
-    ensures { refusal_in result ≡ failing ((forwards_right (units_per_step F.WIDTH * length held.now) held.now, 6) ∷ []) }
+    ensures { result_err result ≡ failing ((forwards_right (units_per_step F.WIDTH * length held.now) held.now, Forward) ∷ []) }
 {
     let summed = DaySums {
         per_step: F::UNITS_PER_STEP * held.len() as u64,
@@ -82,8 +82,8 @@ pub struct GivenDays<'a, F: RateForm> {
     pub within: Result<(), Refusal>,
     // By these, and then by their forward rates.
     pub forwards: Result<(), Refusal>,
-    ghost within_told: { refusal_in within ≡ failing ((days F.WIDTH).limits held.now) },
-    ghost forwards_told: { refusal_in forwards ≡ failing (days_checks F.WIDTH held.now) },
+    ghost within_told: { result_err within ≡ failing ((days F.WIDTH).limits held.now) },
+    ghost forwards_told: { result_err forwards ≡ failing (days_checks F.WIDTH held.now) },
 }
 
 impl<'a, F: RateForm> GivenDays<'a, F> {

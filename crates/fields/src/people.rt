@@ -2,6 +2,7 @@
 #![tactic(auto, using(crate::proofs::Lengths::lengths))]
 
 ghost use Rattle.std.specs.Prelude.{◌≡◌};
+ghost use Rattle.refusal.specs.declared.Refusal.TheVariants as refused;
 ghost use Rattle.model.specs.Fields.{field};
 ghost use Rattle.model.specs.Layout.{people};
 
@@ -29,7 +30,7 @@ impl<'a> Field<'a> for People {
 
     type Value = case::People;
 
-    ghost told = { λ _. field 12 people };
+    ghost told = { λ _. field refused.People people };
 
     ghost is_read = { λ _ _ _ v x. v ≡ x };
 

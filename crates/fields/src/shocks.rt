@@ -2,6 +2,7 @@
 #![tactic(auto, using(crate::proofs::Lengths::lengths, crate::proofs::Digits::all_right))]
 
 ghost use Rattle.std.specs.Prelude.{◌≡◌};
+ghost use Rattle.refusal.specs.declared.Refusal.TheVariants.{Shock};
 ghost use Rattle.model.specs.Fields.{field};
 ghost use Rattle.model.specs.Layout.{shocks, shocks_in_order};
 
@@ -48,7 +49,7 @@ impl<'a> Field<'a> for Shocks {
 
     type Value = case::Shocks;
 
-    ghost told = { λ _. field 11 shocks };
+    ghost told = { λ _. field Shock shocks };
 
     ghost is_read = { λ _ _ _ v x. v ≡ x };
 

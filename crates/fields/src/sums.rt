@@ -1,5 +1,6 @@
 // Of each term the sum of its rates over some days.
 ghost use Rattle.std.specs.Prelude.{◌≡◌, ◌*◌, ◌≤◌, [], ◌∷◌, pos, neg_ℤ, ◌*ℤ◌, ◌+ℤ◌};
+ghost use Rattle.refusal.specs.declared.Refusal.TheVariants.{Forward};
 ghost use Rattle.model.specs.Numbers.{every};
 ghost use Rattle.model.specs.Limits.{Between};
 ghost use Rattle.method.specs.Curve.{natural};
@@ -63,7 +64,7 @@ fn raised_sum(per_step: u64, sum: i64) -> u64
 impl DaySums {
     // 6: some t × s(t) - (t - 1) × s(t-1) may be out of its limits.
     pub fn forwards_within(&self) -> Result<(), Refusal>
-        ensures { Checked ((every (forward_right self.now.per_step self.now.sums) 60, 6) ∷ []) (λ _. Unit {0}) result }
+        ensures { Checked ((every (forward_right self.now.per_step self.now.sums) 60, Forward) ∷ []) (λ _. Unit {0}) result }
     {
         let mut last = 0;
         // t is a number of the rule: the sum of term t + 1 weighs t + 1.

@@ -2,6 +2,7 @@
 #![tactic(auto, using(crate::proofs::Lengths::lengths))]
 
 ghost use Rattle.std.specs.Prelude.{◌≡◌};
+ghost use Rattle.refusal.specs.declared.Refusal.TheVariants as refused;
 ghost use Rattle.model.specs.Constants.{default_ufr};
 ghost use Rattle.model.specs.Fields.{field, number_of};
 
@@ -32,7 +33,7 @@ impl<'a> Field<'a> for Ufr {
 
     type Value = u64;
 
-    ghost told = { λ _. field 9 (number_of 2 0 5000) };
+    ghost told = { λ _. field refused.Ufr (number_of 2 0 5000) };
 
     ghost is_read = { λ _ _ _ v x. v ≡ x };
 

@@ -2,6 +2,8 @@
 use Rattle.std.specs.Prelude.{ℕ, zero, suc, if◌then◌else◌, ◌==◌, Result, Ok, Err}
 use Rattle.std.specs.Float.{binary64}
 use Rattle.std.specs.Float.Ieee.{of_bits}
+use Rattle.refusal.specs.Numbered.{number_of}
+use Rattle.refusal.specs.declared.Refusal.{Refusal}
 use Rattle.arith.specs.declared.bracket.Bracket.{Bracket}
 use Rattle.model.specs.declared.figures.Figures.{Figures}
 use Rattle.model.specs.declared.figures.Verdict.{Verdict}
@@ -44,11 +46,12 @@ verdict_from number =
     if number == 1 then Dekkingstekort else if number == 2 then Reservetekort else if number == 3 then VrijVermogen else Onbeslist
 
 -- "A refusal returns only its number": the verdict and the figures of a refused file are 0
-abbrev pub host_valuation : Result Valuation ℕ → HostValuation
-host_valuation (Err r) = record { refusal = r; verdict = 0; figures = no_figures }
+abbrev pub host_valuation : Result Valuation Refusal → HostValuation
+host_valuation (Err r) = record { refusal = number_of r; verdict = 0; figures = no_figures }
 host_valuation (Ok v) = record { refusal = 0; verdict = verdict_number v.verdict; figures = v.figures }
 
--- what a host's struct says, whether or not a valuation gave it: a number other than 0 is a refusal, whatever stands beside it
+-- what a host's struct says, whether or not a valuation gave it: a number other than 0 is a refusal, whatever stands beside it, also one that
+-- no refusal has
 abbrev pub numbered : ℕ → ℕ → Figures → Result Valuation ℕ
 numbered zero verdict figures = Ok (record { figures = figures; verdict = verdict_from verdict })
 numbered (suc r) verdict figures = Err (suc r)
@@ -63,11 +66,11 @@ host_point (Factor lower upper) = record { kind = 1; lower = lower; upper = uppe
 host_point (Money lower upper) = record { kind = 2; lower = lower; upper = upper }
 
 -- "The writer returns the count of bytes written."; a refusal has written none
-abbrev pub host_saved : Result ℕ ℕ → HostSaved
+abbrev pub host_saved : Result ℕ Refusal → HostSaved
 host_saved (Ok count) = record { refusal = 0; written = count }
-host_saved (Err r) = record { refusal = r; written = 0 }
+host_saved (Err r) = record { refusal = number_of r; written = 0 }
 
 -- "The UFR found"; a refusal has found none
-abbrev pub host_ufr : Result ℕ ℕ → HostUfr
+abbrev pub host_ufr : Result ℕ Refusal → HostUfr
 host_ufr (Ok ufr) = record { refusal = 0; ufr = ufr }
-host_ufr (Err r) = record { refusal = r; ufr = 0 }
+host_ufr (Err r) = record { refusal = number_of r; ufr = 0 }

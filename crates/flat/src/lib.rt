@@ -58,9 +58,8 @@ pub struct HostVersion {
 
 impl From<Result<Valuation, Refusal>> for HostValuation {
     ghost use Rattle.flat.specs.Flat.{host_valuation};
-    ghost use Rattle.refusal.specs.Numbered.{answer_of};
 
-    ghost from_gives = { λ answer host. host ≡ host_valuation (answer_of answer) };
+    ghost from_gives = { λ answer host. host ≡ host_valuation answer };
 
     fn from(answer: Result<Valuation, Refusal>) -> HostValuation {
         match answer {
@@ -112,9 +111,8 @@ impl TryFrom<HostValuation> for Valuation {
 
 impl From<Result<usize, Refusal>> for HostSaved {
     ghost use Rattle.flat.specs.Flat.{host_saved};
-    ghost use Rattle.refusal.specs.Numbered.{answer_of};
 
-    ghost from_gives = { λ answer host. host ≡ host_saved (answer_of answer) };
+    ghost from_gives = { λ answer host. host ≡ host_saved answer };
 
     fn from(answer: Result<usize, Refusal>) -> HostSaved {
         match answer {
@@ -132,9 +130,8 @@ impl From<Result<usize, Refusal>> for HostSaved {
 
 impl From<Result<u64, Refusal>> for HostUfr {
     ghost use Rattle.flat.specs.Flat.{host_ufr};
-    ghost use Rattle.refusal.specs.Numbered.{answer_of};
 
-    ghost from_gives = { λ answer host. host ≡ host_ufr (answer_of answer) };
+    ghost from_gives = { λ answer host. host ≡ host_ufr answer };
 
     fn from(answer: Result<u64, Refusal>) -> HostUfr {
         match answer {

@@ -10,6 +10,7 @@ use mathlib.Core.Path.{◌≡◌, refl}
 use mathlib.Core.List.{List, [], ◌∷◌, ◌++◌, map}
 use lib.ListN.{replicate}
 use lib.IntN.{pos, neg_ℤ}
+use Rattle.refusal.specs.Numbered.{answer_of}
 use Rattle.arith.specs.Rounding.{low, high}
 use Rattle.model.specs.Refusals.{refusal, rates_part}
 use Rattle.model.specs.Case.{FileCase}
@@ -189,7 +190,7 @@ finer_listing =
     ∷ "V DEKKINGSTEKORT"
     ∷ []
 
-finer-listing : listing (valuation_of 240 240 finer_file) ≡ text finer_listing
+finer-listing : listing (answer_of (valuation_of 240 240 finer_file)) ≡ text finer_listing
 unfolding all
 finer-listing = refl
 
@@ -208,7 +209,7 @@ old_listing =
     ∷ "V DEKKINGSTEKORT"
     ∷ []
 
-old-listing : listing (valuation_of 240 240 old_file) ≡ text old_listing
+old-listing : listing (answer_of (valuation_of 240 240 old_file)) ≡ text old_listing
 unfolding all
 old-listing = refl
 
@@ -227,7 +228,7 @@ new_listing =
     ∷ "V DEKKINGSTEKORT"
     ∷ []
 
-new-listing : listing (valuation_of 240 240 new_file) ≡ text new_listing
+new-listing : listing (answer_of (valuation_of 240 240 new_file)) ≡ text new_listing
 unfolding all
 new-listing = refl
 

@@ -1,12 +1,11 @@
 // All answers as JSON.
 use crate::answers::Report;
-use crate::shown::{NumbersShown, show_numbers};
 use anyhow::Result;
 use command::Asked;
 use command::version::VERSION;
 use model::figures::Figures;
 use refusal::Refusal;
-use report::shown::{named_figures, word_of};
+use report::shown::{NumbersShown, named_figures, show_numbers, word_of};
 use report::text::Row;
 use serde::{Described, Serialize, Serializer};
 use std::alloc::{AllocError, Global};

@@ -4,7 +4,6 @@
 mod answers;
 mod json;
 mod sheet;
-mod shown;
 
 use answers::{Report, problem_of, say};
 use anyhow::{Context, Error, Result};

@@ -1,13 +1,12 @@
 // All answers as CSV, a line a file. What a file does not have is empty.
 use crate::answers::Report;
-use crate::shown::show_numbers;
 use anyhow::{Error, Result};
 use command::Asked;
 use command::version::VERSION;
 use csv::WriterBuilder;
 use model::figures::Figures;
 use refusal::Refusal;
-use report::shown::{named_figures, word_of};
+use report::shown::{named_figures, show_numbers, word_of};
 use report::text::Row;
 use std::alloc::{AllocError, Global};
 use std::fmt::Display;

@@ -3,7 +3,8 @@
 -- Assumes nothing.
 use native.Mathlib.Omega.{arith}
 use lib.Dec.{lit≤}
-use Rattle.std.specs.Prelude.{ℕ, Result, Ok, Err}
+use Rattle.std.specs.Prelude.{None, Result, Ok, Err}
+use Rattle.refusal.specs.declared.Refusal.{Refusal}
 use Rattle.model.specs.Case.{FileCase}
 use Rattle.method.specs.Buffers.{answered}
 use Rattle.method.specs.Demand3.{WideAtMost, L_width_most, B_width_most, A_width_most, S_width_most}
@@ -16,18 +17,18 @@ width-border : WideAtMost 3 (record { lower = 5; upper = 8 }) × (WideAtMost 3 (
 width-border = (lit≤ tt, λ h. omega arith)
 
 -- L, B, A and S of an answer are as narrow as the demand says; a refusal has no figure
-abbrev pub Narrow : FileCase → Result Valuation ℕ → Type 0
-Narrow k (Err number) = ⊥
+abbrev pub Narrow : FileCase → Result Valuation Refusal → Type 0
+Narrow k (Err refusal) = ⊥
 Narrow k (Ok v) =
     WideAtMost (L_width_most k) v.figures.l
     × WideAtMost (B_width_most k) v.figures.b
     × WideAtMost (A_width_most k) v.figures.a
     × WideAtMost (S_width_most k) v.figures.s
 
-up-widths : Narrow up_case (answered 0 up_case)
+up-widths : Narrow up_case (answered None up_case)
 unfolding all
 up-widths = (lit≤ tt, lit≤ tt, lit≤ tt, lit≤ tt)
 
-down-widths : Narrow down_case (answered 0 down_case)
+down-widths : Narrow down_case (answered None down_case)
 unfolding all
 down-widths = (lit≤ tt, lit≤ tt, lit≤ tt, lit≤ tt)

@@ -9,6 +9,7 @@ use native.Mathlib.Omega.{arith}
 use lib.Dec.{lit<}
 use lib.ListN.{replicate}
 use lib.IntN.{pos, neg_ℤ}
+use Rattle.refusal.specs.Numbered.{answer_of}
 use Rattle.arith.specs.Rounding.{low, high}
 use Rattle.model.specs.Numbers.{number, twos_complement, table}
 use Rattle.method.specs.Fraction.{◌//◌, ◌≐◌}
@@ -128,7 +129,7 @@ other-number h = let e = h.2 in omega (arith, e)
 no_fraction : (0 // 0 ≐ 1 // 1 → ⊥) × (1 // 1 ≐ 0 // 0 → ⊥)
 no_fraction = (λ h. let r = h.0 in omega (arith, r), λ h. let r = h.1 in omega (arith, r))
 
-pub c1-listing : listing (valuation_of 240 240 file_c1) ≡ text listing_c1
+pub c1-listing : listing (answer_of (valuation_of 240 240 file_c1)) ≡ text listing_c1
 unfolding all
 c1-listing = refl
 
@@ -195,7 +196,7 @@ unfolding all
 order-13 = (refl, refl, refl)
 
 -- "A refused file prints R and its number, one space between, as its only line."
-listing-refused : (listing (valuation_of 0 0 file_c1) ≡ ascii "R 13\n") × (listing (valuation_of 240 240 []) ≡ ascii "R 1\n")
+listing-refused : (listing (answer_of (valuation_of 0 0 file_c1)) ≡ ascii "R 13\n") × (listing (answer_of (valuation_of 240 240 [])) ≡ ascii "R 1\n")
 unfolding all
 listing-refused = (refl, refl)
 

@@ -1,5 +1,6 @@
 -- A file with two-byte days, rewritten to four-byte days (document 02, request Six).
 use Rattle.std.specs.Prelude.{◌≡◌, List, map, ℕ, ℤ, pos, ◌*ℤ◌}
+use Rattle.refusal.specs.Numbered.{answer_of}
 use Rattle.model.specs.Case.{FileCase, with_days}
 use Rattle.model.specs.Layout.{present_in, file_map, file_of, case_of}
 use Rattle.model.specs.Refusals.{refusal}
@@ -19,7 +20,7 @@ rewritten_file file = file_of (present_in (file_map file)) (rewritten (case_of f
 pub record SameAsBefore (file : List ℕ) : Type 0 where
   pub accepted : refusal (rewritten_file file) ≡ 0
   pub case : case_of (rewritten_file file) ≡ rewritten (case_of file)
-  pub listed : listing (valuation_of 240 240 (rewritten_file file)) ≡ listing (valuation_of 240 240 file)
+  pub listed : listing (answer_of (valuation_of 240 240 (rewritten_file file))) ≡ listing (answer_of (valuation_of 240 240 file))
   pub answer : (factors rates : ℕ) → valuation_of factors rates (rewritten_file file) ≡ valuation_of factors rates file
   pub factors : (f : List ℕ) (z : List ℤ) → factors_after (rewritten_file file) f z ≡ factors_after file f z
   pub rates : (f : List ℕ) (z : List ℤ) → rates_after (rewritten_file file) f z ≡ rates_after file f z

@@ -1,7 +1,9 @@
 -- What is computed of the definitions of specs/: each number is worked out by the definitions themselves. Computing: which definitions.
--- Read: what a file is read as. Refused, FourByteCases: refusals, and the rates of a file. Changed: cases with another field.
+-- First: the number of the first check that fails. Read: what a file is read as. Refused, FourByteCases: refusals, and the rates of a file.
+-- Changed: cases with another field.
 pub mod Computing
 pub mod Changed
+pub mod First
 pub mod Read
 pub mod Refused
 pub mod FourByteCases

@@ -4,6 +4,7 @@ use mathlib.Core.Path.{◌≡◌, refl}
 use mathlib.Core.List.{List, [], ◌∷◌, ◌++◌}
 use lib.ListN.{replicate}
 use lib.IntN.{pos, neg_ℤ}
+use Rattle.refusal.specs.declared.Refusal.TheVariants.{FlowCount, Flow}
 use Rattle.model.specs.Numbers.{number, twos_complement}
 use Rattle.model.specs.Case.{all_except_currency}
 use Rattle.model.specs.Fields.{number_of, counted}
@@ -32,6 +33,6 @@ unfolding all
 all-except-currency = refl
 
 -- "its count byte (1, then 4 or 7), .. its numbers", of a field that is in no file too: two numbers past their limit where one is allowed
-count-before-numbers : first_of ((counted 1 7 8 (number_of 4 0 5)).limits (6 ∷ 6 ∷ [])) ≡ 7
+count-before-numbers : first_of ((counted 1 FlowCount Flow (number_of 4 0 5)).limits (6 ∷ 6 ∷ [])) ≡ 7
 unfolding all
 count-before-numbers = refl

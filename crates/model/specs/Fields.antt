@@ -3,11 +3,13 @@
 -- Positions are functions of the bytes, and a byte past the end counts as 0: whether a file is long enough is a matter of the checks.
 use Rattle.std.specs.Prelude.{ℕ, zero, suc, ◌+◌, ◌*◌, Bool, true, ◌&&◌, if◌then◌else◌, List, [], ◌∷◌, ◌++◌, nat_le, ◌==◌, length, slice_index, ℤ}
 use Rattle.std.specs.Int.Signed.{le_z}
+use Rattle.refusal.specs.declared.Refusal.{Refusal}
+use Rattle.refusal.specs.declared.Refusal.TheVariants.{EndsEarly}
 use Rattle.model.specs.Numbers.{number, bytes_of}
 
--- a test, and the number of the refusal where it fails
+-- a test, and the refusal where it fails
 abbrev pub Check : Type 0
-Check = Bool × ℕ
+Check = Bool × Refusal
 
 -- the file has at least `end` bytes: else "it ends inside the map or inside a field whose bit stands"
 abbrev pub reaches : List ℕ → ℕ → Bool
@@ -87,26 +89,26 @@ pub record Field (A : Type 0) : Type 1 where
   pub checks : List ℕ → ℕ → List Check
 
 -- "the rest of its length (1), its numbers from the front" (r)
-abbrev pub field : {A : Type 0} → ℕ → Fixed A → Field A
+abbrev pub field : {A : Type 0} → Refusal → Fixed A → Field A
 field r x = record {
   bytes = x.bytes;
   limits = λ v. (x.right v, r) ∷ [];
   value = x.value;
   end = λ file at. at + x.size;
-  checks = λ file at. (reaches file (at + x.size), 1) ∷ (x.right (x.value file at), r) ∷ [];
+  checks = λ file at. (reaches file (at + x.size), EndsEarly) ∷ (x.right (x.value file at), r) ∷ [];
 }
 
 -- "its count byte (1, then 4 or 7), the rest of its length (1), its numbers from the front" (r): 1 to `most` of one kind
-abbrev pub counted : {A : Type 0} → ℕ → ℕ → ℕ → Fixed A → Field (List A)
+abbrev pub counted : {A : Type 0} → ℕ → Refusal → Refusal → Fixed A → Field (List A)
 counted most c r x = record {
   bytes = λ vs. bytes_of 1 (length vs) ++ bytes_all x vs;
   limits = λ vs. (within 1 most (length vs), c) ∷ (right_all x vs, r) ∷ [];
   value = λ file at. value_all x file (at + 1) (slice_index file at);
   end = λ file at. at + 1 + x.size * slice_index file at;
   checks = λ file at.
-      (reaches file (at + 1), 1)
+      (reaches file (at + 1), EndsEarly)
       ∷ (within 1 most (slice_index file at), c)
-      ∷ (reaches file (at + 1 + x.size * slice_index file at), 1)
+      ∷ (reaches file (at + 1 + x.size * slice_index file at), EndsEarly)
       ∷ (right_all x (value_all x file (at + 1) (slice_index file at)), r)
       ∷ [];
 }

@@ -1,6 +1,8 @@
 -- The case file of document 01 ('The case file') as one expression, field by field, with the second days field of document 02, request Six.
 -- The bytes of a case, the case of the bytes and the checks of each field follow from it. Refusals has the order of all checks.
 use Rattle.std.specs.Prelude.{ℕ, ◌+◌, ◌*◌, ◌/◌, ◌%◌, ◌^◌, ◌≤◌, ◌≡◌, Bool, true, false, if◌then◌else◌, List, [], ◌∷◌, ◌++◌, ◌==◌, length, slice_index, ℤ, pos, neg_ℤ}
+use Rattle.refusal.specs.declared.Refusal.TheVariants.{DayCount, Rate, FlowCount, Flow, Ufr, Amount, Shock}
+use Rattle.refusal.specs.declared.Refusal.TheVariants as Refusal
 use Rattle.model.specs.Constants.{default_ufr, last_market_term}
 use Rattle.model.specs.Numbers.{number, bytes_of, twos_complement, unsigned}
 use Rattle.model.specs.Case.{FileCase, units_per_step}
@@ -29,7 +31,7 @@ day w = several last_market_term (daily_rate w)
 
 -- "a byte n, 1 to 70; then n days"; refusals 4 and 5
 abbrev pub days : ℕ → Field (List (List ℤ))
-days w = counted 70 4 5 (day w)
+days w = counted 70 DayCount Rate (day w)
 
 -- "flows of 4 bytes, 0 to 100,000,000 euros"
 abbrev pub flow : Fixed ℕ
@@ -134,19 +136,19 @@ FirstParts = ℕ × (List (List ℤ) × (List ℕ × (List ℕ × (Amounts × (S
 abbrev pub first_fields : ℕ → Present → Field FirstParts
 first_fields w p =
     -- "Bit 0, UFR: 2 bytes, in rate steps, 0 to 5,000. A file without this field has a UFR of 4,200."; refusal 9
-    optional p.ufr default_ufr (field 9 (number_of 2 0 5000))
+    optional p.ufr default_ufr (field Ufr (number_of 2 0 5000))
     -- "Bit 1, days"
     then optional (w == 2) [] (days 2)
     -- "Bit 2, pension flows: a byte m, 1 to 120; then m flows"; refusals 7 and 8
-    then counted 120 7 8 flow
+    then counted 120 FlowCount Flow flow
     -- "Bit 3, bond flows: a byte k, 1 to 60; then k flows, the same form and limit. Absent: k = 0."; refusals 7 and 8
-    then optional p.bonds [] (counted 60 7 8 flow)
+    then optional p.bonds [] (counted 60 FlowCount Flow flow)
     -- "Bit 4, amounts"; refusal 10
-    then optional p.amounts no_amounts (field 10 amounts)
+    then optional p.amounts no_amounts (field Amount amounts)
     -- "Bit 5, shocks"; refusal 11
-    then field 11 shocks
+    then field Shock shocks
     -- "Bit 6, people"; refusal 12
-    then field 12 people
+    then field Refusal.People people
 
 -- what all fields hold
 abbrev pub Parts : Type 0

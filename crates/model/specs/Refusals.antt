@@ -1,5 +1,8 @@
--- Which number a file is refused with (document 01, 'Office errors and host errors'); 0 where it is accepted.
-use Rattle.std.specs.Prelude.{ℕ, zero, suc, ◌+◌, ◌*◌, Bool, ◌&&◌, not, if◌then◌else◌, List, [], ◌∷◌, ◌++◌, nat_le, length, slice_index, take, drop, ℤ, pos, neg_ℤ}
+-- Why a file is refused, and with which number (document 01, 'Office errors and host errors'); 0 where it is accepted.
+use Rattle.std.specs.Prelude.{ℕ, suc, ◌+◌, ◌*◌, Bool, ◌&&◌, not, if◌then◌else◌, List, [], ◌∷◌, ◌++◌, nat_le, length, slice_index, take, drop, ℤ, pos, neg_ℤ, Option, Some, None}
+use Rattle.refusal.specs.Numbered.{number_in}
+use Rattle.refusal.specs.declared.Refusal.{Refusal}
+use Rattle.refusal.specs.declared.Refusal.TheVariants.{EndsEarly, BytesFollow, WrongFields, Forward}
 use Rattle.model.specs.Numbers.{every}
 use Rattle.model.specs.Limits.{forward}
 use Rattle.model.specs.Fields.{Check, reaches, within_z}
@@ -8,9 +11,13 @@ use Rattle.model.specs.Case.{per_step}
 use Rattle.model.specs.Layout.{stands, rate_bytes_in, present_in, file_map, first_fields, fields_of, case_of}
 
 -- "The first that applies is given."
+abbrev pub failing : List Check → Option Refusal
+failing [] = None
+failing (check ∷ checks) = if check.0 then failing checks else Some check.1
+
+-- the number of the first, 0 where none applies; model/proofs/First.antt has it check by check
 unfoldable pub first_of : List Check → ℕ
-first_of [] = 0
-first_of (check ∷ checks) = let rest = first_of checks in if check.0 then rest else check.1
+first_of checks = number_in (failing checks)
 
 -- "Exactly one of"
 abbrev pub exactly_one : Bool → Bool → Bool
@@ -23,7 +30,7 @@ bits_right map =
 
 -- "then the map (1, then 3)"
 abbrev pub map_checks : List ℕ → List Check
-map_checks file = (reaches file 2, 1) ∷ (bits_right (file_map file), 3) ∷ []
+map_checks file = (reaches file 2, EndsEarly) ∷ (bits_right (file_map file), WrongFields) ∷ []
 
 -- "some t × s(t) - (t - 1) × s(t-1) is below -2,000 × n or above 12,000 × n", where one step adds n to a sum; request Six: "The limits of
 -- refusals 5 and 6 are multiplied by 100", where one step adds 100 × n
@@ -35,7 +42,7 @@ unfoldable pub checks : List ℕ → List Check
 checks file =
     map_checks file
     ++ (fields_of file).checks file 2
-    ++ ((nat_le (length file) ((fields_of file).end file 2), 2) ∷ (forwards_right (per_step (case_of file)) (case_of file).days, 6) ∷ [])
+    ++ ((nat_le (length file) ((fields_of file).end file 2), BytesFollow) ∷ (forwards_right (per_step (case_of file)) (case_of file).days, Forward) ∷ [])
 
 unfoldable pub refusal : List ℕ → ℕ
 refusal file = first_of (checks file)
@@ -53,9 +60,9 @@ day_count file = slice_index file (days_at file)
 
 -- "the part of the file that holds the rates: all n × 120 bytes; of a file that 1 to 12 refuse, an empty part"; request Six, of rates of
 -- four bytes: "the part handed back is n × 240 bytes"
-abbrev pub rates_part_after : ℕ → List ℕ → List ℕ
-rates_part_after zero file = take (rate_bytes_in (file_map file) * last_market_term * day_count file) (drop (days_at file + 1) file)
-rates_part_after (suc r) file = []
+abbrev pub rates_part_after : Option Refusal → List ℕ → List ℕ
+rates_part_after None file = take (rate_bytes_in (file_map file) * last_market_term * day_count file) (drop (days_at file + 1) file)
+rates_part_after (Some r) file = []
 
 unfoldable pub rates_part : List ℕ → List ℕ
-rates_part file = rates_part_after (refusal file) file
+rates_part file = rates_part_after (failing (checks file)) file

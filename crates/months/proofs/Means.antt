@@ -15,11 +15,12 @@ use lib.IntN.{ℤ, pos, negsuc, neg_ℤ, nat_abs, ◌+ℤ◌, ◌*ℤ◌, +ℤ_i
 use Rattle.std.proofs.lemmas.Int.{ints}
 use Rattle.std.specs.Int.{int_div_euclid}
 use Rattle.std.specs.Prelude.{Result, Ok, Err}
+use Rattle.refusal.specs.declared.Refusal.{Refusal}
+use Rattle.refusal.specs.declared.Refusal.TheVariants.{History, Month, MonthsUfr}
 use Rattle.method.specs.Curve.{natural}
 use Rattle.model.specs.Fields.{value_all, right_all, within_z}
 use Rattle.model.specs.Limits.{Between}
-use Rattle.model.specs.Refusals.{first_of}
-use Rattle.monthsmodel.specs.Months.{month, months_of, total, floor_z, hundreds, rounded_ufr, ufr_refusal, ufr_answer}
+use Rattle.monthsmodel.specs.Months.{month, months_of, total, floor_z, hundreds, rounded_ufr, ufr_answer}
 use Rattle.theory.proofs.acceptance.Runs.{values-last, values-table, values_length, right-more, wrong-at}
 use Rattle.theory.proofs.general.Lists.{get_or-table}
 use Rattle.theory.proofs.months.Rotated.{total-append}
@@ -94,31 +95,31 @@ natural-abs (negsuc n) h = cc
 
 -- ---- what a history gives
 
-abbrev ok_of : ℕ → Result ℕ ℕ
+abbrev ok_of : ℕ → Result ℕ Refusal
 ok_of ufr = Ok ufr
 
 module _ (history : List ℕ) (start : ℕ) where
-  place : (eqb (length history) 240 && leb start 119) ≡ false → Err 17 ≡ ufr_answer history start
-  unfolding ufr_answer ufr_refusal first_of
+  place : (eqb (length history) 240 && leb start 119) ≡ false → Err History ≡ ufr_answer history start
+  unfolding ufr_answer
   place h = rw h
 
-  pub other_length : length history ≢ 240 → Err 17 ≡ ufr_answer history start
+  pub other_length : length history ≢ 240 → Err History ≡ ufr_answer history start
   other_length h = place (ap (λ b. b && leb start 119) (ne_eqb (length history) 240 h))
 
-  pub start-past : 119 < start → Err 17 ≡ ufr_answer history start
+  pub start-past : 119 < start → Err History ≡ ufr_answer history start
   start-past h = place (and_right (eqb (length history) 240) (leb start 119) (lt-leb start 119 h))
 
   module _ (long : length history ≡ 240) (fits : start ≤ 119) where
-    pub month-past : right_all month (first history 120) ≡ false → Err 18 ≡ ufr_answer history start
-    unfolding ufr_answer ufr_refusal first_of months_of
+    pub month-past : right_all month (first history 120) ≡ false → Err Month ≡ ufr_answer history start
+    unfolding ufr_answer months_of
     month-past e = rw (eq-eqb (length history) 240 long, le-leb start 119 fits, e)
 
     module _ (right : right_all month (first history 120) ≡ true) where
-      pub ufr-past : within_z (pos 0) (pos 5000) (rounded_ufr history) ≡ false → Err 19 ≡ ufr_answer history start
-      unfolding ufr_answer ufr_refusal first_of months_of
+      pub ufr-past : within_z (pos 0) (pos 5000) (rounded_ufr history) ≡ false → Err MonthsUfr ≡ ufr_answer history start
+      unfolding ufr_answer months_of
       ufr-past e = rw (eq-eqb (length history) 240 long, le-leb start 119 fits, right, e)
 
       pub ufr-found : (ufr : ℤ) → ufr ≡ rounded_ufr history → within_z (pos 0) (pos 5000) (rounded_ufr history) ≡ true
           → Ok (nat_abs ufr) ≡ ufr_answer history start
-      unfolding ufr_answer ufr_refusal first_of months_of
+      unfolding ufr_answer months_of
       ufr-found ufr is e = rw (eq-eqb (length history) 240 long, le-leb start 119 fits, right, e) (ap ok_of (ap nat_abs is ∙ natural-abs (rounded_ufr history) e))

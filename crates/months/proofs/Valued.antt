@@ -1,32 +1,31 @@
 -- The case that is valued is the one that holds the file's case with the UFR found: of all that the engine holds, only the UFR is another.
 -- So the answer of `value_with_months` and both buffers are what the rounded working of that case says. Assumes nothing.
-use Prim.Native.Nat.{ℕ, zero, suc, ◌≤◌, ◌<◌}
+use Prim.Native.Nat.{ℕ, suc, ◌≤◌, ◌<◌}
 use mathlib.Core.Path.{◌≡◌, refl, ap, ap₂, sym, ◌∙◌, subst}
 use mathlib.Core.Bool.{false, ◌&&◌}
 use mathlib.Core.List.{List, ◌++◌}
-use native.Mathlib.Omega.{arith}
 use borrow.Author.Tests.{le-leb, lt-leb}
-use lib.Dec.{leb, lit<}
+use lib.Dec.{leb}
 use lib.IntN.{ℤ}
 use lib.ListN.{length, drop}
 use Rattle.std.proofs.lemmas.Bool.{and_right}
-use Rattle.std.specs.Prelude.{Result, Ok, Err}
-use Rattle.method.specs.Buffers.{valuation_refusal}
+use Rattle.std.specs.Prelude.{Option, Some, None, Result, Ok, Err}
+use Rattle.std.specs.Result.{result_unwrap_or, result_err}
+use Rattle.method.specs.Buffers.{valuation_checks}
 use Rattle.model.specs.Case.{FileCase, per_step, with_ufr}
 use Rattle.method.specs.Curve.{base, curve, P}
 use Rattle.heldcase.specs.Held.{held}
 use Rattle.model.specs.Layout.{case_of}
 use Rattle.model.specs.Limits.{WithinLimits}
-use Rattle.monthsmodel.specs.Months.{ufr_refusal, ufr_found, found_or, ufr_answer, months_refusal, months_case, months_valuation, months_factors_after, months_rates_after}
-use Rattle.model.specs.Refusals.{first_of, refusal}
+use Rattle.monthsmodel.specs.Months.{history_checks, ufr_found, found_or, ufr_answer, months_checks, months_case, months_valuation, months_factors_after, months_rates_after}
+use Rattle.model.specs.Refusals.{failing, checks}
 use Rattle.heldcase.specs.declared.Case.{Case}
 use Rattle.model.specs.declared.figures.Valuation.{Valuation}
 use Rattle.theory.proofs.curve.Changed.{ufr-P}
 use Rattle.theory.proofs.general.Lists.{table_same}
 use Rattle.theory.proofs.months.Valued.{own_first, history-after, within-limits}
-use Rattle.refusal.specs.Numbered.{number_of}
 use Rattle.refusal.specs.declared.Refusal.{Refusal}
-use Rattle.fields.proofs.Steps.{some_number}
+use Rattle.refusal.specs.declared.Refusal.TheVariants.{Buffers}
 use Rattle.working.specs.inner.Ranges.{CaseFits}
 use Rattle.working.specs.inner.Working.{factors_on, rates_on, money_of}
 use Rattle.working.proofs.HeldCase.{held_fits, held-valued}
@@ -41,73 +40,59 @@ changed-held ufr k =
 
 -- ---- what a history gives
 
--- the number in either answer
-abbrev number_in : Result ℕ ℕ → ℕ
-number_in (Ok ufr) = ufr
-number_in (Err number) = number
+found_of : (o : Option Refusal) (ufr n : ℕ) → found_or o ufr ≡ Ok n → (o ≡ None) × (ufr ≡ n)
+found_of None ufr n e = (refl, ap (λ (a : Result ℕ Refusal). result_unwrap_or a 0) e)
+found_of (Some r) ufr n e = cc
 
-found_of : (r ufr n : ℕ) → found_or r ufr ≡ Ok n → (r ≡ 0) × (ufr ≡ n)
-found_of zero ufr n e = (refl, ap number_in e)
-found_of (suc r) ufr n e = let x : ◌≡◌ {A = ℕ} 0 1 = cc in let never : ⊥ = omega arith in absurd never
-
-refused-of : (r ufr n : ℕ) → found_or r ufr ≡ Err n → (r ≡ n) × (0 < n)
-refused-of zero ufr n e = let x : ◌≡◌ {A = ℕ} 0 1 = cc in let never : ⊥ = omega arith in absurd never
-refused-of (suc r) ufr n e = let is = ap number_in e in (is, omega arith)
+refused-of : (o : Option Refusal) (ufr : ℕ) (r : Refusal) → found_or o ufr ≡ Err r → o ≡ Some r
+refused-of None ufr r e = cc
+refused-of (Some s) ufr r e = ap (λ (a : Result ℕ Refusal). result_err a) e
 
 module _ (file history : List ℕ) (start : ℕ) (f₀ : List ℕ) (z₀ : List ℤ) where
-  abbrev number : ℕ
-  number = months_refusal file history start (length f₀) (length z₀)
+  abbrev first : Option Refusal
+  first = failing (months_checks file history start (length f₀) (length z₀))
 
   -- the contract of `value_with_months`: the answer, and both buffers at the end
-  abbrev pub Meets : Result Valuation ℕ → List ℕ → List ℤ → Type 0
+  abbrev pub Meets : Result Valuation Refusal → List ℕ → List ℤ → Type 0
   Meets answer fs zs = record {
     value : answer ≡ months_valuation file history start (length f₀) (length z₀);
     factors : fs ≡ months_factors_after file history start f₀ z₀;
     rates : zs ≡ months_rates_after file history start f₀ z₀;
   }
 
-  refused-with : (n : ℕ) → number ≡ n → 0 < n → Meets (Err n) f₀ z₀
+  refused-with : (r : Refusal) → first ≡ Some r → Meets (Err r) f₀ z₀
   unfolding months_valuation months_factors_after months_rates_after
-  refused-with zero e l = let never : ⊥ = omega arith in absurd never
-  refused-with (suc n) e l = record { value = rw e; factors = rw e; rates = rw e }
+  refused-with r e = record { value = rw e; factors = rw e; rates = rw e }
 
-  short : (leb 240 (length f₀) && leb 240 (length z₀)) ≡ false → Meets (Err 13) f₀ z₀
-  unfolding months_refusal first_of
-  short h = refused-with 13 (rw h) (lit< tt)
+  short : (leb 240 (length f₀) && leb 240 (length z₀)) ≡ false → Meets (Err Buffers) f₀ z₀
+  short h = refused-with Buffers (rw h)
 
-  pub short-factors : length f₀ < 240 → Meets (Err 13) f₀ z₀
+  pub short-factors : length f₀ < 240 → Meets (Err Buffers) f₀ z₀
   short-factors h = short (rw (lt-leb 240 (length f₀) h))
 
-  pub short-rates : length z₀ < 240 → Meets (Err 13) f₀ z₀
+  pub short-rates : length z₀ < 240 → Meets (Err Buffers) f₀ z₀
   short-rates h = short (and_right (leb 240 (length f₀)) (leb 240 (length z₀)) (lt-leb 240 (length z₀) h))
 
   module _ (hf : 240 ≤ length f₀) (hz : 240 ≤ length z₀) where
-    own : valuation_refusal (length f₀) (length z₀) file ≡ refusal file
-    unfolding valuation_refusal refusal first_of
+    own : failing (valuation_checks (length f₀) (length z₀) file) ≡ failing (checks file)
     own = rw (le-leb 240 (length f₀) hf, le-leb 240 (length z₀) hz)
 
-    pub refused-file : (e : Refusal) → number_of e ≡ refusal file → Meets (Err (number_of e)) f₀ z₀
-    refused-file e k = go (number_of e) (sym k) (some_number e)
-      where
-        go : (n : ℕ) → refusal file ≡ n → 0 < n → Meets (Err n) f₀ z₀
-        go zero is some = let never : ⊥ = omega arith in absurd never
-        go (suc m) is some = refused-with (suc m) (own_first file history start (length f₀) (length z₀) m (own ∙ is)) (omega arith)
+    pub refused-file : (e : Refusal) → Some e ≡ failing (checks file) → Meets (Err e) f₀ z₀
+    refused-file e k = refused-with e (own_first file history start (length f₀) (length z₀) e (own ∙ sym k))
 
-    module _ (accepted : 0 ≡ refusal file) {found : Result ℕ ℕ} (given : found ≡ ufr_answer history start) where
-      later : number ≡ ufr_refusal history start
+    module _ (accepted : None ≡ failing (checks file)) {found : Result ℕ Refusal} (given : found ≡ ufr_answer history start) where
+      later : first ≡ failing (history_checks history start)
       later = history-after file history start (length f₀) (length z₀) (own ∙ sym accepted)
 
-      pub refused-history : (n : ℕ) → found ≡ Err n → Meets (Err n) f₀ z₀
+      pub refused-history : (r : Refusal) → found ≡ Err r → Meets (Err r) f₀ z₀
       unfolding ufr_answer
-      refused-history n e =
-          let (is, some) = refused-of (ufr_refusal history start) (ufr_found history) n (sym given ∙ e) in
-          refused-with n (later ∙ is) some
+      refused-history r e = refused-with r (later ∙ refused-of (failing (history_checks history start)) (ufr_found history) r (sym given ∙ e))
 
       module _ {ufr : ℕ} {case : Case} (e : found ≡ Ok ufr) {k : Case} (holds : k ≡ held (case_of file)) (made : case ≡ changed ufr k) where
-        none : (number ≡ 0) × (ufr_found history ≡ ufr)
+        none : (first ≡ None) × (ufr_found history ≡ ufr)
         unfolding ufr_answer
         none =
-            let (is, steps) = found_of (ufr_refusal history start) (ufr_found history) ufr (sym given ∙ e) in
+            let (is, steps) = found_of (failing (history_checks history start)) (ufr_found history) ufr (sym given ∙ e) in
             (later ∙ is, steps)
 
         case-holds : case ≡ held (months_case file history)

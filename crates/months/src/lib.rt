@@ -5,7 +5,6 @@ pub mod ufr;
 
 ghost use Rattle.std.specs.Prelude.{◌≡◌, length};
 ghost use Rattle.monthsmodel.specs.Months.{months_valuation, months_factors_after, months_rates_after};
-ghost use Rattle.refusal.specs.Numbered.{answer_of};
 
 use heldcase::Case;
 use model::figures::Valuation;
@@ -23,7 +22,7 @@ pub fn value_with_months(
     factors: &mut [u64],
     rates: &mut [i64],
 ) -> Result<Valuation, Refusal>
-    ensures value { answer_of result ≡ months_valuation file.now history.now start (length factors.old) (length rates.old) }
+    ensures value { result ≡ months_valuation file.now history.now start (length factors.old) (length rates.old) }
     ensures factors { factors.new ≡ months_factors_after file.now history.now start factors.old rates.old }
     ensures rates { rates.new ≡ months_rates_after file.now history.now start factors.old rates.old }
 {

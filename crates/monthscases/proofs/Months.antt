@@ -10,6 +10,8 @@ use mathlib.Core.List.{List, [], ◌∷◌, ◌++◌}
 use lib.ListN.{replicate, take, drop}
 use lib.IntN.{pos, neg_ℤ}
 use Rattle.std.specs.Prelude.{Ok, Err}
+use Rattle.refusal.specs.Numbered.{answer_of}
+use Rattle.refusal.specs.declared.Refusal.TheVariants.{History, MonthsUfr}
 use Rattle.arith.specs.Rounding.{low, high}
 use Rattle.method.specs.Buffers.{entry_of, rate_entry_of}
 use Rattle.monthsmodel.specs.Months.{months_of, oldest_first, total, ufr_refusal, ufr_answer}
@@ -67,8 +69,8 @@ unfolding all
 every-history-refusals = refl
 
 ufr-answers : (ufr_answer found_history 119 ≡ Ok 3100)
-    × (ufr_answer found_history 120 ≡ Err 17)
-    × (ufr_answer no_ufr_history 0 ≡ Err 19)
+    × (ufr_answer found_history 120 ≡ Err History)
+    × (ufr_answer no_ufr_history 0 ≡ Err MonthsUfr)
 unfolding all
 ufr-answers = (refl, refl, refl)
 
@@ -105,7 +107,7 @@ plain_listing =
     ∷ "V RESERVETEKORT"
     ∷ []
 
-plain-listing : listing (months_valuation plain_file found_history 119 240 240) ≡ text plain_listing
+plain-listing : listing (answer_of (months_valuation plain_file found_history 119 240 240)) ≡ text plain_listing
 unfolding all
 plain-listing = refl
 
@@ -124,7 +126,7 @@ own_ufr_listing =
     ∷ "V RESERVETEKORT"
     ∷ []
 
-own_ufr-listing : listing (months_valuation own_ufr_file found_history 119 240 240) ≡ text own_ufr_listing
+own_ufr-listing : listing (answer_of (months_valuation own_ufr_file found_history 119 240 240)) ≡ text own_ufr_listing
 unfolding all
 own_ufr-listing = refl
 

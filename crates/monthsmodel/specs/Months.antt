@@ -1,11 +1,13 @@
 -- The UFR from ten years of months (document 02, request Five): the mean of 120 month-end forward rates, rounded to the nearest 100 steps;
 -- its checks; and a case file valued with that UFR, as if it stood in the file's UFR field.
-use Rattle.std.specs.Prelude.{ℕ, zero, suc, ◌+◌, ◌/◌, ◌≤◌, ◌≡◌, ◌&&◌, if◌then◌else◌, List, [], ◌∷◌, ◌++◌, nat_le, ◌==◌, length, slice_index_or, drop, ℤ, pos, negsuc, nat_abs, ◌+ℤ◌, ◌-ℤ◌, ◌*ℤ◌, ◌≤ℤ◌, Result, Ok, Err}
+use Rattle.std.specs.Prelude.{ℕ, ◌+◌, ◌/◌, ◌≤◌, ◌≡◌, ◌&&◌, if◌then◌else◌, List, [], ◌∷◌, ◌++◌, nat_le, ◌==◌, length, slice_index_or, drop, ℤ, pos, negsuc, nat_abs, ◌+ℤ◌, ◌-ℤ◌, ◌*ℤ◌, ◌≤ℤ◌, Option, Some, None, Result, Ok, Err}
+use Rattle.refusal.specs.declared.Refusal.{Refusal}
+use Rattle.refusal.specs.declared.Refusal.TheVariants.{History, Month, MonthsUfr}
 use Rattle.model.specs.Numbers.{bytes_of, table}
 use Rattle.model.specs.Case.{FileCase, with_ufr}
 use Rattle.model.specs.Fields.{Check, Fixed, several, right_all, within_z}
 use Rattle.model.specs.Layout.{rate, stands, file_map, case_of}
-use Rattle.model.specs.Refusals.{first_of, checks, ufr_end}
+use Rattle.model.specs.Refusals.{failing, first_of, checks, ufr_end}
 use Rattle.method.specs.Curve.{natural}
 use Rattle.method.specs.Buffers as Buffers
 use Rattle.method.specs.Buffers.{buffers_check, factor_entries, rate_entries, written, answered, valuation_of}
@@ -65,9 +67,9 @@ rounded_ufr history = pos 100 *ℤ hundreds (total (months_of history))
 -- 0 to 5,000, after 18"
 abbrev pub history_checks : List ℕ → ℕ → List Check
 history_checks history start =
-    (length history == 240 && nat_le start 119, 17)
-    ∷ (right_all month (months_of history), 18)
-    ∷ (within_z (pos 0) (pos 5000) (rounded_ufr history), 19)
+    (length history == 240 && nat_le start 119, History)
+    ∷ (right_all month (months_of history), Month)
+    ∷ (within_z (pos 0) (pos 5000) (rounded_ufr history), MonthsUfr)
     ∷ []
 
 unfoldable pub ufr_refusal : List ℕ → ℕ → ℕ
@@ -77,34 +79,37 @@ ufr_refusal history start = first_of (history_checks history start)
 abbrev pub ufr_found : List ℕ → ℕ
 ufr_found history = natural (rounded_ufr history)
 
-abbrev pub found_or : ℕ → ℕ → Result ℕ ℕ
-found_or zero ufr = Ok ufr
-found_or (suc r) ufr = Err (suc r)
+abbrev pub found_or : Option Refusal → ℕ → Result ℕ Refusal
+found_or None ufr = Ok ufr
+found_or (Some r) ufr = Err r
 
--- the UFR in rate steps, or the number of a refusal
-unfoldable pub ufr_answer : List ℕ → ℕ → Result ℕ ℕ
-ufr_answer history start = found_or (ufr_refusal history start) (ufr_found history)
+-- the UFR in rate steps, or a refusal
+unfoldable pub ufr_answer : List ℕ → ℕ → Result ℕ Refusal
+ufr_answer history start = found_or (failing (history_checks history start)) (ufr_found history)
 
 -- ---- a case file valued with the UFR found
 
 -- "all three after the file's own numbers", which 13 comes before: by the lengths of the two buffers
+abbrev pub months_checks : List ℕ → List ℕ → ℕ → ℕ → ℕ → List Check
+months_checks file history start factors rates = buffers_check factors rates ∷ (checks file ++ history_checks history start)
+
 unfoldable pub months_refusal : List ℕ → List ℕ → ℕ → ℕ → ℕ → ℕ
-months_refusal file history start factors rates = first_of (buffers_check factors rates ∷ (checks file ++ history_checks history start))
+months_refusal file history start factors rates = first_of (months_checks file history start factors rates)
 
 -- "The UFR found is used", also where the file has a UFR of its own
 abbrev pub months_case : List ℕ → List ℕ → FileCase
 months_case file history = with_ufr (ufr_found history) (case_of file)
 
-unfoldable pub months_valuation : List ℕ → List ℕ → ℕ → ℕ → ℕ → Result Valuation ℕ
-months_valuation file history start factors rates = answered (months_refusal file history start factors rates) (months_case file history)
+unfoldable pub months_valuation : List ℕ → List ℕ → ℕ → ℕ → ℕ → Result Valuation Refusal
+months_valuation file history start factors rates = answered (failing (months_checks file history start factors rates)) (months_case file history)
 
 unfoldable pub months_factors_after : List ℕ → List ℕ → ℕ → List ℕ → List ℤ → List ℕ
 months_factors_after file history start factors rates =
-    written (months_refusal file history start (length factors) (length rates)) (factor_entries (months_case file history)) factors
+    written (failing (months_checks file history start (length factors) (length rates))) (factor_entries (months_case file history)) factors
 
 unfoldable pub months_rates_after : List ℕ → List ℕ → ℕ → List ℕ → List ℤ → List ℤ
 months_rates_after file history start factors rates =
-    written (months_refusal file history start (length factors) (length rates)) (rate_entries (months_case file history)) rates
+    written (failing (months_checks file history start (length factors) (length rates))) (rate_entries (months_case file history)) rates
 
 -- "as if it stood in the file's UFR field": the file with bit 0 in its map and the UFR in the two bytes behind the map. They take the place
 -- of the UFR that the file has there, if its bit 0 stands.

@@ -6,6 +6,7 @@ use mathlib.Core.Path.{◌≡◌, refl}
 use mathlib.Core.List.{List, [], ◌∷◌}
 use lib.Dec.{lit<}
 use lib.IntN.{pos, neg_ℤ}
+use Rattle.refusal.specs.Numbered.{answer_of}
 use Rattle.arith.specs.Rounding.{low, high}
 use Rattle.method.specs.Fraction.{◌//◌, ◌≐◌}
 use Rattle.method.specs.Curve.{base, up, down, curve}
@@ -31,7 +32,7 @@ up_listing =
     ∷ "V RESERVETEKORT"
     ∷ []
 
-up-listing : listing (valuation_of 240 240 up_file) ≡ text up_listing
+up-listing : listing (answer_of (valuation_of 240 240 up_file)) ≡ text up_listing
 unfolding all
 up-listing = refl
 
@@ -50,7 +51,7 @@ down_listing =
     ∷ "V VRIJ VERMOGEN"
     ∷ []
 
-down-listing : listing (valuation_of 240 240 down_file) ≡ text down_listing
+down-listing : listing (answer_of (valuation_of 240 240 down_file)) ≡ text down_listing
 unfolding all
 down-listing = refl
 
@@ -69,7 +70,7 @@ deepest_listing =
     ∷ "V VRIJ VERMOGEN"
     ∷ []
 
-deepest-listing : listing (valuation_of 240 240 deepest_file) ≡ text deepest_listing
+deepest-listing : listing (answer_of (valuation_of 240 240 deepest_file)) ≡ text deepest_listing
 unfolding all
 deepest-listing = refl
 

@@ -1,3 +1,4 @@
 pub mod Exactly
+pub mod First
 pub mod InOrder
 pub mod Whole

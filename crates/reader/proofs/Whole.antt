@@ -1,7 +1,7 @@
 -- The whole file: the fields that its map announces, and the case that they hold.
 use Rattle.std.proofs.Common.{◌≡◌, ◌∙◌, ℕ, ◌+◌, ◌*◌, Bool, true, false, not, cond, List, [], ◌∷◌, length, get_or, take, drop, leb, ap, refl, sym, subst, Option, Some, None, Ok, Err, ℤ}
 use Rattle.std.specs.Prelude.{MatchOption}
-use Rattle.std.specs.Option.{option_or, unwrap_or}
+use Rattle.std.specs.Option.{option_or}
 use Rattle.std.specs.Borrow.{Bor}
 use mathlib.Core.Path.{ap₂}
 use lib.Dec.{eqb}
@@ -10,15 +10,14 @@ use Rattle.model.specs.Numbers.{every, number}
 use Rattle.model.specs.Case.{per_step}
 use Rattle.model.specs.Fields.{number_of, Field, field, optional}
 use Rattle.model.specs.Layout.{Parts, no_amounts, case_of, case_from, day, days, fields_of, file_map, rate_bytes_in, stands}
-use Rattle.model.specs.Refusals.{day_count, days_at, forwards_right, rates_part, refusal, ufr_end}
+use Rattle.model.specs.Refusals.{failing, checks, day_count, days_at, forwards_right, rates_part, ufr_end}
 use Rattle.model.specs.declared.case.Amounts.{Amounts}
 use Rattle.model.specs.declared.case.Shocks.{Shocks}
 use Rattle.model.specs.declared.case.People.{People}
 use Rattle.theory.proofs.acceptance.Runs.{values_length}
 use Rattle.heldcase.specs.Held.{held}
-use Rattle.refusal.specs.Numbered.{number_of as refusal_number}
 use Rattle.refusal.specs.declared.Refusal.{Refusal}
-use Rattle.fields.specs.Failing.{failing}
+use Rattle.refusal.specs.declared.Refusal.TheVariants.{BytesFollow, Forward, Ufr}
 use Rattle.fields.specs.IsDays.{IsDays}
 use Rattle.fields.specs.MapField.{map_field}
 use Rattle.fields.specs.Reading.{IfThere, IsPart, Moved, Reads}
@@ -66,7 +65,7 @@ days-told t es el {file} {i} {j} short long v hs hl eo ev =
         }
     go true None None h k e = absurd k
 
-pub rates-told : (file part : Bor (List ℕ)) (w at n : ℕ) → refusal file.now ≡ 0 → w ≡ rate_bytes_in (file_map file.now) → at ≡ days_at file.now → n ≡ get_or file.now at 0
+pub rates-told : (file part : Bor (List ℕ)) (w at n : ℕ) → failing (checks file.now) ≡ None → w ≡ rate_bytes_in (file_map file.now) → at ≡ days_at file.now → n ≡ get_or file.now at 0
     → IsPart file part (at + 1) (w * 60 * n) → RatesPart file part
 unfolding rates_part day_count
 rates-told file part w at n z ew ea en h =
@@ -125,7 +124,7 @@ module _ {file : Bor (List ℕ)} {start c1 : Cursor} {map : Map} (begun : (start
     checks-are : fields.checks c1.file.now c1.at ≡ (fields_of file.now).checks file.now 2
     checks-are = λ k. (fields-are k).checks (file-is k).now (at-is k)
 
-    pub fields-refused : (e : Refusal) → Some (refusal_number e) ≡ failing (fields.checks c1.file.now c1.at) → refusal_number e ≡ refusal file.now
+    pub fields-refused : (e : Refusal) → Some e ≡ failing (fields.checks c1.file.now c1.at) → Some e ≡ failing (checks file.now)
     fields-refused e h = field-refused file.now map-right e (h ∙ ap failing checks-are)
 
     module _ {c2 : Cursor} (right : failing (fields.checks c1.file.now c1.at) ≡ None) (moved : Moved c1 c2 (fields.end c1.file.now c1.at)) where
@@ -135,12 +134,12 @@ module _ {file : Bor (List ℕ)} {start c1 : Cursor} {map : Map} (begun : (start
       fields-right : failing ((fields_of file.now).checks file.now 2) ≡ None
       fields-right = ap failing (sym checks-are) ∙ right
 
-      pub more-refused : (e : Refusal) → Some (refusal_number e) ≡ failing ((leb (length c2.file.now) c2.at, 2) ∷ []) → refusal_number e ≡ refusal file.now
-      more-refused e h = end-refused file.now map-right fields-right e (h ∙ ap (λ b. failing ((b, 2) ∷ [])) end-is)
+      pub more-refused : (e : Refusal) → Some e ≡ failing ((leb (length c2.file.now) c2.at, BytesFollow) ∷ []) → Some e ≡ failing (checks file.now)
+      more-refused e h = end-refused file.now map-right fields-right e (h ∙ ap (λ b. failing ((b, BytesFollow) ∷ [])) end-is)
 
       -- where the two days fields start
       abbrev ufr_field : Bool → Field ℕ
-      ufr_field u = optional u default_ufr (field 9 (number_of 2 0 5000))
+      ufr_field u = optional u default_ufr (field Ufr (number_of 2 0 5000))
 
       abbrev short_at : ℕ
       short_at = (ufr_field (stands 0 bits)).end file.now 2
@@ -180,19 +179,19 @@ module _ {file : Bor (List ℕ)} {start c1 : Cursor} {map : Map} (begun : (start
             ∙ ap (λ n. forwards_right n (days_in t file.now short_at long_at)) told.days.sums.step
             ∙ ap (λ x. forwards_right (per_step x) x.days) (sym case-is)
 
-        module _ (ended : failing ((leb (length c2.file.now) c2.at, 2) ∷ []) ≡ None) where
-          last : {o : Option ℕ} → o ≡ failing ((every (forward_right v.summed.per_step v.summed.sums) 60, 6) ∷ []) → unwrap_or o 0 ≡ refusal file.now
+        module _ (ended : failing ((leb (length c2.file.now) c2.at, BytesFollow) ∷ []) ≡ None) where
+          last : {o : Option Refusal} → o ≡ failing ((every (forward_right v.summed.per_step v.summed.sums) 60, Forward) ∷ []) → o ≡ failing (checks file.now)
           last h =
-              last-is file.now map-right fields-right (ap (λ b. failing ((b, 2) ∷ [])) (sym end-is) ∙ ended)
-              (h ∙ ap (λ b. failing ((b, 6) ∷ [])) six-is)
+              last-is file.now map-right fields-right (ap (λ b. failing ((b, BytesFollow) ∷ [])) (sym end-is) ∙ ended)
+              (h ∙ ap (λ b. failing ((b, Forward) ∷ [])) six-is)
 
-          pub six-refused : (e : Refusal) → Some (refusal_number e) ≡ failing ((every (forward_right v.summed.per_step v.summed.sums) 60, 6) ∷ [])
-              → refusal_number e ≡ refusal file.now
+          pub six-refused : (e : Refusal) → Some e ≡ failing ((every (forward_right v.summed.per_step v.summed.sums) 60, Forward) ∷ [])
+              → Some e ≡ failing (checks file.now)
           six-refused e h = last h
 
           -- the case is made of what was read
-          module _ (within : failing ((every (forward_right v.summed.per_step v.summed.sums) 60, 6) ∷ []) ≡ None) where
-            accepted : 0 ≡ refusal file.now
+          module _ (within : failing ((every (forward_right v.summed.per_step v.summed.sums) 60, Forward) ∷ []) ≡ None) where
+            accepted : None ≡ failing (checks file.now)
             accepted = last (sym within)
 
             abbrev was : Parts
@@ -216,7 +215,7 @@ module _ {file : Bor (List ℕ)} {start c1 : Cursor} {map : Map} (begun : (start
                 })
             unfolding held per_step
             all-read hu hp hb ha hx hg es = record {
-              number = accepted;
+              refusal = accepted;
               given = (
                 (λ j. record {
                   ufr = (read-or-absent u _ _ _ hu ∙ ap (λ y. y.0.0) parts-are) j;
@@ -235,9 +234,9 @@ module _ {file : Bor (List ℕ)} {start c1 : Cursor} {map : Map} (begun : (start
             }
 
 pub map-is-refused : {file : Bor (List ℕ)} (start : Cursor) (begun : (start.file ≡ file) × (start.at ≡ 0)) (e : Refusal)
-    → Some (refusal_number e) ≡ failing (map_field.checks start.file.now start.at) → refusal_number e ≡ refusal file.now
+    → Some e ≡ failing (map_field.checks start.file.now start.at) → Some e ≡ failing (checks file.now)
 map-is-refused {file} start begun e h = map-refused file.now e (h ∙ ap₂ (λ b i. failing (map_field.checks b.now i)) begun.0 begun.1)
 
 -- the answer where a step refuses
-pub read-refused : (file : Bor (List ℕ)) (e : Refusal) → refusal_number e ≡ refusal file.now → Read file (Err e)
-read-refused file e h = record { number = h; given = tt; there = tt }
+pub read-refused : (file : Bor (List ℕ)) (e : Refusal) → Some e ≡ failing (checks file.now) → Read file (Err e)
+read-refused file e h = record { refusal = h; given = tt; there = tt }

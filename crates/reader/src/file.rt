@@ -1,7 +1,7 @@
 // Reading a whole file: the map, then each field of the layout that it announces, then that nothing follows, then what only the sums show.
 ghost use Rattle.std.specs.Prelude.{◌≡◌};
 ghost use Rattle.model.specs.Refusals.{refusal};
-ghost use Rattle.reader.specs.Answers.{Read, ReadExactly, RatesPart};
+ghost use Rattle.reader.specs.Answers.{Read, ReadExactly, RatesPart, IsFirstOfAll};
 
 use fields::cursor::Cursor;
 use fields::field::Field;
@@ -81,3 +81,9 @@ pub fn rates_part(file: &[u8]) -> &[u8]
         Err(_) => &file[..0],
     }
 }
+
+/// The number of a refusal is that of the first check that fails, one check after the other. It does nothing: its contract is this law.
+#[tactic(auto, using(crate::proofs::First::first_of_all))]
+pub fn refusal_is_the_first()
+    ensures { IsFirstOfAll }
+{}

@@ -25,6 +25,11 @@ number_of Month = 18
 number_of MonthsUfr = 19
 number_of Damaged = 27
 
+-- that of what is refused, if anything is
+abbrev pub number_in : Option Refusal → ℕ
+number_in None = 0
+number_in (Some r) = number_of r
+
 abbrev pub refused_by : {T : Type 0} → Result T Refusal → ℕ
 refused_by (Ok _) = 0
 refused_by (Err r) = number_of r
@@ -33,8 +38,3 @@ refused_by (Err r) = number_of r
 abbrev pub answer_of : {T : Type 0} → Result T Refusal → Result T ℕ
 answer_of (Ok x) = Ok x
 answer_of (Err r) = Err (number_of r)
-
--- the same, with nothing where nothing is refused
-abbrev pub refusal_in : {T : Type 0} → Result T Refusal → Option ℕ
-refusal_in (Ok _) = None
-refusal_in (Err r) = Some (number_of r)

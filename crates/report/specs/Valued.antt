@@ -2,19 +2,20 @@
 use Rattle.std.specs.Prelude.{ℕ, ◌≡◌, List, Option, Some, None, IfSome, take, Result, Ok, Err}
 use Rattle.std.specs.Io.KnownBytes.{Appends}
 use Rattle.model.specs.Layout.{case_of}
-use Rattle.model.specs.Refusals.{refusal}
+use Rattle.model.specs.Refusals.{failing, checks}
 use Rattle.model.specs.declared.figures.Valuation.{Valuation}
 use Rattle.method.specs.Buffers.{answered}
 use Rattle.method.specs.Listing.{listing}
 use Rattle.monthsmodel.specs.Months.{months_valuation}
 use Rattle.refusal.specs.Numbered.{answer_of}
+use Rattle.refusal.specs.declared.Refusal.{Refusal}
 use Rattle.report.specs.Numbered.{numbers_with}
 use Rattle.report.specs.declared.input.History.{History}
 use Rattle.report.specs.declared.input.Told.{Told}
 
 -- the valuation of a file, with its own UFR or with that of a history of months
-abbrev pub valuation_with : Option History → List ℕ → Result Valuation ℕ
-valuation_with None file = answered (refusal file) (case_of file)
+abbrev pub valuation_with : Option History → List ℕ → Result Valuation Refusal
+valuation_with None file = answered (failing (checks file)) (case_of file)
 valuation_with (Some months) file = months_valuation file months.bytes.now months.start 240 240
 
 -- a file is the first 17,624 bytes of an input, which decide
@@ -23,7 +24,7 @@ IsFront input file = IfSome input (λ bytes. file ≡ take 17624 bytes)
 
 -- what is told of a file: its valuation, and the numbers of its case
 pub record Tells (history : Option History) (file : List ℕ) (told : Told) : Type 0 where
-  pub valuation : answer_of told.valuation ≡ valuation_with history file
+  pub valuation : told.valuation ≡ valuation_with history file
   pub numbers : told.numbers ≡ numbers_with history file
 
 -- the same of an input, by its first bytes
@@ -32,10 +33,10 @@ IsTold input history told = IfSome input (λ bytes. Tells history (take 17624 by
 
 -- what a writer holds before and after: the listing of an input more
 abbrev pub Printed : Option History → Option (List ℕ) → Option (List ℕ) → Option (List ℕ) → Type 0
-Printed history input before after = IfSome input (λ bytes. Appends before after (listing (valuation_with history (take 17624 bytes))))
+Printed history input before after = IfSome input (λ bytes. Appends before after (listing (answer_of (valuation_with history (take 17624 bytes)))))
 
 -- the status of an answer: 1 for a refusal, else 0
-abbrev pub ended : Result Valuation ℕ → ℕ
+abbrev pub ended : Result Valuation Refusal → ℕ
 ended (Ok v) = 0
 ended (Err r) = 1
 

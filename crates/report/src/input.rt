@@ -1,7 +1,6 @@
 // Reading a case file, as far as its bytes decide, and valuing it.
 ghost use Rattle.std.specs.Prelude.{◌≡◌, ◌≤◌, IfErr, IfOk, OnOk, length, take};
 ghost use Rattle.batch.specs.Unread.{KeepsUnread};
-ghost use Rattle.refusal.specs.Numbered.{answer_of};
 ghost use Rattle.report.specs.Valued.{valuation_with, IsFront, IsTold, Printed, HasStatus};
 
 use crate::numbers::{Numbers, numbers_of};
@@ -29,7 +28,7 @@ pub struct Told {
 
 // The valuation of a file, with its own UFR or with that of a history.
 fn value_file(file: &[u8], history: Option<History<'_>>) -> Result<Valuation, Refusal>
-    ensures { answer_of result ≡ valuation_with history.entry file.now }
+    ensures { result ≡ valuation_with history.entry file.now }
 {
     match history {
         None => engine::figures_of(file),

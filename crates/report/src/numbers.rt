@@ -4,7 +4,7 @@ ghost use Rattle.model.specs.Case.{units_per_step, all_except_currency};
 ghost use Rattle.model.specs.Layout.{case_of, stands, rate_bytes_in, file_map};
 ghost use Rattle.model.specs.Limits.{WithinLimits, AmountsWithin};
 ghost use Rattle.heldcase.specs.Held.{held};
-ghost use Rattle.model.specs.Refusals.{refusal};
+ghost use Rattle.model.specs.Refusals.{failing, checks};
 ghost use Rattle.report.specs.Numbered.{own_numbers, numbers_if, numbers_with};
 ghost use Rattle.report.specs.declared.numbers.UfrSource.TheVariants as source;
 
@@ -137,7 +137,7 @@ fn numbers_in(file: &[u8], case: &Case) -> Numbers
 
 // The same, none of a refused file.
 fn read_numbers(file: &[u8]) -> Option<Numbers>
-    ensures { result ≡ numbers_if (refusal file.now) file.now }
+    ensures { result ≡ numbers_if (failing (checks file.now)) file.now }
 {
     match read(file) {
         Ok(reading) => Some(numbers_in(file, &reading.case)),

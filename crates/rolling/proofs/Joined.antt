@@ -8,10 +8,10 @@ use mathlib.Core.List.{List, ◌++◌}
 use native.Mathlib.Nat.{one-mul}
 use native.Mathlib.Omega.{arith}
 use borrow.Author.Tests.{lt-leb}
-use lib.Dec.{leb, lit<}
+use lib.Dec.{leb}
 use lib.ListN.{length, get_or, drop}
 use lib.IntN.{ℤ, pos, neg_ℤ, ◌+ℤ◌, ◌-ℤ◌, ◌*ℤ◌}
-use Rattle.std.specs.Prelude.{Result, Ok, Err}
+use Rattle.std.specs.Prelude.{Some, None, Result, Ok, Err}
 use Rattle.model.specs.Constants.{steps_per_one}
 use Rattle.model.specs.Case.{FileCase, per_step, units_per_step, with_days, s}
 use Rattle.method.specs.Curve.{base, curve, natural, P}
@@ -19,8 +19,8 @@ use Rattle.heldcase.specs.Held.{held}
 use Rattle.model.specs.Fields.{within_z}
 use Rattle.model.specs.Limits.{Between, WithinLimits}
 use Rattle.model.specs.Numbers.{every, table}
-use Rattle.model.specs.Refusals.{forwards_right}
-use Rattle.rollingmodel.specs.Rolling.{days_held, rolling_right, rolling_refusal, rolling_valuation, rolling_factors_after, rolling_rates_after}
+use Rattle.model.specs.Refusals.{failing, forwards_right}
+use Rattle.rollingmodel.specs.Rolling.{days_held, rolling_right, rolling_checks, rolling_valuation, rolling_factors_after, rolling_rates_after}
 use Rattle.heldcase.specs.declared.Case.{Case}
 use Rattle.model.specs.declared.figures.Valuation.{Valuation}
 use Rattle.rollingmodel.specs.declared.RollingWindow.{RollingWindow}
@@ -33,9 +33,8 @@ use Rattle.fields.proofs.DaySums.{sum-bound}
 use Rattle.working.specs.inner.Ranges.{CaseFits}
 use Rattle.working.specs.inner.Working.{factors_on, rates_on, money_of}
 use Rattle.working.proofs.HeldCase.{held_fits, held-valued}
-use Rattle.refusal.specs.Numbered.{number_of}
 use Rattle.refusal.specs.declared.Refusal.{Refusal}
-use Rattle.fields.proofs.Steps.{some_number}
+use Rattle.refusal.specs.declared.Refusal.TheVariants.{Buffers, Damaged}
 use Rattle.rolling.specs.inner.Joined.{joined}
 use Rattle.rolling.proofs.Ordered.{value-27, value-13, value-long}
 use Rattle.theory.proofs.rolling.Valued.{within-limits}
@@ -86,7 +85,7 @@ module _ (w : RollingWindow) (right : rolling_right w ≡ true) where
 -- ---- the valuation
 
 -- of a window that is valued, a case has room for the flows
-pub few-flows : (w : RollingWindow) (k : FileCase) (factors rates : ℕ) → 0 ≡ rolling_refusal w k factors rates → (length k.pension ≤ 120) × (length k.bonds ≤ 60)
+pub few-flows : (w : RollingWindow) (k : FileCase) (factors rates : ℕ) → None ≡ failing (rolling_checks w k factors rates) → (length k.pension ≤ 120) × (length k.bonds ≤ 60)
 few-flows w k factors rates none = let limits = within-limits w k factors rates (sym none) in (limits.most_pension, limits.most_bonds)
 
 pub case-holds : (w : RollingWindow) (k : FileCase) → rolling_right w ≡ true → {days : ℕ} {sums : List ℤ} {case : Case} → (days ≡ w.count) × (sums ≡ w.sums)
@@ -101,35 +100,34 @@ module _ (w : RollingWindow) (k : FileCase) (f₀ : List ℕ) (z₀ : List ℤ) 
   valued = with_days 2 (days_held w) k
 
   -- the contract of `value_window`: the answer, and both buffers at the end
-  abbrev pub Meets : Result Valuation ℕ → List ℕ → List ℤ → Type 0
+  abbrev pub Meets : Result Valuation Refusal → List ℕ → List ℤ → Type 0
   Meets answer fs zs = record {
     value : answer ≡ rolling_valuation w k (length f₀) (length z₀);
     factors : fs ≡ rolling_factors_after w k f₀ z₀;
     rates : zs ≡ rolling_rates_after w k f₀ z₀;
   }
 
-  refused-window : (n : ℕ) → n ≡ rolling_refusal w k (length f₀) (length z₀) → 0 < n → Meets (Err n) f₀ z₀
+  refused-window : (r : Refusal) → failing (rolling_checks w k (length f₀) (length z₀)) ≡ Some r → Meets (Err r) f₀ z₀
   unfolding rolling_valuation rolling_factors_after rolling_rates_after
-  refused-window zero e l = let never : ⊥ = omega arith in absurd never
-  refused-window (suc n) e l = record { value = rw (sym e); factors = rw (sym e); rates = rw (sym e) }
+  refused-window r e = record { value = rw e; factors = rw e; rates = rw e }
 
-  pub damaged : rolling_right w ≡ false → Meets (Err 27) f₀ z₀
-  damaged h = refused-window 27 (value-27 w k (length f₀) (length z₀) h) (lit< tt)
+  pub damaged : rolling_right w ≡ false → Meets (Err Damaged) f₀ z₀
+  damaged h = refused-window Damaged (value-27 w k (length f₀) (length z₀) h)
 
   module _ (right : rolling_right w ≡ true) where
-    short : (leb 240 (length f₀) && leb 240 (length z₀)) ≡ false → Meets (Err 13) f₀ z₀
-    short h = refused-window 13 (value-13 w k (length f₀) (length z₀) right h) (lit< tt)
+    short : (leb 240 (length f₀) && leb 240 (length z₀)) ≡ false → Meets (Err Buffers) f₀ z₀
+    short h = refused-window Buffers (value-13 w k (length f₀) (length z₀) right h)
 
-    pub short-factors : length f₀ < 240 → Meets (Err 13) f₀ z₀
+    pub short-factors : length f₀ < 240 → Meets (Err Buffers) f₀ z₀
     short-factors h = short (rw (lt-leb 240 (length f₀) h))
 
-    pub short-rates : length z₀ < 240 → Meets (Err 13) f₀ z₀
+    pub short-rates : length z₀ < 240 → Meets (Err Buffers) f₀ z₀
     short-rates h = short (and_right (leb 240 (length f₀)) (leb 240 (length z₀)) (lt-leb 240 (length z₀) h))
 
-  pub refused : 240 ≤ length f₀ → 240 ≤ length z₀ → (e : Refusal) → number_of e ≡ rolling_refusal w k 240 240 → Meets (Err (number_of e)) f₀ z₀
-  refused hf hz e h = refused-window (number_of e) (h ∙ value-long w k (length f₀) (length z₀) hf hz) (some_number e)
+  pub refused : 240 ≤ length f₀ → 240 ≤ length z₀ → (e : Refusal) → Some e ≡ failing (rolling_checks w k 240 240) → Meets (Err e) f₀ z₀
+  refused hf hz e h = refused-window e (sym (h ∙ value-long w k (length f₀) (length z₀) hf hz))
 
-  module _ (none : 0 ≡ rolling_refusal w k 240 240) {case : Case} (is : case ≡ held valued) where
+  module _ (none : None ≡ failing (rolling_checks w k 240 240)) {case : Case} (is : case ≡ held valued) where
     limits : WithinLimits valued
     limits = within-limits w k 240 240 (sym none)
 

@@ -1,11 +1,12 @@
 // The valuation of a rolling window with the other fields of a case, as a host calls it.
 ghost use Rattle.std.specs.Prelude.{◌≡◌, true, ◌≤◌, length, is_ok, IfOk, IfErr};
+ghost use Rattle.std.specs.Result.{result_err};
 ghost use Rattle.heldcase.specs.Held.{held};
 ghost use Rattle.model.specs.Case.{with_days};
+ghost use Rattle.model.specs.Refusals.{failing};
 ghost use Rattle.fields.specs.Sums.{raised};
-ghost use Rattle.rollingmodel.specs.Rolling.{days_held, rolling_right, rolling_refusal, rolling_valuation, rolling_factors_after, rolling_rates_after};
+ghost use Rattle.rollingmodel.specs.Rolling.{days_held, rolling_right, rolling_checks, rolling_valuation, rolling_factors_after, rolling_rates_after};
 ghost use Rattle.saving.specs.Said.{said};
-ghost use Rattle.refusal.specs.Numbered.{answer_of, refused_by};
 ghost use Rattle.refusal.specs.declared.Refusal.TheVariants.{Damaged};
 ghost use Rattle.rolling.specs.inner.Joined.{joined};
 
@@ -60,7 +61,7 @@ fn window_case(w: &RollingWindow, days: DaySums, given: &GivenCase) -> Result<Ca
     requires right { rolling_right w.now ≡ true }
     requires count { days.per_step ≡ w.now.count }
     requires sums { days.sums ≡ w.now.sums }
-    ensures refusal { refused_by result ≡ rolling_refusal w.now (said given.now) 240 240 }
+    ensures refusal { result_err result ≡ failing (rolling_checks w.now (said given.now) 240 240) }
     ensures case { IfOk result (λ c. c ≡ held (with_days 2 (days_held w.now) (said given.now))) }
 {
     checked_file(given)?;
@@ -77,7 +78,7 @@ pub fn value_window(
     factors: &mut [u64],
     rates: &mut [i64],
 ) -> Result<Valuation, Refusal>
-    ensures value { answer_of result ≡ rolling_valuation w.now (said given.now) (length factors.old) (length rates.old) }
+    ensures value { result ≡ rolling_valuation w.now (said given.now) (length factors.old) (length rates.old) }
     ensures factors { factors.new ≡ rolling_factors_after w.now (said given.now) factors.old rates.old }
     ensures rates { rates.new ≡ rolling_rates_after w.now (said given.now) factors.old rates.old }
 {

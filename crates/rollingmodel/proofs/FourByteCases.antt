@@ -6,6 +6,7 @@ use mathlib.Core.Path.{◌≡◌, refl}
 use mathlib.Core.List.{List, [], ◌∷◌}
 use lib.ListN.{replicate, take}
 use lib.IntN.{pos}
+use Rattle.refusal.specs.Numbered.{answer_of}
 use Rattle.method.specs.Listing.{listing}
 use Rattle.method.proofs.Computing.{text}
 use Rattle.model.proofs.FourByteCases.{finer_case}
@@ -29,7 +30,7 @@ in_window_listing =
     ∷ "V DEKKINGSTEKORT"
     ∷ []
 
-in-window-listing : listing (rolling_valuation flat_days finer_case 240 240) ≡ text in_window_listing
+in-window-listing : listing (answer_of (rolling_valuation flat_days finer_case 240 240)) ≡ text in_window_listing
 unfolding all
 in-window-listing = refl
 

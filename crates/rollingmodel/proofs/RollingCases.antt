@@ -10,6 +10,7 @@ use mathlib.Core.List.{List, [], ◌∷◌, ◌++◌, map}
 use lib.Dec.{ltb}
 use lib.ListN.{replicate, take, drop}
 use lib.IntN.{ℤ, pos, neg_ℤ}
+use Rattle.refusal.specs.Numbered.{answer_of}
 use Rattle.model.specs.Refusals.{first_of}
 use Rattle.savingmodel.specs.Saving.{given}
 use Rattle.rollingmodel.specs.Rolling.{
@@ -213,7 +214,7 @@ flat_listing =
     ∷ "V DEKKINGSTEKORT"
     ∷ []
 
-flat-listing : listing (rolling_valuation flat_days small 240 240) ≡ text flat_listing
+flat-listing : listing (answer_of (rolling_valuation flat_days small 240 240)) ≡ text flat_listing
 unfolding all
 flat-listing = refl
 

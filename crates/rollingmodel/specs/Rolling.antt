@@ -2,12 +2,14 @@
 -- window, and its valuation with a case's other fields.
 use Rattle.std.specs.Prelude.{ℕ, zero, suc, ◌+◌, ◌*◌, ◌-◌, ◌%◌, ◌<◌, ◌≡◌, Bool, true, ◌&&◌, if◌then◌else◌, List, [], ◌∷◌, ◌++◌, nat_le, nat_lt, length, slice_index_or, take, drop, replicate, ℤ, pos, Result}
 use Rattle.std.specs.Int.Signed.{le_z}
+use Rattle.refusal.specs.declared.Refusal.{Refusal}
+use Rattle.refusal.specs.declared.Refusal.TheVariants.{DayCount, Rate, Forward, WindowFull, WindowEmpty, Damaged}
 use Rattle.model.specs.Constants.{last_market_term}
 use Rattle.model.specs.Numbers.{every, table}
 use Rattle.model.specs.Case.{FileCase, with_days, s}
-use Rattle.model.specs.Fields.{right_all}
+use Rattle.model.specs.Fields.{Check, right_all}
 use Rattle.model.specs.Layout.{day}
-use Rattle.model.specs.Refusals.{first_of, forwards_right}
+use Rattle.model.specs.Refusals.{failing, first_of, forwards_right}
 use Rattle.savingmodel.specs.Saving.{case_checks}
 use Rattle.method.specs.Buffers as Buffers
 use Rattle.method.specs.Buffers.{buffers_check, factor_entries, rate_entries, written, answered, valuation_of}
@@ -62,11 +64,11 @@ rolling_right w =
 -- "27 .. ahead of all"; "15 for a day added to a window of 70, before its rates are looked at"; "Adding checks the day's 60 rates against
 -- the limits of refusal 5."
 unfoldable pub add_refusal : RollingWindow → List ℤ → ℕ
-add_refusal w new = first_of ((rolling_right w, 27) ∷ (nat_lt w.count window_days, 15) ∷ ((day 2).right new, 5) ∷ [])
+add_refusal w new = first_of ((rolling_right w, Damaged) ∷ (nat_lt w.count window_days, WindowFull) ∷ ((day 2).right new, Rate) ∷ [])
 
 -- "16 for a drop from an empty window"
 unfoldable pub drop_refusal : RollingWindow → ℕ
-drop_refusal w = first_of ((rolling_right w, 27) ∷ (nat_lt 0 w.count, 16) ∷ [])
+drop_refusal w = first_of ((rolling_right w, Damaged) ∷ (nat_lt 0 w.count, WindowEmpty) ∷ [])
 
 -- the rates with another day in slot j
 abbrev pub with_day_in : List ℤ → ℕ → List ℤ → List ℤ
@@ -137,24 +139,26 @@ pub record HoldsAfter (cs : List Change) : Type 0 where
 
 -- "27 .. ahead of all, also of 13"; "Valuation checks 13, then the case's own numbers in document 01's order, its own days and 6
 -- included, then 4 for an empty window, then 6 for its days.": by the lengths of the two buffers
-unfoldable pub rolling_refusal : RollingWindow → FileCase → ℕ → ℕ → ℕ
-rolling_refusal w k factors rates =
-    first_of
-    ((rolling_right w, 27)
+abbrev pub rolling_checks : RollingWindow → FileCase → ℕ → ℕ → List Check
+rolling_checks w k factors rates =
+    (rolling_right w, Damaged)
     ∷ buffers_check factors rates
-    ∷ (case_checks k ++ ((nat_lt 0 w.count, 4) ∷ (forwards_right w.count (days_held w), 6) ∷ [])))
+    ∷ (case_checks k ++ ((nat_lt 0 w.count, DayCount) ∷ (forwards_right w.count (days_held w), Forward) ∷ []))
+
+unfoldable pub rolling_refusal : RollingWindow → FileCase → ℕ → ℕ → ℕ
+rolling_refusal w k factors rates = first_of (rolling_checks w k factors rates)
 
 -- "valued with an accepted case's other fields", whichever days field that case has
-unfoldable pub rolling_valuation : RollingWindow → FileCase → ℕ → ℕ → Result Valuation ℕ
-rolling_valuation w k factors rates = answered (rolling_refusal w k factors rates) (with_days 2 (days_held w) k)
+unfoldable pub rolling_valuation : RollingWindow → FileCase → ℕ → ℕ → Result Valuation Refusal
+rolling_valuation w k factors rates = answered (failing (rolling_checks w k factors rates)) (with_days 2 (days_held w) k)
 
 unfoldable pub rolling_factors_after : RollingWindow → FileCase → List ℕ → List ℤ → List ℕ
 rolling_factors_after w k factors rates =
-    written (rolling_refusal w k (length factors) (length rates)) (factor_entries (with_days 2 (days_held w) k)) factors
+    written (failing (rolling_checks w k (length factors) (length rates))) (factor_entries (with_days 2 (days_held w) k)) factors
 
 unfoldable pub rolling_rates_after : RollingWindow → FileCase → List ℕ → List ℤ → List ℤ
 rolling_rates_after w k factors rates =
-    written (rolling_refusal w k (length factors) (length rates)) (rate_entries (with_days 2 (days_held w) k)) rates
+    written (failing (rolling_checks w k (length factors) (length rates))) (rate_entries (with_days 2 (days_held w) k)) rates
 
 -- "gives what the file with these days gives": the answer, and what the two lent buffers hold afterwards
 pub record ValuedAsFile (w : RollingWindow) (k : FileCase) (file factors : List ℕ) (rates : List ℤ) : Type 0 where

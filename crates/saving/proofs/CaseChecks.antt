@@ -1,4 +1,4 @@
--- Which number a case is refused with, check by check, and the bytes of its shortest file.
+-- Why a case is refused, check by check, and the bytes of its shortest file.
 use Prim.Native.Nat.{ℕ}
 use mathlib.Core.Path.{◌≡◌, refl, ap, ap₂, sym, ◌∙◌}
 use mathlib.Core.Bool.{Bool, true, false, cond, not}
@@ -6,7 +6,6 @@ use mathlib.Core.List.{List, [], ◌∷◌, ◌++◌}
 use lib.Dec.{eqb}
 use lib.IntN.{ℤ}
 use Rattle.std.proofs.Common.{Option, Some, None}
-use Rattle.std.specs.Option.{unwrap_or}
 use Rattle.theory.proofs.acceptance.Bitmap.{announced}
 use Rattle.theory.proofs.acceptance.Form.{by_form}
 use Rattle.model.specs.Case.{FileCase, known_form, per_step}
@@ -14,14 +13,13 @@ use Rattle.model.specs.Fields.{Check, Field}
 use Rattle.model.specs.Layout.{Parts, Present, layout, parts_of, days, shocks, people, file_of, map_of, present_in, rate_bytes_in, stands}
 use Rattle.model.specs.Numbers.{bytes_of}
 use Rattle.model.specs.inner.Positions.{ufr_field, pension_field, bonds_field, amounts_field}
-use Rattle.model.specs.Refusals.{bits_right, forwards_right}
+use Rattle.model.specs.Refusals.{failing, bits_right, forwards_right}
 use Rattle.model.specs.declared.case.CaseFields.{CaseFields}
-use Rattle.savingmodel.specs.Saving.{days_of, given, needed, shortest, case_checks, case_refusal}
+use Rattle.savingmodel.specs.Saving.{days_of, given, needed, shortest, case_checks}
 use Rattle.refusal.specs.declared.Refusal.{Refusal}
-use Rattle.refusal.specs.Numbered.{number_of}
-use Rattle.fields.specs.Failing.{failing}
+use Rattle.refusal.specs.declared.Refusal.TheVariants.{WrongFields, Forward, Shock, People}
 use Rattle.fields.specs.Sums.{days_checks}
-use Rattle.fields.proofs.Failing.{first-failing, holds-first, both-hold}
+use Rattle.theory.proofs.acceptance.Checks.{holds-first, both-hold}
 use Rattle.fields.proofs.Laid.{laid, announced-are}
 use Rattle.fields.proofs.Steps.{go, stop}
 
@@ -35,29 +33,29 @@ days-if false rates = refl
 
 module _ (k : FileCase) where
   abbrev form : List Check
-  form = (known_form k.rate_bytes, 3) ∷ []
+  form = (known_form k.rate_bytes, WrongFields) ∷ []
 
   abbrev limits : List Check
   limits = (layout k.rate_bytes (needed k)).limits (parts_of k)
 
   abbrev six : List Check
-  six = (forwards_right (per_step k) k.days, 6) ∷ []
+  six = (forwards_right (per_step k) k.days, Forward) ∷ []
 
-  in_order : {o : Option ℕ} → o ≡ failing (form ++ (limits ++ six)) → unwrap_or o 0 ≡ case_refusal k
-  unfolding case_refusal case_checks
-  in_order h = ap (λ o. unwrap_or o 0) h ∙ sym (first-failing (form ++ (limits ++ six)))
+  in_order : {o : Option Refusal} → o ≡ failing (form ++ (limits ++ six)) → o ≡ failing (case_checks k)
+  unfolding case_checks
+  in_order h = h
 
-  pub form-refused : (e : Refusal) {b : Bool} → b ≡ known_form k.rate_bytes → Some (number_of e) ≡ failing ((b, 3) ∷ []) → number_of e ≡ case_refusal k
-  form-refused e is h = in_order (stop e form (limits ++ six) (h ∙ ap (λ b. failing ((b, 3) ∷ [])) is))
+  pub form-refused : (e : Refusal) {b : Bool} → b ≡ known_form k.rate_bytes → Some e ≡ failing ((b, WrongFields) ∷ []) → Some e ≡ failing (case_checks k)
+  form-refused e is h = in_order (stop e form (limits ++ six) (h ∙ ap (λ b. failing ((b, WrongFields) ∷ [])) is))
 
-  module _ {b : Bool} (is : b ≡ known_form k.rate_bytes) (right : failing ((b, 3) ∷ []) ≡ None) where
+  module _ {b : Bool} (is : b ≡ known_form k.rate_bytes) (right : failing ((b, WrongFields) ∷ []) ≡ None) where
     form-right : failing form ≡ None
-    form-right = ap (λ b. failing ((b, 3) ∷ [])) (sym is) ∙ right
+    form-right = ap (λ b. failing ((b, WrongFields) ∷ [])) (sym is) ∙ right
 
-    limit-fails : (e : Refusal) → Some (number_of e) ≡ failing limits → number_of e ≡ case_refusal k
+    limit-fails : (e : Refusal) → Some e ≡ failing limits → Some e ≡ failing (case_checks k)
     limit-fails e h = in_order (go form (limits ++ six) form-right (stop e limits six h))
 
-    last-is : failing limits ≡ None → {o : Option ℕ} → o ≡ failing six → unwrap_or o 0 ≡ case_refusal k
+    last-is : failing limits ≡ None → {o : Option Refusal} → o ≡ failing six → o ≡ failing (case_checks k)
     last-is hold h = in_order (go form (limits ++ six) form-right (go limits six hold h))
 
 -- ---- the days, among the fields
@@ -73,7 +71,7 @@ module _ (f : CaseFields) (d : List (List ℤ)) (pension bonds : List ℕ) (p : 
   behind =
       pension_field.limits pension
       ++ ((bonds_field p).limits bonds
-      ++ ((amounts_field p).limits f.amounts ++ ((shocks.right f.shocks, 11) ∷ (people.right f.people, 12) ∷ [])))
+      ++ ((amounts_field p).limits f.amounts ++ ((shocks.right f.shocks, Shock) ∷ (people.right f.people, People) ∷ [])))
 
   days-among : (w : ℕ) → known_form w ≡ true → failing (limits_of w) ≡ None → failing ((days w).limits d) ≡ None
   days-among w known = by_form (λ v. failing (limits_of v) ≡ None → failing ((days v).limits d) ≡ None) w known two four
@@ -99,13 +97,13 @@ module _ (f : CaseFields) (rates : List ℤ) (pension bonds : List ℕ) where
   abbrev ds : List (List ℤ)
   ds = days_of rates
 
-  module _ {known : Bool} (is : known ≡ known_form w) (right : failing ((known, 3) ∷ []) ≡ None) (q : Present) (present : q ≡ needed case) {map : ℕ} (map-is : map ≡ map_of w q)
+  module _ {known : Bool} (is : known ≡ known_form w) (right : failing ((known, WrongFields) ∷ []) ≡ None) (q : Present) (present : q ≡ needed case) {map : ℕ} (map-is : map ≡ map_of w q)
       {u s b a l : Bool} (eu : u ≡ stands 0 map) (es : s ≡ not (stands 7 map)) (eb : b ≡ stands 3 map) (ea : a ≡ stands 4 map) (el : l ≡ stands 7 map)
       {x : Parts} (parts-are : x ≡ parts_of case) where
     form-known : known_form w ≡ true
     form-known = go-known known (known_form w) is right
       where
-        go-known : (b c : Bool) → b ≡ c → failing ((b, 3) ∷ []) ≡ None → c ≡ true
+        go-known : (b c : Bool) → b ≡ c → failing ((b, WrongFields) ∷ []) ≡ None → c ≡ true
         go-known true c e h = sym e
         go-known false c e h = cc
 
@@ -123,12 +121,12 @@ module _ (f : CaseFields) (rates : List ℤ) (pension bonds : List ℕ) where
     limits-are : fields.limits x ≡ limits case
     limits-are = λ k. (fields-are k).limits (parts-are k)
 
-    pub field-refused : (e : Refusal) → Some (number_of e) ≡ failing (fields.limits x) → number_of e ≡ case_refusal case
+    pub field-refused : (e : Refusal) → Some e ≡ failing (fields.limits x) → Some e ≡ failing (case_checks case)
     field-refused e h = limit-fails case is right e (h ∙ ap failing limits-are)
 
     module _ (hold : failing (fields.limits x) ≡ None) where
       -- where the fields are within their limits, the days are: what is left is the check of their forward rates
-      forwards-are : {o : Option ℕ} → o ≡ cond (eqb w 2) (failing (days_checks 2 x.0.1.0)) (failing (days_checks 4 x.1)) → unwrap_or o 0 ≡ case_refusal case
+      forwards-are : {o : Option Refusal} → o ≡ cond (eqb w 2) (failing (days_checks 2 x.0.1.0)) (failing (days_checks 4 x.1)) → o ≡ failing (case_checks case)
       unfolding per_step
       forwards-are h =
           let holds = ap failing (sym limits-are) ∙ hold in
@@ -138,14 +136,14 @@ module _ (f : CaseFields) (rates : List ℤ) (pension bonds : List ℕ) where
           ∙ by_form (λ v. cond (eqb v 2) (failing (days_checks 2 (cond (eqb v 2) ds []))) (failing (days_checks 4 (cond (eqb v 4) ds []))) ≡ failing (days_checks v ds)) w form-known refl refl
           ∙ holds-first ((days w).limits ds) (six case) (days-among f ds pension bonds (needed case) w form-known holds))
 
-      pub six-refused : (e : Refusal) → Some (number_of e) ≡ cond (eqb w 2) (failing (days_checks 2 x.0.1.0)) (failing (days_checks 4 x.1)) → number_of e ≡ case_refusal case
+      pub six-refused : (e : Refusal) → Some e ≡ cond (eqb w 2) (failing (days_checks 2 x.0.1.0)) (failing (days_checks 4 x.1)) → Some e ≡ failing (case_checks case)
       six-refused e h = forwards-are h
 
-      pub accepted : None ≡ cond (eqb w 2) (failing (days_checks 2 x.0.1.0)) (failing (days_checks 4 x.1)) → 0 ≡ case_refusal case
+      pub accepted : None ≡ cond (eqb w 2) (failing (days_checks 2 x.0.1.0)) (failing (days_checks 4 x.1)) → None ≡ failing (case_checks case)
       accepted h = forwards-are h
 
-      pub limits-hold : failing ((bits_right map, 3) ∷ fields.limits x) ≡ None
-      limits-hold = ap (λ (b : Bool). failing ((b, 3) ∷ fields.limits x)) (ap bits_right map-is ∙ (announced w q form-known).0) ∙ hold
+      pub limits-hold : failing ((bits_right map, WrongFields) ∷ fields.limits x) ≡ None
+      limits-hold = ap (λ (b : Bool). failing ((b, WrongFields) ∷ fields.limits x)) (ap bits_right map-is ∙ (announced w q form-known).0) ∙ hold
 
     pub file_is : bytes_of 2 map ++ fields.bytes x ≡ shortest case
     unfolding shortest file_of

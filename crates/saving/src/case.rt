@@ -1,12 +1,12 @@
 // A case as a host hands it in: the file that it makes, and its checks.
 ghost use Rattle.std.specs.Prelude.{◌≡◌, cond, if◌then◌else◌, nat_eq, [], IfOk, None};
+ghost use Rattle.std.specs.Result.{result_err};
 ghost use Rattle.model.specs.Case.{known_form};
 ghost use Rattle.model.specs.Layout.{parts_of as fields_in};
-ghost use Rattle.refusal.specs.Numbered.{refusal_in, refused_by};
-ghost use Rattle.fields.specs.Failing.{failing};
+ghost use Rattle.model.specs.Refusals.{failing};
 ghost use Rattle.fields.specs.Sums.{days_checks};
 ghost use Rattle.saving.specs.Said.{said};
-ghost use Rattle.savingmodel.specs.Saving.{case_refusal, shortest};
+ghost use Rattle.savingmodel.specs.Saving.{case_checks, shortest};
 
 use crate::given::GivenCase;
 use crate::included::{map_of, needed};
@@ -67,7 +67,7 @@ fn parts_of<'a>(case: &GivenCase<'a>) -> Parts<'a>
 
 // The limits of the days and of their forward rates, of days of the form that the case has.
 fn forwards_of(rate_bytes: u64, parts: &Parts<'_>) -> Result<(), Refusal>
-    ensures { refusal_in result ≡ (if nat_eq rate_bytes 2 then failing (days_checks 2 parts.now.0.1.0.held.now) else failing (days_checks 4 parts.now.1.held.now)) }
+    ensures { result_err result ≡ (if nat_eq rate_bytes 2 then failing (days_checks 2 parts.now.0.1.0.held.now) else failing (days_checks 4 parts.now.1.held.now)) }
 {
     if rate_bytes == 2 {
         parts.0.1.0.forwards
@@ -79,7 +79,7 @@ fn forwards_of(rate_bytes: u64, parts: &Parts<'_>) -> Result<(), Refusal>
 // The shortest file of a case, or the first of its checks that fails: `WrongFields` where a rate has neither 2 nor 4 bytes, then each
 // field's limits in bit order, then `Forward`.
 pub fn checked_file<'a>(case: &GivenCase<'a>) -> Result<File<'a>, Refusal>
-    ensures refusal { refused_by result ≡ case_refusal (said case.now) }
+    ensures refusal { result_err result ≡ failing (case_checks (said case.now)) }
     ensures bytes { IfOk result (λ file. (⟦<Fields as Field<'static>>⟧.told file.fields).bytes (⟦<Fields as Field<'static>>⟧.said file.given) ≡ shortest (said case.now)) }
     ensures limits { IfOk result (λ file. failing ((⟦<Fields as Field<'static>>⟧.told file.fields).limits (⟦<Fields as Field<'static>>⟧.said file.given)) ≡ None) }
 {

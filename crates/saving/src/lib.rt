@@ -7,7 +7,6 @@ pub mod included;
 
 ghost use Rattle.std.specs.Prelude.{◌≡◌, length};
 ghost use Rattle.savingmodel.specs.Saving.{save_answer, saved_after};
-ghost use Rattle.refusal.specs.Numbered.{answer_of};
 ghost use Rattle.saving.specs.Said.{said};
 
 use case::checked_file;
@@ -18,7 +17,7 @@ use refusal::Refusal;
 // Writes the shortest file of a case to the front of a lent buffer, and answers its length. A refusal writes no byte: the case is checked,
 // and the room, before the first is written.
 pub fn save(case: &GivenCase, out: &mut [u8]) -> Result<usize, Refusal>
-    ensures value { answer_of result ≡ save_answer (said case.now) (length out.old) }
+    ensures value { result ≡ save_answer (said case.now) (length out.old) }
     ensures buffer { out.new ≡ saved_after (said case.now) out.old }
 {
     let file = checked_file(case)?;

@@ -6,6 +6,7 @@ use mathlib.Core.List.{List, [], ◌∷◌, ◌++◌, map}
 use lib.ListN.{replicate}
 use lib.IntN.{pos, neg_ℤ}
 use Rattle.std.specs.Prelude.{Ok, Err}
+use Rattle.refusal.specs.declared.Refusal.TheVariants.{WrongFields, Room}
 use Rattle.model.specs.Case.{FileCase}
 use Rattle.model.proofs.Computing.{pairs}
 use Rattle.model.proofs.FourByteCases.{quads, finer_file, finer_case, old_case, new_case, old_file, new_file}
@@ -97,9 +98,9 @@ four-rooms : (save_refusal small_four 279 ≡ 14)
 unfolding all
 four-rooms = (refl, refl, refl, refl)
 
-four-answers : (save_answer small_four 279 ≡ Err 14)
+four-answers : (save_answer small_four 279 ≡ Err Room)
     × (save_answer small_four 280 ≡ Ok 280)
-    × (save_answer three_bytes 280 ≡ Err 3)
+    × (save_answer three_bytes 280 ≡ Err WrongFields)
 unfolding all
 four-answers = (refl, refl, refl)
 

@@ -8,6 +8,7 @@ use mathlib.Core.List.{List, [], ◌∷◌, ◌++◌, map}
 use lib.ListN.{replicate}
 use lib.IntN.{pos, neg_ℤ}
 use Rattle.std.specs.Prelude.{Ok, Err}
+use Rattle.refusal.specs.declared.Refusal.TheVariants.{Forward, Room}
 use Rattle.model.specs.Case.{FileCase}
 use Rattle.savingmodel.specs.Saving.{given, case_refusal, shortest, save_refusal, save_answer, saved_after}
 use Rattle.model.specs.declared.case.Amounts.{Amounts}
@@ -214,10 +215,10 @@ room-refusals : (map (save_refusal small) (159 ∷ 160 ∷ 161 ∷ []) ≡ 14 �
 unfolding all
 room-refusals = (refl, refl)
 
-save-answers : (save_answer small 159 ≡ Err 14)
+save-answers : (save_answer small 159 ≡ Err Room)
     × (save_answer small 160 ≡ Ok 160)
     × (save_answer small 161 ≡ Ok 160)
-    × (save_answer steep 160 ≡ Err 6)
+    × (save_answer steep 160 ≡ Err Forward)
 unfolding all
 save-answers = (refl, refl, refl, refl)
 

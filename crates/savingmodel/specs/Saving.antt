@@ -1,10 +1,12 @@
 -- A case written back in its shortest form (document 02, request One). Its checks and its bytes are those of the layout of document 01.
-use Rattle.std.specs.Prelude.{ℕ, zero, suc, ◌/◌, ◌%◌, Bool, true, ◌&&◌, not, if◌then◌else◌, List, [], ◌∷◌, ◌++◌, nat_le, nat_lt, ◌==◌, length, take, drop, ℤ, Result, Ok, Err}
+use Rattle.std.specs.Prelude.{ℕ, zero, suc, ◌/◌, ◌%◌, Bool, true, ◌&&◌, not, if◌then◌else◌, List, [], ◌∷◌, ◌++◌, nat_le, nat_lt, ◌==◌, length, take, drop, ℤ, Option, Some, None, Result, Ok, Err}
+use Rattle.refusal.specs.declared.Refusal.{Refusal}
+use Rattle.refusal.specs.declared.Refusal.TheVariants.{WrongFields, Forward, Room}
 use Rattle.model.specs.Constants.{default_ufr, last_market_term}
 use Rattle.model.specs.Case.{FileCase, known_form, per_step}
 use Rattle.model.specs.Fields.{Check}
 use Rattle.model.specs.Layout.{amounts_in_order, Present, layout, parts_of, file_of}
-use Rattle.model.specs.Refusals.{first_of, forwards_right}
+use Rattle.model.specs.Refusals.{failing, first_of, forwards_right}
 use Rattle.model.specs.declared.case.CaseFields.{CaseFields}
 
 -- ---- a case as a host hands it in: the fields that are no lists, and the rates, the pension flows and the bond flows as lists. It says how
@@ -56,31 +58,34 @@ shortest k = file_of (needed k) k
 -- map (3) only which days field it has: a case whose rates have neither 2 nor 4 bytes has neither.
 unfoldable pub case_checks : FileCase → List Check
 case_checks k =
-    (known_form k.rate_bytes, 3)
-    ∷ ((layout k.rate_bytes (needed k)).limits (parts_of k) ++ ((forwards_right (per_step k) k.days, 6) ∷ []))
+    (known_form k.rate_bytes, WrongFields)
+    ∷ ((layout k.rate_bytes (needed k)).limits (parts_of k) ++ ((forwards_right (per_step k) k.days, Forward) ∷ []))
 
 unfoldable pub case_refusal : FileCase → ℕ
 case_refusal k = first_of (case_checks k)
 
 -- "then 14 when the lent buffer is shorter than the bytes needed": by the length of the buffer
+abbrev pub save_checks : FileCase → ℕ → List Check
+save_checks k room = case_checks k ++ ((nat_le (length (shortest k)) room, Room) ∷ [])
+
 unfoldable pub save_refusal : FileCase → ℕ → ℕ
-save_refusal k room = first_of (case_checks k ++ ((nat_le (length (shortest k)) room, 14) ∷ []))
+save_refusal k room = first_of (save_checks k room)
 
 -- ---- what is answered, and what the lent buffer holds afterwards
 
 -- "The writer returns the count of bytes written."
-abbrev pub saved_of : ℕ → ℕ → Result ℕ ℕ
-saved_of zero count = Ok count
-saved_of (suc r) count = Err (suc r)
+abbrev pub saved_of : Option Refusal → ℕ → Result ℕ Refusal
+saved_of None count = Ok count
+saved_of (Some r) count = Err r
 
--- the count of bytes written, or the number of a refusal
-unfoldable pub save_answer : FileCase → ℕ → Result ℕ ℕ
-save_answer k room = saved_of (save_refusal k room) (length (shortest k))
+-- the count of bytes written, or a refusal
+unfoldable pub save_answer : FileCase → ℕ → Result ℕ Refusal
+save_answer k room = saved_of (failing (save_checks k room)) (length (shortest k))
 
 -- "The buffer's bytes past the written ones keep their content."; "a refusal writes no byte"
-abbrev pub stored_in : ℕ → List ℕ → List ℕ → List ℕ
-stored_in zero bytes held = bytes ++ drop (length bytes) held
-stored_in (suc r) bytes held = held
+abbrev pub stored_in : Option Refusal → List ℕ → List ℕ → List ℕ
+stored_in None bytes held = bytes ++ drop (length bytes) held
+stored_in (Some r) bytes held = held
 
 unfoldable pub saved_after : FileCase → List ℕ → List ℕ
-saved_after k held = stored_in (save_refusal k (length held)) (shortest k) held
+saved_after k held = stored_in (failing (save_checks k (length held))) (shortest k) held

@@ -6,6 +6,7 @@ use mathlib.Core.List.{[], ◌∷◌}
 use lib.Dec.{lit≤}
 use lib.ListN.{length, replicate}
 use lib.IntN.{pos, neg_ℤ}
+use Rattle.refusal.specs.Numbered.{answer_of}
 use Rattle.arith.specs.Rounding.{low, high}
 use Rattle.model.specs.Numbers.{number, twos_complement}
 use Rattle.method.specs.Fraction.{◌//◌, ◌≐◌}
@@ -52,7 +53,7 @@ pub record TwelveCases : Type 0 where
   -- "Its 224 bytes give": the listing; and the exact verdict is the same
   pub c1 : (length file_c1 ≡ 224)
       × (refusal file_c1 ≡ 0)
-      × (listing (valuation_of 240 240 file_c1) ≡ text listing_c1)
+      × (listing (answer_of (valuation_of 240 240 file_c1)) ≡ text listing_c1)
       × (Exact.verdict (case_of file_c1) ≡ VrijVermogen)
   -- "C1 with cash 1,099,999: RESERVETEKORT"
   pub c2 : (refusal file_c2 ≡ 0)

@@ -6,7 +6,8 @@ use mathlib.Core.List.{List, ◌++◌}
 use native.Mathlib.Omega.{arith}
 use lib.IntN.{ℤ}
 use lib.ListN.{drop}
-use Rattle.std.specs.Prelude.{Result, Ok}
+use Rattle.std.specs.Prelude.{None, Result, Ok}
+use Rattle.refusal.specs.declared.Refusal.{Refusal}
 use Rattle.arith.specs.Rounding.{End}
 use Rattle.model.specs.Constants.{last_term}
 use Rattle.model.specs.Case.{FileCase}
@@ -27,7 +28,7 @@ use Rattle.money.specs.inner.ByWorths.{money_by}
 use Rattle.working.specs.inner.Ranges.{CaseFits}
 use Rattle.working.specs.inner.Working.{factors_on, rates_on, owed, bonds, money_of}
 
-abbrev ok_of : Valuation → Result Valuation ℕ
+abbrev ok_of : Valuation → Result Valuation Refusal
 ok_of v = Ok v
 
 module _ (k : FileCase) (w : WithinLimits k) where
@@ -77,7 +78,7 @@ module _ (k : FileCase) (w : WithinLimits k) where
       → v ≡ money_of c
       → factors ≡ factors_on c base ++ drop 240 f₀
       → rates ≡ rates_on c ++ drop 240 z₀
-      → (Ok v ≡ answered 0 k) × ((factors ≡ written 0 (factor_entries k) f₀) × (rates ≡ written 0 (rate_entries k) z₀))
+      → (Ok v ≡ answered None k) × ((factors ≡ written None (factor_entries k) f₀) × (rates ≡ written None (rate_entries k) z₀))
   held-valued f₀ z₀ is p q r =
       let answer = ap ok_of (p ∙ ap money_of is ∙ held-money) in
       let factors = q ∙ ap (λ (l : List ℕ). l ++ drop 240 f₀) (ap (λ (c : Case). factors_on c base) is ∙ held-factors) in

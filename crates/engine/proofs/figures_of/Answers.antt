@@ -3,9 +3,9 @@ use Rattle.engine.proofs.Valued.{reading-fits, figures-accepted}
 use Rattle.engine.proofs.figures_of.Goals as goal
 
 pub money_of-requires : goal.money_of-requires
-money_of-requires c = let read = c.in-Ok.ensures.value in reading-fits c.args.file.now read.number _ read.given.0
+money_of-requires c = let read = c.in-Ok.ensures.value in reading-fits c.args.file.now read.refusal _ read.given.0
 
 pub returns-in-Ok : goal.returns-in-Ok
 returns-in-Ok c =
     let read = c.in-Ok.ensures.value in
-    figures-accepted c.args.file.now read.number _ read.given.0 _ c.money_of.ensures
+    figures-accepted c.args.file.now read.refusal _ read.given.0 _ c.money_of.ensures

@@ -35,14 +35,14 @@ returns-in_err-rates c =
     rw (p.1, p.2, told, unwritten factors) (short-rates (call-of-slice _ _ _ c.type_inv.file) (rw none at c.first_chunk_mut-2.ensures.cases))
 
 pub value_case-requires : goal.value_case-requires
-value_case-requires c = let read = c.in-Ok.ensures.value in reading-fits c.args.file.now read.number _ read.given.0
+value_case-requires c = let read = c.in-Ok.ensures.value in reading-fits c.args.file.now read.refusal _ read.given.0
 
 pub returns-in-Err : goal.returns-in-Err
 returns-in-Err c =
     let at = goal.at.returns-in-Err c in
     let factors = of-factors at.In_ok-factors in
     let rates = of-rates at.In_ok-rates in
-    rw (unwritten factors, unwritten rates) (refused-file (call-of-slice _ _ _ c.type_inv.file) factors.enough rates.enough _ c.in-Err.ensures.value.number)
+    rw (unwritten factors, unwritten rates) (refused-file (call-of-slice _ _ _ c.type_inv.file) factors.enough rates.enough _ c.in-Err.ensures.value.refusal)
 
 pub returns-in-Ok : goal.returns-in-Ok
 returns-in-Ok c =
@@ -52,4 +52,4 @@ returns-in-Ok c =
     let read = c.in-Ok.ensures.value in
     let valued = c.value_case.ensures in
     accepted-file (call-of-slice _ _ _ c.type_inv.file) factors.enough rates.enough
-    read.number _ read.given.0 _ _ _ valued.value (rw valued.factors) (rw valued.rates)
+    read.refusal _ read.given.0 _ _ _ valued.value (rw valued.factors) (rw valued.rates)

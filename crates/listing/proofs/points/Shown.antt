@@ -1,12 +1,11 @@
 -- The window shows every factor and every money figure of a case within the limits: none of its points 1 to 130 is blank.
 -- Assumes nothing.
 use mathlib.Core.Path.{◌≡◌, refl, ap, ◌∙◌}
-use mathlib.Core.Bool.{Bool, true, false, ◌&&◌, cond}
 use mathlib.Core.List.{List, ◌++◌}
 use Prim.Native.Nat.{ℕ, zero, suc, ◌*◌, ◌-◌, ◌^◌, ◌≤◌, ◌<◌}
 use native.Mathlib.Nat.{le_trans}
 use native.Mathlib.Omega.{arith}
-use lib.Dec.{leb, lit≤}
+use lib.Dec.{lit≤}
 use lib.IntN.{ℤ}
 use lib.ListN.{length, drop, get_or, length-append}
 use Rattle.arith.specs.Rounding.{End, low, high}
@@ -16,13 +15,14 @@ use Rattle.method.specs.Curve.{base, curve}
 use Rattle.method.specs.Rounded as Rounded
 use Rattle.arith.specs.Brackets.{bracket}
 use Rattle.model.specs.Layout.{case_of}
-use Rattle.model.specs.Refusals.{first_of, refusal}
-use Rattle.method.specs.Buffers.{by_term, factor_entries, factors_after, valuation_refusal}
+use Rattle.model.specs.Refusals.{refusal}
+use Rattle.method.specs.Buffers.{by_term, factor_entries, factors_after, valuation_checks, valuation_refusal}
 use Rattle.method.specs.Window.{double, figures_in_order, factor_point, factor_bracket}
 use Rattle.arith.specs.declared.bracket.Bracket.{Bracket}
 use Rattle.model.specs.declared.figures.Figures.{Figures}
 use Rattle.model.specs.declared.window.Point.TheVariants.{Factor, Money}
 use Rattle.theory.proofs.acceptance.Acceptance.{within-limits}
+use Rattle.theory.proofs.acceptance.Checks.{none-hold, hold-none, none-fails}
 use Rattle.theory.proofs.curve.CaseCurves.{curve-within}
 use Rattle.theory.proofs.money.MoneySizes.{factor-most, L-most, B-most, A-most, S1-most, S2-most, S3-most, S4-most, S5-most, S6-most, S-most}
 use Rattle.listing.specs.Shown.{FactorShown, MoneyShown, Shown}
@@ -84,11 +84,7 @@ shown k w rest =
 -- after a file was accepted and valued, the lent buffer of factors is such a buffer
 pub shown-after : (file factors : List ℕ) (rates : List ℤ) → valuation_refusal (length factors) (length rates) file ≡ 0
     → Shown (case_of file) (factors_after file factors rates)
-unfolding factors_after valuation_refusal first_of refusal
+unfolding factors_after valuation_refusal refusal
 shown-after file factors rates h =
-    rw h
-    (shown (case_of file) (within-limits file (accepted (leb 240 (length factors) && leb 240 (length rates)) (refusal file) h)) (drop 240 factors))
-  where
-    accepted : (lent : Bool) (r : ℕ) → cond lent r 13 ≡ 0 → r ≡ 0
-    accepted true r e = e
-    accepted false r e = absurd (let z : ⊥ = omega arith in z)
+    let checks = valuation_checks (length factors) (length rates) file in
+    rw (none-fails checks h) (shown (case_of file) (within-limits file (hold-none _ (none-hold checks h).1)) (drop 240 factors))

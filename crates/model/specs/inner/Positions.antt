@@ -1,5 +1,6 @@
 -- The fields of the layout under a name each, and where each field of a file starts: at the end of the field before it.
 use Rattle.std.specs.Prelude.{ℕ, if◌then◌else◌, List, [], ◌==◌, slice_index, ℤ}
+use Rattle.refusal.specs.declared.Refusal.TheVariants.{FlowCount, Flow, Ufr, Amount, Shock, People}
 use Rattle.model.specs.Constants.{default_ufr}
 use Rattle.model.specs.Fields.{number_of, Field, field, counted, optional}
 use Rattle.model.specs.Layout.{days, flow, amounts, no_amounts, shocks, people, Present, rate_bytes_in, present_in, file_map}
@@ -7,20 +8,20 @@ use Rattle.model.specs.Refusals.{ufr_end}
 use Rattle.model.specs.declared.case.Amounts.{Amounts}
 
 abbrev pub ufr_field : Present → Field ℕ
-ufr_field p = optional p.ufr default_ufr (field 9 (number_of 2 0 5000))
+ufr_field p = optional p.ufr default_ufr (field Ufr (number_of 2 0 5000))
 
 -- the days field whose rates have v bytes, of a case whose rates have w
 abbrev pub days_field : ℕ → ℕ → Field (List (List ℤ))
 days_field v w = optional (w == v) [] (days v)
 
 abbrev pub pension_field : Field (List ℕ)
-pension_field = counted 120 7 8 flow
+pension_field = counted 120 FlowCount Flow flow
 
 abbrev pub bonds_field : Present → Field (List ℕ)
-bonds_field p = optional p.bonds [] (counted 60 7 8 flow)
+bonds_field p = optional p.bonds [] (counted 60 FlowCount Flow flow)
 
 abbrev pub amounts_field : Present → Field Amounts
-amounts_field p = optional p.amounts no_amounts (field 10 amounts)
+amounts_field p = optional p.amounts no_amounts (field Amount amounts)
 
 -- the bytes of a rate and the optional fields that a file has
 abbrev pub rate_bytes : List ℕ → ℕ
@@ -50,11 +51,11 @@ unfoldable pub shocks_at : List ℕ → ℕ
 shocks_at file = (amounts_field (present file)).end file (amounts_at file)
 
 unfoldable pub people_at : List ℕ → ℕ
-people_at file = (field 11 shocks).end file (shocks_at file)
+people_at file = (field Shock shocks).end file (shocks_at file)
 
 -- where the people end, which is where four-byte days stand; and where the last field ends
 unfoldable pub people_end : List ℕ → ℕ
-people_end file = (field 12 people).end file (people_at file)
+people_end file = (field People people).end file (people_at file)
 
 unfoldable pub file_end : List ℕ → ℕ
 file_end file = (days_field 4 (rate_bytes file)).end file (people_end file)

@@ -43,7 +43,7 @@ returns-in-Err c =
     let factors = of-factors at.In_ok-factors in
     let rates = of-rates at.In_ok-rates in
     rw (unwritten factors, unwritten rates)
-    (refused-file a.file.now a.history.now a.start a.factors.now a.rates.now factors.enough rates.enough _ c.in-Err.ensures.value.number)
+    (refused-file a.file.now a.history.now a.start a.factors.now a.rates.now factors.enough rates.enough _ c.in-Err.ensures.value.refusal)
 
 pub returns-in_err-ufr : goal.returns-in_err-ufr
 returns-in_err-ufr c =
@@ -53,7 +53,7 @@ returns-in_err-ufr c =
     let rates = of-rates at.In_ok-rates in
     let p = err_from_is_err_and c.from_residual-in_err-ufr.result c.from_residual-in_err-ufr.ensures.1 in
     rw (p.1, p.2, unwritten factors, unwritten rates) (refused-history a.file.now a.history.now a.start a.factors.now a.rates.now factors.enough rates.enough
-    c.in-Ok.ensures.value.number c.in_err-ufr.ensures _ refl)
+    c.in-Ok.ensures.value.refusal c.in_err-ufr.ensures _ refl)
 
 pub value_case-requires : goal.value_case-requires
 value_case-requires c =
@@ -61,7 +61,7 @@ value_case-requires c =
     let at = goal.at.value_case-requires c in
     let read = c.in-Ok.ensures.value in
     case-fits a.file.now a.history.now a.start a.factors.now a.rates.now (of-factors at.In_ok-factors).enough (of-rates at.In_ok-rates).enough
-    read.number c.in_ok-ufr.ensures refl read.given.0 refl
+    read.refusal c.in_ok-ufr.ensures refl read.given.0 refl
 
 pub returns : goal.returns
 returns c =
@@ -70,5 +70,5 @@ returns c =
     let read = c.in-Ok.ensures.value in
     let valued = c.value_case.ensures in
     valued-months a.file.now a.history.now a.start a.factors.now a.rates.now (of-factors at.In_ok-factors).enough (of-rates at.In_ok-rates).enough
-    read.number c.in_ok-ufr.ensures refl read.given.0 refl
+    read.refusal c.in_ok-ufr.ensures refl read.given.0 refl
     valued.value (rw valued.factors) (rw valued.rates)

@@ -3,7 +3,7 @@ use Rattle.std.proofs.Common.{◌≡◌}
 use Rattle.std.proofs.lemmas.Result.{err_from_is_err_and}
 use Rattle.refusal.specs.declared.Refusal.TheVariants.{Room}
 use Rattle.saving.specs.Said.{said}
-use Rattle.saving.proofs.Saves.{none-told, refused, room-refused, written}
+use Rattle.saving.proofs.Saves.{refused, room-refused, written}
 use Rattle.saving.proofs.save.Goals as goal
 
 pub returns-in_err-file-clause-value : goal.returns-in_err-file-clause-value

@@ -8,8 +8,12 @@ use mathlib.Core.List.{List, [], ◌∷◌, ◌++◌, append-nil, append_assoc}
 use Prim.Native.Nat.{ℕ, ◌+◌, ◌*◌, ◌≤◌}
 use native.Mathlib.Omega.{arith}
 use borrow.Author.Tests.{le-leb, leb-true, not-true}
-use lib.Dec.{T, leb, lit<, lit≤}
+use lib.Dec.{leb, lit<, lit≤}
 use lib.ListN.{length, drop, length-drop, drop_of_length-le}
+use Rattle.std.specs.Prelude.{Option, None, Some}
+use Rattle.refusal.specs.Numbered.{number_in}
+use Rattle.refusal.specs.declared.Refusal.{Refusal}
+use Rattle.refusal.specs.declared.Refusal.TheVariants.{BytesFollow, WrongFields, DayCount, Rate, Forward}
 use Rattle.model.specs.Numbers.{bytes_of, Bytes}
 use Rattle.model.specs.Case.{FileCase, known_form, per_step, with_days}
 use Rattle.model.specs.Limits.{WithinLimits}
@@ -18,9 +22,9 @@ use Rattle.model.specs.Layout.{day, days, Present, map_of, stands, rate_bytes_in
 use Rattle.model.specs.Layout.{case_from, parts_of, file_of, case_of}
 use Rattle.model.specs.inner.Positions.{rate_bytes, ufr_field}
 use Rattle.model.specs.Layout.{Agrees, Keeps}
-use Rattle.model.specs.Refusals.{first_of, exactly_one, bits_right, map_checks, forwards_right, checks, refusal, days_at, day_count}
+use Rattle.model.specs.Refusals.{failing, exactly_one, bits_right, map_checks, forwards_right, checks, refusal, days_at, day_count}
 use Rattle.theory.proofs.general.Lists.{◌also◌}
-use Rattle.theory.proofs.acceptance.Checks.{Hold, numbered, hold-parts, numbered-append, none-hold, hold-none, after-hold}
+use Rattle.theory.proofs.acceptance.Checks.{Hold, hold-parts, none-hold, holds-none, first-fails, none-fails, after-hold}
 use Rattle.theory.proofs.acceptance.Encoding.{number_small, number-written}
 use Rattle.theory.proofs.acceptance.Form.{known_in, later_fields, days-held, case-of-parts, parts-of-case}
 use Rattle.theory.proofs.acceptance.Bitmap.{one-days-field, map-of-present, announced}
@@ -30,19 +34,20 @@ use Rattle.theory.proofs.acceptance.Within.{PartsWithin, layout-lawful, parts-li
 
 -- "then 6": of the days
 abbrev pub sixth : FileCase → List Check
-sixth k = (forwards_right (per_step k) k.days, 6) ∷ []
+sixth k = (forwards_right (per_step k) k.days, Forward) ∷ []
 
 -- after the checks of the map and those of the fields: "then 2; then 6"
 abbrev last_checks : List ℕ → ℕ → Present → List Check
-last_checks file w p = (leb (length file) ((layout w p).end file 2), 2) ∷ sixth (case_of file)
+last_checks file w p = (leb (length file) ((layout w p).end file 2), BytesFollow) ∷ sixth (case_of file)
 
--- no check of a file has the number 0
-pub checks-numbered : (file : List ℕ) → T (numbered (checks file))
-unfolding checks
-checks-numbered file =
-    let w = rate_bytes_in (file_map file) in
-    let p = present_in (file_map file) in
-    numbered-append ((layout w p).checks file 2) (last_checks file w p) ((layout-lawful w p).counts file 2) tt
+-- the number of a file is that of its refusal
+pub refusal-number : (file : List ℕ) (o : Option Refusal) → failing (checks file) ≡ o → refusal file ≡ number_in o
+unfolding refusal
+refusal-number file o h = first-fails (checks file) o h
+
+pub accepted-none : (file : List ℕ) → refusal file ≡ 0 → failing (checks file) ≡ None
+unfolding refusal
+accepted-none file h = none-fails (checks file) h
 
 -- ---- an accepted file
 
@@ -60,7 +65,7 @@ module _ (file : List ℕ) (h : refusal file ≡ 0) where
   passed =
       let fields = (layout form shown).checks file 2 in
       let last = last_checks file form shown in
-      let (m, k) = hold-parts (map_checks file) (fields ++ last) (none-hold (checks file) (checks-numbered file) h) in
+      let (m, k) = hold-parts (map_checks file) (fields ++ last) (none-hold (checks file) h) in
       let (f, e) = hold-parts fields last k in
       (m, f, e)
 
@@ -133,13 +138,13 @@ module _ (file : List ℕ) (p : Present) (k : FileCase) (known : known_form k.ra
   -- the map is read as a field of 2 bytes, and it announces the fields that were written: their checks are left
   fields-left : (rate_bytes_in (file_map file) ≡ k.rate_bytes) × (present_in (file_map file) ≡ p)
       × (drop 2 file ≡ (layout k.rate_bytes p).bytes (parts_of k))
-      × (refusal file ≡ first_of ((layout k.rate_bytes p).checks file 2 ++ last_checks file k.rate_bytes p))
-  unfolding refusal checks file_map file_of
+      × (failing (checks file) ≡ failing ((layout k.rate_bytes p).checks file 2 ++ last_checks file k.rate_bytes p))
+  unfolding checks file_map file_of
   fields-left =
       let w = k.rate_bytes in
       let (right, small, present, form) = announced w p known in
       let (m, after, reach) =
-      (field-lawful 3 tt (lit≤ tt) (upto-lawful 2 65535 (lit< tt))).read file 0 (map_of w p) ((layout w p).bytes (parts_of k)) small e in
+      (field-lawful WrongFields (lit≤ tt) (upto-lawful 2 65535 (lit< tt))).read file 0 (map_of w p) ((layout w p).bytes (parts_of k)) small e in
       let f : rate_bytes_in (file_map file) ≡ w = ap rate_bytes_in m ∙ form in
       let s : present_in (file_map file) ≡ p = ap present_in m ∙ present in
       let rest : ℕ → Present → List Check = λ v q. (layout v q).checks file 2 ++ last_checks file v q in
@@ -148,11 +153,11 @@ module _ (file : List ℕ) (p : Present) (k : FileCase) (known : known_form k.ra
         s,
         after,
         after-hold (map_checks file) (rest (rate_bytes_in (file_map file)) (present_in (file_map file))) map
-            ∙ ap₂ (λ (v : ℕ) (q : Present). first_of (rest v q)) f s,
+            ∙ ap₂ (λ (v : ℕ) (q : Present). failing (rest v q)) f s,
       )
 
   -- where its fields are within their limits, the case is the one read, and of all checks only 6 is left
-  pub case-read : PartsWithin k.rate_bytes p (parts_of k) → (refusal file ≡ first_of (sixth k)) × (case_of file ≡ k)
+  pub case-read : PartsWithin k.rate_bytes p (parts_of k) → (failing (checks file) ≡ failing (sixth k)) × (case_of file ≡ k)
   unfolding case_of
   case-read parts =
       let w = k.rate_bytes in
@@ -163,17 +168,17 @@ module _ (file : List ℕ) (p : Present) (k : FileCase) (known : known_form k.ra
       ap₂ (λ (v : ℕ) (q : Present). case_from v ((layout v q).value file 2)) f s ∙ ap (case_from w) value ∙ case-of-parts k known in
       let end = (layout w p).end file 2 in
       let short : length file ≤ end = omega (arith, sym (length-drop end file) ∙ ap length none) in
-      let two : Hold ((leb (length file) end, 2) ∷ []) = le-leb (length file) end short also tt in (
+      let two : Hold ((leb (length file) end, BytesFollow) ∷ []) = le-leb (length file) end short also tt in (
         left
             ∙ after-hold ((layout w p).checks file 2) (last_checks file w p) fields
-            ∙ after-hold ((leb (length file) end, 2) ∷ []) (sixth (case_of file)) two
-            ∙ ap (λ (c : FileCase). first_of (sixth c)) is,
+            ∙ after-hold ((leb (length file) end, BytesFollow) ∷ []) (sixth (case_of file)) two
+            ∙ ap (λ (c : FileCase). failing (sixth c)) is,
         is,
       )
 
 -- the bytes of a case without two-byte days: their count is 0, so 4 refuses the file, and the UFR before it is read
 pub no-days-refused : (file : List ℕ) (p : Present) (k : FileCase) → file ≡ file_of p (with_days 2 [] k) → UfrWithin p k.ufr
-    → refusal file ≡ 4
+    → failing (checks file) ≡ Some DayCount
 no-days-refused file p k e ufr =
     let (f, s, after, left) = fields-left file p (with_days 2 [] k) refl e in
     let behind = (later_fields p).bytes (k.pension, (k.bonds, (k.amounts, (k.shocks, k.people)))) in
@@ -185,11 +190,11 @@ no-days-refused file p k e ufr =
     let later = (later_fields p).checks file ((days 2).end file at) in
     let last = last_checks file 2 p in
     left
-    ∙ ap (λ (cs : List Check). first_of (cs ++ last)) (append-nil (first ++ (counted ++ later)))
-    ∙ ap first_of (append_assoc first (counted ++ later) last)
+    ∙ ap (λ (cs : List Check). failing (cs ++ last)) (append-nil (first ++ (counted ++ later)))
+    ∙ ap failing (append_assoc first (counted ++ later) last)
     ∙ after-hold first (counted ++ later ++ last) held
-    ∙ ap first_of (append_assoc counted later last)
-    ∙ none-refused (day 2) 70 4 5 file at behind (later ++ last) days-on
+    ∙ ap failing (append_assoc counted later last)
+    ∙ none-refused (day 2) 70 DayCount Rate file at behind (later ++ last) days-on
 
 -- ---- a file that keeps the layout and limits
 
@@ -202,7 +207,7 @@ pub keeps-accepted : (file : List ℕ) (x : Keeps file) → (refusal file ≡ 0)
 keeps-accepted file x =
     let k = x.held in
     let (six, is) = case-read file x.present k x.within.form x.bytes (limits-parts x.present k x.within x.agrees) in
-    (six ∙ hold-none (sixth k) (forwards-test (per_step k) k.days (forwards-within k x.within) also tt), is)
+    (refusal-number file None (six ∙ holds-none (sixth k) (forwards-test (per_step k) k.days (forwards-within k x.within) also tt)), is)
 
 -- so no file holds two cases
 pub one-case : (file : List ℕ) (x y : Keeps file) → x.held ≡ y.held

@@ -8,6 +8,8 @@ use borrow.Author.Tests.{eqb-true}
 use lib.Dec.{T, eqb}
 use lib.ListN.{length}
 use lib.IntN.{ℤ}
+use Rattle.refusal.specs.declared.Refusal.TheVariants.{Shock}
+use Rattle.refusal.specs.declared.Refusal.TheVariants as Refusal
 use Rattle.model.specs.Case.{FileCase, known_form, units_per_step, per_step, with_days}
 use Rattle.model.specs.Fields.{Field, field, ◌then◌}
 use Rattle.model.specs.Layout.{day, days, shocks, people, Present, Parts, rate_bytes_in, stands, file_map, first_fields, layout, fields_of, case_from, parts_of, case_of}
@@ -68,7 +70,7 @@ step-read file =
 
 -- the fields after two-byte days
 abbrev pub later_fields : Present → Field (List ℕ × (List ℕ × (Amounts × (Shocks × People))))
-later_fields p = pension_field then bonds_field p then amounts_field p then field 11 shocks then field 12 people
+later_fields p = pension_field then bonds_field p then amounts_field p then field Shock shocks then field Refusal.People people
 
 -- the checks of the days are among those of the fields
 pub days-held : (file : List ℕ) → Hold ((fields_of file).checks file 2) → Hold ((days (rate_bytes file)).checks file (days_at file))

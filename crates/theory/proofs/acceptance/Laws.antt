@@ -12,13 +12,16 @@ use borrow.Author.Tests.{le-leb, leb-true, eqb-true, eq-eqb}
 use lib.Dec.{T, leb, eqb, lit<, lit≤}
 use lib.ListN.{length, get_or, drop, length-append}
 use Rattle.std.proofs.lemmas.Bool.{and_from}
+use Rattle.std.specs.Prelude.{Some}
 use Rattle.std.specs.Cmp.{first_so, second_so}
+use Rattle.refusal.specs.declared.Refusal.{Refusal}
+use Rattle.refusal.specs.declared.Refusal.TheVariants.{EndsEarly}
 use Rattle.model.specs.Numbers.{bytes_of, Bytes}
 use Rattle.model.specs.Fields.{Check, within, Fixed, number_of, pair_of, bytes_all, value_all, right_all, several, named}
 use Rattle.model.specs.Fields.{Field, field, counted, optional, ◌then◌}
-use Rattle.model.specs.Refusals.{first_of}
+use Rattle.model.specs.Refusals.{failing}
 use Rattle.theory.proofs.general.Lists.{◌also◌}
-use Rattle.theory.proofs.acceptance.Checks.{Hold, hold-append, hold-parts, numbered, numbered-append}
+use Rattle.theory.proofs.acceptance.Checks.{Hold, hold-append, hold-parts}
 use Rattle.theory.proofs.acceptance.Encoding.{length-bytes, number-written, number_read, byte-written, byte-read, behind, reached}
 use Rattle.theory.proofs.acceptance.Runs.{values_length}
 
@@ -126,7 +129,6 @@ named-lawful {x = x} {W = W} to from same back l = record {
 -- ---- fields
 
 pub record Lawful {A : Type 0} (f : Field A) (W : A → Type 0) : Type 0 where
-  pub counts : (file : List ℕ) (at : ℕ) → T (numbered (f.checks file at))
   pub within : (file : List ℕ) (at : ℕ) → Hold (f.checks file at) → W (f.value file at)
   pub written : (file : List ℕ) → Bytes file → (at : ℕ) → Hold (f.checks file at)
       → f.bytes (f.value file at) ++ drop (f.end file at) file ≡ drop at file
@@ -135,13 +137,12 @@ pub record Lawful {A : Type 0} (f : Field A) (W : A → Type 0) : Type 0 where
 
 -- the same limits said otherwise
 pub field-as : {A : Type 0} {f : Field A} {U W : A → Type 0} → ((v : A) → U v → W v) → ((v : A) → W v → U v) → Lawful f U → Lawful f W
-field-as to from l = search (to, from, l.counts, l.within, l.written, l.read)
+field-as to from l = search (to, from, l.within, l.written, l.read)
 
--- no check has the number 0; and what has no bytes could stand past the end of a file, so the size is not 0
-pub field-lawful : {A : Type 0} {x : Fixed A} {W : A → Type 0} (r : ℕ) → T (numbered ((true, r) ∷ [])) → 1 ≤ x.size
+-- what has no bytes could stand past the end of a file, so the size is not 0
+pub field-lawful : {A : Type 0} {x : Fixed A} {W : A → Type 0} (r : Refusal) → 1 ≤ x.size
     → LawfulFixed x W → Lawful (field r x) W
-field-lawful {x = x} r c some l = record {
-  counts = λ file at. c;
+field-lawful {x = x} r some l = record {
   within = λ file at h. l.within (x.value file at) h.1.0;
   written = λ file b at h. l.written file b at (leb-true (at + x.size) (length file) h.0);
   read = λ file at v rest h e.
@@ -152,10 +153,9 @@ field-lawful {x = x} r c some l = record {
 }
 
 -- after the count, the run is read as a field
-pub counted-lawful : {A : Type 0} {x : Fixed A} {W : A → Type 0} (most c r : ℕ) → T (numbered ((true, c) ∷ (true, r) ∷ [])) → most < 256
+pub counted-lawful : {A : Type 0} {x : Fixed A} {W : A → Type 0} (most : ℕ) (c r : Refusal) → most < 256
     → 1 ≤ x.size → LawfulFixed x W → Lawful (counted most c r x) (λ vs. (1 ≤ length vs) × (length vs ≤ most) × WithinAll W vs)
-counted-lawful {x = x} most c r t fits some l = record {
-  counts = λ file at. t;
+counted-lawful {x = x} most c r fits some l = record {
   within = λ file at h.
       let n = get_or file at 0 in
       let k = within-true 1 most n h.1.0 in
@@ -169,7 +169,7 @@ counted-lawful {x = x} most c r t fits some l = record {
       let m = behind file at 1 (bytes_of 1 (length vs)) (bytes_all x vs ++ rest) (length-bytes 1 (length vs)) k in
       let n : get_or file at 0 ≡ length vs = byte-read file at (length vs) (bytes_all x vs ++ rest) (lt_of_le_of_lt h.1 fits) k in
       let far = mul-le-mul {n₁ = 1} {m₁ = 1} {n₂ = x.size} {m₂ = length vs} some h.0 in
-      let (is, end, run) = (field-lawful 1 tt far (several-lawful l (length vs))).read file (at + 1) vs rest (refl, h.2) m in
+      let (is, end, run) = (field-lawful EndsEarly far (several-lawful l (length vs))).read file (at + 1) vs rest (refl, h.2) m in
       let reach = leb-true (at + 1 + x.size * length vs) (length file) run.0 in
       let first = le-leb (at + 1) (length file) (omega (arith, reach)) in
       let right = ap (right_all x) is ∙ all_tested l vs h.2 in
@@ -177,9 +177,9 @@ counted-lawful {x = x} most c r t fits some l = record {
 }
 
 -- a run of none is refused by its count
-pub none-refused : {A : Type 0} (x : Fixed A) (most c r : ℕ) (file : List ℕ) (at : ℕ) (rest : List ℕ) (others : List Check)
-    → drop at file ≡ (counted most c r x).bytes [] ++ rest → first_of ((counted most c r x).checks file at ++ others) ≡ c
-unfolding bytes_of first_of
+pub none-refused : {A : Type 0} (x : Fixed A) (most : ℕ) (c r : Refusal) (file : List ℕ) (at : ℕ) (rest : List ℕ) (others : List Check)
+    → drop at file ≡ (counted most c r x).bytes [] ++ rest → failing ((counted most c r x).checks file at ++ others) ≡ Some c
+unfolding bytes_of
 none-refused x most c r file at rest others e =
     let n : get_or file at 0 ≡ 0 = byte-read file at 0 rest (lit< tt) e in
     let reach = reached file at 1 (bytes_of 1 0) rest (length-bytes 1 0) (lit≤ tt) e in
@@ -193,7 +193,6 @@ pub optional-lawful : {A : Type 0} {f : Field A} {W : A → Type 0} (there : Boo
     → Lawful (optional there absent f) (IfThere there absent W)
 optional-lawful true absent l = field-as (λ v h. (λ e. h, λ e. absurd (subst T e tt))) (λ v h. h.0 refl) l
 optional-lawful false absent l = record {
-  counts = λ file at. tt;
   within = λ file at h. (λ e. absurd (subst T (sym e) tt), λ e. refl);
   written = λ file b at h. refl;
   read = λ file at v rest h e. (sym (h.1 refl), e, tt);
@@ -203,9 +202,6 @@ infixr 4 ◌then_lawful◌
 pub ◌then_lawful◌ : {A B : Type 0} {f : Field A} {g : Field B} {X : A → Type 0} {Y : B → Type 0}
     → Lawful f X → Lawful g Y → Lawful (f then g) (λ v. X v.0 × Y v.1)
 ◌then_lawful◌ {f = f} {g = g} lf lg = record {
-  counts = λ file at.
-      let next = f.end file at in
-      numbered-append (f.checks file at) (g.checks file next) (lf.counts file at) (lg.counts file next);
   within = λ file at h.
       let (a, b) = hold-parts (f.checks file at) (g.checks file (f.end file at)) h in
       (lf.within file at a, lg.within file (f.end file at) b);
@@ -220,24 +216,21 @@ pub ◌then_lawful◌ : {A B : Type 0} {f : Field A} {g : Field B} {X : A → Ty
 
 -- ---- fields of a case that is in no file
 
--- no check has the number 0, and a value passes the checks exactly when it is within its limits
+-- a value passes the checks exactly when it is within its limits
 pub record Limited {A : Type 0} (f : Field A) (W : A → Type 0) : Type 0 where
-  pub counts : (v : A) → T (numbered (f.limits v))
   pub within : (v : A) → Hold (f.limits v) → W v
   pub tested : (v : A) → W v → Hold (f.limits v)
 
 -- the same limits said otherwise
 pub limited-as : {A : Type 0} {f : Field A} {U W : A → Type 0} → ((v : A) → U v → W v) → ((v : A) → W v → U v) → Limited f U → Limited f W
-limited-as to from l = search (to, from, l.counts, l.within, l.tested)
+limited-as to from l = search (to, from, l.within, l.tested)
 
-pub field-limited : {A : Type 0} {x : Fixed A} {W : A → Type 0} (r : ℕ) → T (numbered ((true, r) ∷ [])) → LawfulFixed x W
-    → Limited (field r x) W
-field-limited r c l = record { counts = λ v. c; within = λ v h. l.within v h.0; tested = λ v h. (l.tested v h, tt) }
+pub field-limited : {A : Type 0} {x : Fixed A} {W : A → Type 0} (r : Refusal) → LawfulFixed x W → Limited (field r x) W
+field-limited r l = record { within = λ v h. l.within v h.0; tested = λ v h. (l.tested v h, tt) }
 
-pub counted-limited : {A : Type 0} {x : Fixed A} {W : A → Type 0} (most c r : ℕ) → T (numbered ((true, c) ∷ (true, r) ∷ []))
+pub counted-limited : {A : Type 0} {x : Fixed A} {W : A → Type 0} (most : ℕ) (c r : Refusal)
     → LawfulFixed x W → Limited (counted most c r x) (λ vs. (1 ≤ length vs) × (length vs ≤ most) × WithinAll W vs)
-counted-limited most c r t l = record {
-  counts = λ vs. t;
+counted-limited most c r l = record {
   within = λ vs h. let k = within-true 1 most (length vs) h.0 in (k.0, k.1, all-within l vs h.1.0);
   tested = λ vs h. within-test 1 most (length vs) (h.0, h.1) also all_tested l vs h.2 also tt;
 }
@@ -246,13 +239,12 @@ counted-limited most c r t l = record {
 pub optional-limited : {A : Type 0} {f : Field A} {W : A → Type 0} (there : Bool) (absent : A) → Limited f W
     → Limited (optional there absent f) (λ v. there ≡ true → W v)
 optional-limited true absent l = limited-as (λ v h e. h) (λ v h. h refl) l
-optional-limited false absent l = record { counts = λ v. tt; within = λ v h e. absurd (subst T (sym e) tt); tested = λ v h. tt }
+optional-limited false absent l = record { within = λ v h e. absurd (subst T (sym e) tt); tested = λ v h. tt }
 
 infixr 4 ◌then_limited◌
 pub ◌then_limited◌ : {A B : Type 0} {f : Field A} {g : Field B} {X : A → Type 0} {Y : B → Type 0}
     → Limited f X → Limited g Y → Limited (f then g) (λ v. X v.0 × Y v.1)
 ◌then_limited◌ {f = f} {g = g} lf lg = record {
-  counts = λ v. numbered-append (f.limits v.0) (g.limits v.1) (lf.counts v.0) (lg.counts v.1);
   within = λ v h.
       let (a, b) = hold-parts (f.limits v.0) (g.limits v.1) h in
       (lf.within v.0 a, lg.within v.1 b);

@@ -11,6 +11,8 @@ use lib.ListN.{length, get_or}
 use lib.IntN.{ℤ, pos, neg_ℤ}
 use lib.Signed.{le_z}
 use Rattle.std.specs.Cmp.{first_so, second_so}
+use Rattle.refusal.specs.declared.Refusal.TheVariants.{DayCount, Rate, FlowCount, Flow, Ufr, Amount, Shock}
+use Rattle.refusal.specs.declared.Refusal.TheVariants as Refusal
 use Rattle.model.specs.Constants.{default_ufr}
 use Rattle.model.specs.Numbers.{number, unsigned}
 use Rattle.model.specs.Case.{FileCase, known_form, units_per_step, per_step}
@@ -81,7 +83,7 @@ abbrev pub UfrWithin : Present → ℕ → Type 0
 UfrWithin p = IfThere p.ufr default_ufr (λ u. u ≤ 5000)
 
 pub ufr-lawful : (p : Present) → Lawful (ufr_field p) (UfrWithin p)
-ufr-lawful p = optional-lawful p.ufr default_ufr (field-lawful 9 tt (lit≤ tt) (upto-lawful 2 5000 (lit< tt)))
+ufr-lawful p = optional-lawful p.ufr default_ufr (field-lawful Ufr (lit≤ tt) (upto-lawful 2 5000 (lit< tt)))
 
 -- 20,000 × scale is twice the upper limit of a rate, so each rate is below half of the numbers of w bytes or above it
 rate-lawful : (w scale : ℕ) → 20000 * scale < 256 ^ w
@@ -118,10 +120,10 @@ module _ (units : ℕ) (days : List (List ℤ)) where
 
 days-lawful : (w : ℕ) → 20000 * units_per_step w < 256 ^ w → 1 ≤ w * 60 → Lawful (days w) (DaysCounted (units_per_step w))
 days-lawful w fits some =
-    field-as (days-to (units_per_step w)) (days-from (units_per_step w)) (counted-lawful 70 4 5 tt (lit< tt) some (day-lawful w fits))
+    field-as (days-to (units_per_step w)) (days-from (units_per_step w)) (counted-lawful 70 DayCount Rate (lit< tt) some (day-lawful w fits))
 
 pub days-limited : (w : ℕ) → 20000 * units_per_step w < 256 ^ w → Limited (days w) (DaysCounted (units_per_step w))
-days-limited w fits = limited-as (days-to (units_per_step w)) (days-from (units_per_step w)) (counted-limited 70 4 5 tt (day-lawful w fits))
+days-limited w fits = limited-as (days-to (units_per_step w)) (days-from (units_per_step w)) (counted-limited 70 DayCount Rate (day-lawful w fits))
 
 abbrev FlowWithin : ℕ → Type 0
 FlowWithin v = v ≤ 100000000
@@ -139,11 +141,11 @@ module _ (most : ℕ) (flows : List ℕ) where
   flows-from : FlowsCounted most flows → (1 ≤ length flows) × (length flows ≤ most) × WithinAll FlowWithin flows
   flows-from h = search (at_each FlowWithin 0, h.2.each)
 
-flows-lawful : (most : ℕ) → most < 256 → Lawful (counted most 7 8 flow) (FlowsCounted most)
-flows-lawful most fits = field-as (flows-to most) (flows-from most) (counted-lawful most 7 8 tt fits (lit≤ tt) flow-lawful)
+flows-lawful : (most : ℕ) → most < 256 → Lawful (counted most FlowCount Flow flow) (FlowsCounted most)
+flows-lawful most fits = field-as (flows-to most) (flows-from most) (counted-lawful most FlowCount Flow fits (lit≤ tt) flow-lawful)
 
-flows-limited : (most : ℕ) → Limited (counted most 7 8 flow) (FlowsCounted most)
-flows-limited most = limited-as (flows-to most) (flows-from most) (counted-limited most 7 8 tt flow-lawful)
+flows-limited : (most : ℕ) → Limited (counted most FlowCount Flow flow) (FlowsCounted most)
+flows-limited most = limited-as (flows-to most) (flows-from most) (counted-limited most FlowCount Flow flow-lawful)
 
 -- numbers by name: `search` finds each limit in the other list of limits
 amounts-lawful : LawfulFixed amounts AmountsWithin
@@ -188,9 +190,9 @@ layout-lawful w p =
     then_lawful optional-lawful (eqb w 2) [] (days-lawful 2 (lit< tt) (lit≤ tt))
     then_lawful flows-lawful 120 (lit< tt)
     then_lawful optional-lawful p.bonds [] (flows-lawful 60 (lit< tt))
-    then_lawful optional-lawful p.amounts no_amounts (field-lawful 10 tt (lit≤ tt) amounts-lawful)
-    then_lawful field-lawful 11 tt (lit≤ tt) shocks-lawful
-    then_lawful field-lawful 12 tt (lit≤ tt) people-lawful)
+    then_lawful optional-lawful p.amounts no_amounts (field-lawful Amount (lit≤ tt) amounts-lawful)
+    then_lawful field-lawful Shock (lit≤ tt) shocks-lawful
+    then_lawful field-lawful Refusal.People (lit≤ tt) people-lawful)
     then_lawful optional-lawful (eqb w 4) [] (days-lawful 4 (lit< tt) (lit≤ tt))
 
 -- the checks of a case in no file: nothing is said of an absent field
@@ -206,13 +208,13 @@ PartsLimited w p v =
 
 pub layout-limited : (w : ℕ) (p : Present) → Limited (layout w p) (PartsLimited w p)
 layout-limited w p =
-    (optional-limited p.ufr default_ufr (field-limited 9 tt (upto-lawful 2 5000 (lit< tt)))
+    (optional-limited p.ufr default_ufr (field-limited Ufr (upto-lawful 2 5000 (lit< tt)))
     then_limited optional-limited (eqb w 2) [] (days-limited 2 (lit< tt))
     then_limited flows-limited 120
     then_limited optional-limited p.bonds [] (flows-limited 60)
-    then_limited optional-limited p.amounts no_amounts (field-limited 10 tt amounts-lawful)
-    then_limited field-limited 11 tt shocks-lawful
-    then_limited field-limited 12 tt people-lawful)
+    then_limited optional-limited p.amounts no_amounts (field-limited Amount amounts-lawful)
+    then_limited field-limited Shock shocks-lawful
+    then_limited field-limited Refusal.People people-lawful)
     then_limited optional-limited (eqb w 4) [] (days-limited 4 (lit< tt))
 
 -- the days of a case whose form is known are in one of the two fields, both ways

@@ -2,10 +2,10 @@
 -- case. Assumes nothing.
 use mathlib.Core.Path.{◌≡◌, refl, ap}
 use mathlib.Core.List.{List, ◌++◌}
-use Prim.Native.Nat.{ℕ, zero, suc}
-use native.Mathlib.Omega.{arith}
+use Prim.Native.Nat.{ℕ}
 use lib.IntN.{ℤ, pos}
-use Rattle.std.specs.Prelude.{Result, Ok, Err}
+use Rattle.std.specs.Prelude.{Option, Some, None, Result, Ok, Err}
+use Rattle.refusal.specs.declared.Refusal.{Refusal}
 use Rattle.method.specs.Buffers.{answered, factor_entries, rate_entries, entry_of, rate_entry_of}
 use Rattle.model.specs.Case.{FileCase}
 use Rattle.method.specs.Curve.{base, curve}
@@ -17,21 +17,21 @@ use Rattle.theory.proofs.demand3.Demand3Proved.{IsRounded}
 use Rattle.theory.proofs.general.Entries.{lower_in, upper_in, by-term}
 
 -- an answer with figures is of no refusal
-pub no-refusal : (r : ℕ) (k : FileCase) (v : Valuation) → answered r k ≡ Ok v → r ≡ 0
-no-refusal zero k v e = refl
-no-refusal (suc r) k v e = let x : ◌≡◌ {A = ℕ} 0 1 = cc in let never : ⊥ = omega arith in absurd never
+pub no-refusal : (o : Option Refusal) (k : FileCase) (v : Valuation) → answered o k ≡ Ok v → o ≡ None
+no-refusal None k v e = refl
+no-refusal (Some r) k v e = cc
 
 -- the figures and the verdict of an answer that has them
-abbrev figures_or : Figures → Result Valuation ℕ → Figures
+abbrev figures_or : Figures → Result Valuation Refusal → Figures
 figures_or none (Err r) = none
 figures_or none (Ok v) = v.figures
 
-abbrev verdict_or : Verdict → Result Valuation ℕ → Verdict
+abbrev verdict_or : Verdict → Result Valuation Refusal → Verdict
 verdict_or none (Err r) = none
 verdict_or none (Ok v) = v.verdict
 
 pub written-rounded : (k : FileCase) (v : Valuation) (factors later : List ℕ) (rates later_rates : List ℤ)
-    → Ok v ≡ answered 0 k
+    → Ok v ≡ answered None k
     → factors ≡ factor_entries k ++ later
     → rates ≡ rate_entries k ++ later_rates
     → IsRounded k (record { figures = v.figures; verdict = v.verdict; factor = entry_of factors; rate = rate_entry_of rates })

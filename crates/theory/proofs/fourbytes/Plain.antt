@@ -15,7 +15,7 @@ use Rattle.model.specs.Layout.{stands, file_map}
 use Rattle.method.specs.Curve.{Move, up, down, moved_sum, curve}
 use Rattle.model.specs.Refusals.{refusal, rates_part, days_at, day_count}
 use Rattle.savingmodel.specs.Saving.{shortest}
-use Rattle.theory.proofs.acceptance.Acceptance.{days-reach}
+use Rattle.theory.proofs.acceptance.Acceptance.{accepted-none, days-reach}
 use Rattle.theory.proofs.saving.Saved.{saved-once}
 
 module _ (k : FileCase) (four : k.rate_bytes ≡ 4) where
@@ -60,7 +60,7 @@ module _ (k : FileCase) (four : k.rate_bytes ≡ 4) where
 part-is : (file : List ℕ) → refusal file ≡ 0 → stands 7 (file_map file) ≡ true
     → (rates_part file ≡ take (240 * day_count file) (drop (days_at file + 1) file)) × (days_at file + 1 + 240 * day_count file ≤ length file)
 unfolding rates_part
-part-is file h four = (rw (h, four), rw four at (days-reach file h))
+part-is file h four = (rw (accepted-none file h, four), rw four at (days-reach file h))
 
 -- "cases with different days fields count as different": they are saved as different bytes
 forms-apart : (k j : FileCase) → WithinLimits k → WithinLimits j → (k.rate_bytes ≡ j.rate_bytes → ⊥) → shortest k ≡ shortest j → ⊥

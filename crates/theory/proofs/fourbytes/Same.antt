@@ -1,23 +1,25 @@
 -- "An accepted file with bit 1, rewritten to bit 7 with every rate times 100, prints the same listing as the old file.": it is accepted, and
 -- its answer, its listing and what both buffers hold afterwards are the old file's, also where a buffer is too short. Assumes nothing.
-use Prim.Native.Nat.{ℕ, zero, suc}
+use Prim.Native.Nat.{ℕ}
 use mathlib.Core.Path.{◌≡◌, refl, ap, ap₂, sym, ◌∙◌}
-use mathlib.Core.Bool.{true, cond, ◌&&◌}
+use mathlib.Core.Bool.{true}
 use mathlib.Core.List.{List}
-use lib.Dec.{leb}
 use lib.ListN.{length}
 use lib.IntN.{ℤ}
-use Rattle.std.specs.Prelude.{Result, Ok}
+use Rattle.std.specs.Prelude.{Option, Some, None, Result, Ok}
+use Rattle.refusal.specs.Numbered.{answer_of}
+use Rattle.refusal.specs.declared.Refusal.{Refusal}
 use Rattle.arith.specs.Rounding.{End}
 use Rattle.model.specs.Case.{FileCase}
 use Rattle.model.specs.Limits.{WithinLimits}
 use Rattle.model.specs.Layout.{stands, present_in, file_map, case_of, Keeps}
-use Rattle.model.specs.Refusals.{first_of, refusal}
+use Rattle.model.specs.Refusals.{failing, checks, refusal}
 use Rattle.model.specs.Constants.{last_term}
 use Rattle.method.specs.Curve.{base}
 use Rattle.method.specs.Rounded.{rate_of}
 use Rattle.method.specs.Buffers as Buffers
-use Rattle.method.specs.Buffers.{valuation_refusal, by_term, factor_entries, rate_entries, written, answered, valuation_of}
+use Rattle.theory.proofs.acceptance.Checks.{none-fails, behind-check}
+use Rattle.method.specs.Buffers.{buffers_check, valuation_checks, by_term, factor_entries, rate_entries, written, answered, valuation_of}
 use Rattle.method.specs.Listing.{listing}
 use Rattle.method.specs.FourBytes.{rewritten, rewritten_file, SameAsBefore}
 use Rattle.model.specs.declared.figures.Valuation.{Valuation}
@@ -63,16 +65,18 @@ module _ (file : List ℕ) (none : refusal file ≡ 0) (one : stands 1 (file_map
 
   -- ---- what is given of the two cases, by the refusal
 
-  same-refusal : (factors rates : ℕ) → valuation_refusal factors rates (rewritten_file file) ≡ valuation_refusal factors rates file
-  unfolding valuation_refusal first_of refusal
-  same-refusal factors rates = ap (λ (r : ℕ). cond (leb 240 factors && leb 240 rates) r 13) (accepted ∙ sym none)
+  same-refusal : (factors rates : ℕ) → failing (valuation_checks factors rates (rewritten_file file)) ≡ failing (valuation_checks factors rates file)
+  unfolding refusal
+  same-refusal factors rates =
+      behind-check (buffers_check factors rates) (checks (rewritten_file file)) (checks file)
+      (none-fails (checks (rewritten_file file)) accepted ∙ sym (none-fails (checks file) none))
 
-  abbrev valued : Figures → Verdict → Result Valuation ℕ
+  abbrev valued : Figures → Verdict → Result Valuation Refusal
   valued figures verdict = Ok (record { figures = figures; verdict = verdict })
 
-  answer-same : (r : ℕ) → answered r (rewritten old) ≡ answered r old
-  answer-same zero = ap₂ valued (figures-same old two within) (verdict-same old two within)
-  answer-same (suc r) = refl
+  answer-same : (o : Option Refusal) → answered o (rewritten old) ≡ answered o old
+  answer-same None = ap₂ valued (figures-same old two within) (verdict-same old two within)
+  answer-same (Some r) = refl
 
   factors-are : factor_entries (rewritten old) ≡ factor_entries old
   unfolding factor_entries
@@ -84,7 +88,7 @@ module _ (file : List ℕ) (none : refusal file ≡ 0) (one : stands 1 (file_map
 
   answers : (factors rates : ℕ) → valuation_of factors rates (rewritten_file file) ≡ valuation_of factors rates file
   unfolding valuation_of
-  answers factors rates = ap₂ answered (same-refusal factors rates) case-is ∙ answer-same (valuation_refusal factors rates file)
+  answers factors rates = ap₂ answered (same-refusal factors rates) case-is ∙ answer-same (failing (valuation_checks factors rates file))
 
   -- "prints the same listing as the old file"
   pub same-as-before : SameAsBefore file
@@ -92,10 +96,10 @@ module _ (file : List ℕ) (none : refusal file ≡ 0) (one : stands 1 (file_map
   same-as-before = record {
     accepted = accepted;
     case = case-is;
-    listed = ap listing (answers 240 240);
+    listed = ap (λ (v : Result Valuation Refusal). listing (answer_of v)) (answers 240 240);
     answer = answers;
     factors = λ f z.
-        ap₂ (λ (r : ℕ) (entries : List ℕ). written r entries f) (same-refusal (length f) (length z)) (ap factor_entries case-is ∙ factors-are);
+        ap₂ (λ (o : Option Refusal) (entries : List ℕ). written o entries f) (same-refusal (length f) (length z)) (ap factor_entries case-is ∙ factors-are);
     rates = λ f z.
-        ap₂ (λ (r : ℕ) (entries : List ℤ). written r entries z) (same-refusal (length f) (length z)) (ap rate_entries case-is ∙ rates-are);
+        ap₂ (λ (o : Option Refusal) (entries : List ℤ). written o entries z) (same-refusal (length f) (length z)) (ap rate_entries case-is ∙ rates-are);
   }

@@ -5,10 +5,11 @@ use mathlib.Core.List.{List}
 use Prim.Native.Nat.{ℕ}
 use lib.ListN.{length, drop}
 use lib.IntN.{ℤ}
-use Rattle.std.specs.Prelude.{Ok}
+use Rattle.std.specs.Prelude.{None, Ok}
+use Rattle.model.specs.Refusals.{failing}
 use Rattle.method.specs.Buffers.{entry_of, rate_entry_of}
 use Rattle.method.specs.Demand3.{Demand3}
-use Rattle.monthsmodel.specs.Months.{months_refusal, months_case, months_valuation, months_factors_after, months_rates_after}
+use Rattle.monthsmodel.specs.Months.{months_checks, months_case, months_valuation, months_factors_after, months_rates_after}
 use Rattle.model.specs.declared.figures.Valuation.{Valuation}
 use Rattle.theory.proofs.demand3.Demand3Proved.{demand3}
 use Rattle.theory.proofs.demand3.Written.{no-refusal, written-rounded}
@@ -16,9 +17,9 @@ use Rattle.theory.proofs.months.Valued.{within-limits}
 
 module _ (file history : List ℕ) (start : ℕ) (factors : List ℕ) (rates : List ℤ) (v : Valuation)
     (e : months_valuation file history start (length factors) (length rates) ≡ Ok v) where
-  none : months_refusal file history start (length factors) (length rates) ≡ 0
+  none : failing (months_checks file history start (length factors) (length rates)) ≡ None
   unfolding months_valuation
-  none = no-refusal (months_refusal file history start (length factors) (length rates)) (months_case file history) v e
+  none = no-refusal (failing (months_checks file history start (length factors) (length rates))) (months_case file history) v e
 
   pub months-demand3 : Demand3 (months_case file history) (record {
     figures = v.figures;

@@ -24,7 +24,7 @@ whole (negsuc n) h = absurd (subst T (sym h) tt)
 module _ (history : List ℕ) (start : ℕ) (none : ufr_refusal history start ≡ 0) where
   passed : Hold (history_checks history start)
   unfolding ufr_refusal
-  passed = none-hold (history_checks history start) tt none
+  passed = none-hold (history_checks history start) none
 
   pub start-within : start < 120
   start-within = let l = leb-true start 119 (second_so (eqb (length history) 240) (leb start 119) passed.0) in omega arith

@@ -9,13 +9,15 @@ use borrow.Author.Tests.{ltb-true}
 use lib.Dec.{ltb, lit<}
 use lib.ListN.{length, get_or, drop}
 use lib.IntN.{ℤ, pos}
+use Rattle.refusal.specs.declared.Refusal.TheVariants.{Rate, WindowFull, Damaged}
 use Rattle.model.specs.Case.{FileCase, s, with_days}
 use Rattle.model.specs.Fields.{right_all}
 use Rattle.model.specs.Layout.{day}
+use Rattle.model.specs.Refusals.{failing}
 use Rattle.method.specs.Buffers.{factor_entries, rate_entries, written, answered}
 use Rattle.rollingmodel.specs.Rolling.{slot, day_in, days_held, sums_of, rolling_right, add_refusal, drop_refusal, with_day_in, added, dropped, changed}
 use Rattle.rollingmodel.specs.Rolling.{add_day, drop_day, Change, add, drop_oldest, change}
-use Rattle.rollingmodel.specs.Rolling.{rolling_refusal, rolling_valuation, rolling_factors_after, rolling_rates_after}
+use Rattle.rollingmodel.specs.Rolling.{rolling_checks, rolling_valuation, rolling_factors_after, rolling_rates_after}
 use Rattle.rollingmodel.specs.declared.RollingWindow.{RollingWindow}
 use Rattle.theory.proofs.general.Lists.{table_same}
 use Rattle.theory.proofs.general.Ring.{slot-less}
@@ -68,8 +70,7 @@ right-same w v h = both (rolling_right w) (rolling_right v) (right-too w v h) (r
     both false false f g = refl
 
 refusal-same : (w v : RollingWindow) → Alike w v → (k : FileCase) (factors rates : ℕ)
-    → rolling_refusal w k factors rates ≡ rolling_refusal v k factors rates
-unfolding rolling_refusal
+    → failing (rolling_checks w k factors rates) ≡ failing (rolling_checks v k factors rates)
 refusal-same w v h k factors rates = rw (right-same w v h, h.days, count_same w v h)
 
 pub alike-answers : (w v : RollingWindow) → Alike w v → SameAnswers w v
@@ -95,7 +96,7 @@ module _ (w v : RollingWindow) (h : Alike w v) where
       → Alike (added w new) (added v new)
   unfolding add_refusal added
   added-alike new long other_long e =
-      let passed = none-hold ((rolling_right w, 27) ∷ (ltb w.count 70, 15) ∷ ((day 2).right new, 5) ∷ []) tt e in
+      let passed = none-hold ((rolling_right w, Damaged) ∷ (ltb w.count 70, WindowFull) ∷ ((day 2).right new, Rate) ∷ []) e in
       let room = ltb-true w.count 70 passed.1.0 in
       let other_room : v.count < 70 = omega (arith, count_same w v h) in
       let whole = day-whole new passed.1.1.0 in

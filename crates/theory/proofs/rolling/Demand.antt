@@ -5,11 +5,12 @@ use mathlib.Core.Path.{◌≡◌, sym}
 use mathlib.Core.List.{List}
 use lib.ListN.{length, drop}
 use lib.IntN.{ℤ}
-use Rattle.std.specs.Prelude.{Ok}
+use Rattle.std.specs.Prelude.{None, Ok}
+use Rattle.model.specs.Refusals.{failing}
 use Rattle.method.specs.Buffers.{entry_of, rate_entry_of}
 use Rattle.model.specs.Case.{FileCase, with_days}
 use Rattle.method.specs.Demand3.{Demand3}
-use Rattle.rollingmodel.specs.Rolling.{days_held, rolling_refusal, rolling_valuation, rolling_factors_after, rolling_rates_after}
+use Rattle.rollingmodel.specs.Rolling.{days_held, rolling_checks, rolling_valuation, rolling_factors_after, rolling_rates_after}
 use Rattle.model.specs.declared.figures.Valuation.{Valuation}
 use Rattle.rollingmodel.specs.declared.RollingWindow.{RollingWindow}
 use Rattle.theory.proofs.demand3.Demand3Proved.{demand3}
@@ -18,9 +19,9 @@ use Rattle.theory.proofs.rolling.Valued.{within-limits}
 
 module _ (w : RollingWindow) (k : FileCase) (factors : List ℕ) (rates : List ℤ) (v : Valuation)
     (e : rolling_valuation w k (length factors) (length rates) ≡ Ok v) where
-  none : rolling_refusal w k (length factors) (length rates) ≡ 0
+  none : failing (rolling_checks w k (length factors) (length rates)) ≡ None
   unfolding rolling_valuation
-  none = no-refusal (rolling_refusal w k (length factors) (length rates)) (with_days 2 (days_held w) k) v e
+  none = no-refusal (failing (rolling_checks w k (length factors) (length rates))) (with_days 2 (days_held w) k) v e
 
   pub window-demand3 : Demand3 (with_days 2 (days_held w) k) (record {
     figures = v.figures;

@@ -1,6 +1,6 @@
 -- After every list of changes a window holds the days of the plain list, each stored sum is theirs, and 27 does not apply to it. Each
 -- change keeps that of every window that has it, and the empty window has it.
-use Prim.Native.Nat.{suc, ◌≤◌, ◌<◌}
+use Prim.Native.Nat.{ℕ, suc, ◌≤◌, ◌<◌}
 use mathlib.Core.Path.{◌≡◌, refl, sym, ap, ◌∙◌, subst, subst₂}
 use mathlib.Core.Bool.{Bool, true, false, ◌&&◌, cond}
 use mathlib.Core.List.{List, [], ◌∷◌, ◌++◌}
@@ -15,6 +15,7 @@ use Rattle.model.specs.Numbers.{table}
 use Rattle.model.specs.Case.{s}
 use Rattle.model.specs.Fields.{right_all}
 use Rattle.model.specs.Layout.{day}
+use Rattle.refusal.specs.declared.Refusal.TheVariants.{Rate, WindowFull, WindowEmpty, Damaged}
 use Rattle.model.specs.Refusals.{first_of}
 use Rattle.rollingmodel.specs.Rolling.{days_held, empty_window, add_refusal, drop_refusal, added, dropped, changed, add_day, drop_day}
 use Rattle.rollingmodel.specs.Rolling.{Change, add, drop_oldest, change, changed_by, queue, queued_by, HoldsAfter}
@@ -74,12 +75,15 @@ module _ (w : RollingWindow) (days : List (List ℤ)) (h : Holds w days) where
   add_holds : (new : List ℤ) → Holds (change w (add new)) (queue days (add new))
   unfolding add_day add_refusal first_of
   add_holds new =
-      let is : add_refusal w new ≡ cond (ltb w.count 70) (cond ((day 2).right new) 0 5) 15 = rw (facts-right w h.right) in
+      let is : add_refusal w new ≡ refused (ltb w.count 70) ((day 2).right new) = rw (facts-right w h.right) in
       subst₂ (λ r n. Holds (changed r w (added w new)).window (cond (ltb n 70 && (day 2).right new) (days ++ (new ∷ [])) days)) (sym is)
       (sym count-is) (go (ltb w.count 70) ((day 2).right new) refl refl)
     where
+      refused : Bool → Bool → ℕ
+      refused room good = first_of ((true, Damaged) ∷ (room, WindowFull) ∷ (good, Rate) ∷ [])
+
       go : (room good : Bool) → ltb w.count 70 ≡ room → (day 2).right new ≡ good
-          → Holds (changed (cond room (cond good 0 5) 15) w (added w new)).window (cond (room && good) (days ++ (new ∷ [])) days)
+          → Holds (changed (refused room good) w (added w new)).window (cond (room && good) (days ++ (new ∷ [])) days)
       go false good e f = h
       go true false e f = h
       go true true e f =
@@ -93,10 +97,13 @@ module _ (w : RollingWindow) (days : List (List ℤ)) (h : Holds w days) where
   drop-holds : Holds (change w drop_oldest) (queue days drop_oldest)
   unfolding drop_day drop_refusal dropped first_of
   drop-holds =
-      let is : drop_refusal w ≡ cond (ltb 0 w.count) 0 16 = rw (facts-right w h.right) in
+      let is : drop_refusal w ≡ refused (ltb 0 w.count) = rw (facts-right w h.right) in
       subst (λ r. Holds (changed r w (dropped w)).window (drop 1 days)) (sym is) (go (ltb 0 w.count) refl)
     where
-      go : (some : Bool) → ltb 0 w.count ≡ some → Holds (changed (cond some 0 16) w (dropped w)).window (drop 1 days)
+      refused : Bool → ℕ
+      refused some = first_of ((true, Damaged) ∷ (some, WindowEmpty) ∷ [])
+
+      go : (some : Bool) → ltb 0 w.count ≡ some → Holds (changed (refused some) w (dropped w)).window (drop 1 days)
       go true e = record { long = h.long; right = dropped-right w h.right; held = held-dropped w ∙ ap (drop 1) h.held }
       go false e =
           let none : length days ≤ 0 = omega (arith, ltb-false 0 w.count e, count-is) in

@@ -10,6 +10,10 @@ use borrow.Author.Tests.{eqb-true, ltb-true, ltb-false, le-leb, lt-leb, leb-true
 use lib.Dec.{T, leb, ltb, eqb, lit<}
 use lib.ListN.{length, get_or, length-append}
 use Rattle.std.specs.Cmp.{first_so, second_so}
+use Rattle.std.specs.Prelude.{Option, None, Some}
+use Rattle.refusal.specs.Numbered.{number_in}
+use Rattle.refusal.specs.declared.Refusal.{Refusal}
+use Rattle.refusal.specs.declared.Refusal.TheVariants.{WrongFields, FlowCount, Flow, Ufr, Amount, Room}
 use Rattle.model.specs.Constants.{default_ufr}
 use Rattle.model.specs.Numbers.{bytes_of}
 use Rattle.model.specs.Case.{FileCase, known_form, per_step}
@@ -19,10 +23,10 @@ use Rattle.model.specs.Layout.{flow, amounts_from, amounts_in_order, amounts, no
 use Rattle.model.specs.Layout.{days_if, parts_of}
 use Rattle.model.specs.Layout.{file_of, case_of, Agrees, Keeps}
 use Rattle.model.specs.inner.Positions.{ufr_field, days_field, pension_field, bonds_field, amounts_field}
-use Rattle.model.specs.Refusals.{first_of, refusal}
-use Rattle.savingmodel.specs.Saving.{all_zero, needed, shortest, case_checks, case_refusal, save_refusal}
+use Rattle.model.specs.Refusals.{failing, refusal}
+use Rattle.savingmodel.specs.Saving.{all_zero, needed, shortest, case_checks, case_refusal, save_checks, save_refusal}
 use Rattle.theory.proofs.general.Lists.{◌also◌}
-use Rattle.theory.proofs.acceptance.Checks.{numbered, numbered-append, hold-append, hold-parts, none-hold, hold-none, after_none, after-some}
+use Rattle.theory.proofs.acceptance.Checks.{hold-append, hold-parts, none-hold, hold-none, none-fails, first-fails, holds-first, fails-first}
 use Rattle.theory.proofs.acceptance.Checks.{below-append, below-if, first_below}
 use Rattle.theory.proofs.acceptance.Encoding.{length-bytes}
 use Rattle.theory.proofs.acceptance.Within.{forwards-true, forwards-test, PartsWithin, PartsLimited, layout-limited, parts-limits, limits-parts}
@@ -58,15 +62,19 @@ agrees-needed k = record {
 module _ (k : FileCase) where
   -- "3" of the form, then the fields, then 6
   abbrev form_check : List Check
-  form_check = (known_form k.rate_bytes, 3) ∷ []
+  form_check = (known_form k.rate_bytes, WrongFields) ∷ []
 
   abbrev field_checks : List Check
   field_checks = (layout k.rate_bytes (needed k)).limits (parts_of k)
 
-  -- no check of a case has the number 0
-  pub case-numbered : T (numbered (case_checks k))
-  unfolding case_checks
-  case-numbered = numbered-append field_checks (sixth k) ((layout-limited k.rate_bytes (needed k)).counts (parts_of k)) tt
+  -- the number of a case is that of its refusal
+  pub case-number : (o : Option Refusal) → failing (case_checks k) ≡ o → case_refusal k ≡ number_in o
+  unfolding case_refusal
+  case-number o h = first-fails (case_checks k) o h
+
+  pub case-none : case_refusal k ≡ 0 → failing (case_checks k) ≡ None
+  unfolding case_refusal
+  case-none h = none-fails (case_checks k) h
 
   -- a case is accepted exactly when it is within the limits
   pub case-accepted : WithinLimits k → case_refusal k ≡ 0
@@ -81,7 +89,7 @@ module _ (k : FileCase) where
   pub case-within : case_refusal k ≡ 0 → WithinLimits k
   unfolding case_refusal case_checks
   case-within h =
-      let (known, checked) = none-hold (case_checks k) case-numbered h in
+      let (known, checked) = none-hold (case_checks k) h in
       let (fields, six) = hold-parts field_checks (sixth k) checked in
       let ((u, (d, (m, (b, (a, s))))), l) = (layout-limited k.rate_bytes (needed k)).within (parts_of k) fields in
       let agrees = agrees-needed k in
@@ -162,9 +170,9 @@ saved-shortest file x =
     let k = x.held in
     let q = needed k in
     let a = x.agrees in
-    let u = fewer (field 9 (number_of 2 0 5000)) default_ufr k.ufr q.ufr p.ufr (λ e. rw (a.ufr_absent e)) in
-    let b = fewer (counted 60 7 8 flow) [] k.bonds q.bonds p.bonds (λ e. rw (a.bonds_absent e)) in
-    let m = fewer (field 10 amounts) no_amounts k.amounts q.amounts p.amounts (λ e. rw (a.amounts_absent e)) in
+    let u = fewer (field Ufr (number_of 2 0 5000)) default_ufr k.ufr q.ufr p.ufr (λ e. rw (a.ufr_absent e)) in
+    let b = fewer (counted 60 FlowCount Flow flow) [] k.bonds q.bonds p.bonds (λ e. rw (a.bonds_absent e)) in
+    let m = fewer (field Amount amounts) no_amounts k.amounts q.amounts p.amounts (λ e. rw (a.amounts_absent e)) in
     omega (arith, file-length q k, ap length x.bytes ∙ file-length p k, u, b, m)
 
 -- ---- "then 14 when the lent buffer is shorter than the bytes needed"
@@ -187,32 +195,37 @@ under-fourteen k =
 
 module _ (k : FileCase) (room : ℕ) where
   abbrev room_check : List Check
-  room_check = (leb (length (shortest k)) room, 14) ∷ []
+  room_check = (leb (length (shortest k)) room, Room) ∷ []
 
   -- a case outside the limits has its own number, whatever the buffer
-  pub refused-first : (r : ℕ) → case_refusal k ≡ suc r → save_refusal k room ≡ suc r
-  unfolding case_refusal save_refusal
-  refused-first r h = after-some (case_checks k) room_check r h
+  pub refused-first : (r : Refusal) → failing (case_checks k) ≡ Some r → failing (save_checks k room) ≡ Some r
+  refused-first r h = fails-first (case_checks k) room_check r h
 
   -- any other case is saved where the buffer is long enough, and else gets 14
-  pub saved-fits : WithinLimits k → length (shortest k) ≤ room → save_refusal k room ≡ 0
-  unfolding case_refusal save_refusal first_of
-  saved-fits w h =
-      after_none (case_checks k) room_check (case-numbered k) (case-accepted k w) ∙ rw (le-leb (length (shortest k)) room h)
+  room-left : WithinLimits k → failing (save_checks k room) ≡ failing room_check
+  room-left w = holds-first (case_checks k) room_check (case-none k (case-accepted k w))
 
-  pub saved-too-long : WithinLimits k → room < length (shortest k) → save_refusal k room ≡ 14
-  unfolding case_refusal save_refusal first_of
-  saved-too-long w h =
-      after_none (case_checks k) room_check (case-numbered k) (case-accepted k w) ∙ rw (lt-leb (length (shortest k)) room h)
+  pub saved-fits : WithinLimits k → length (shortest k) ≤ room → failing (save_checks k room) ≡ None
+  saved-fits w h = room-left w ∙ rw (le-leb (length (shortest k)) room h)
+
+  pub saved-too-long : WithinLimits k → room < length (shortest k) → failing (save_checks k room) ≡ Some Room
+  saved-too-long w h = room-left w ∙ rw (lt-leb (length (shortest k)) room h)
 
   -- and 14 is given nowhere else
   pub fourteen-only : save_refusal k room ≡ 14 → WithinLimits k × (room < length (shortest k))
-  fourteen-only h = by (case_refusal k) refl (leb (length (shortest k)) room) refl
+  unfolding save_refusal
+  fourteen-only h = by (failing (case_checks k)) refl (leb (length (shortest k)) room) refl
     where
-      by : (r : ℕ) → case_refusal k ≡ r → (b : Bool) → leb (length (shortest k)) room ≡ b → WithinLimits k × (room < length (shortest k))
-      by (suc r) e b f = let never : ⊥ = omega (arith, under-fourteen k, refused-first r e) in absurd never
-      by zero e false f = (case-within k e, leb-false (length (shortest k)) room f)
-      by zero e true f =
-          let fits = saved-fits (case-within k e) (leb-true (length (shortest k)) room f) in
-          let never : ⊥ = omega arith in
+      by : (o : Option Refusal) → failing (case_checks k) ≡ o → (b : Bool) → leb (length (shortest k)) room ≡ b
+          → WithinLimits k × (room < length (shortest k))
+      by (Some r) e b f =
+          let own = case-number k (Some r) e in
+          let first = first-fails (save_checks k room) (Some r) (refused-first r e) in
+          let never : ⊥ = omega (arith, under-fourteen k, own, first, h) in
+          absurd never
+      by None e false f = (case-within k (case-number k None e), leb-false (length (shortest k)) room f)
+      by None e true f =
+          let within = case-within k (case-number k None e) in
+          let fits = first-fails (save_checks k room) None (saved-fits within (leb-true (length (shortest k)) room f)) in
+          let never : ⊥ = omega (arith, fits, h) in
           absurd never

@@ -2,9 +2,10 @@
 -- Each goal stands at a place of its own, with names of its own, so what they share is told in each.
 use Rattle.std.proofs.Common.{◌≡◌, ◌∙◌, ◌<◌, [], ◌∷◌, length, get_or, ap, sym, refl, arith, rules, pos, ◌+ℤ◌, FitsSigned, w32}
 use mathlib.Core.Path.{ap₂}
+use Rattle.refusal.specs.declared.Refusal.TheVariants.{Rate}
 use Rattle.model.specs.Layout.{daily_rate}
 use Rattle.model.specs.Numbers.{table}
-use Rattle.fields.specs.Failing.{failing}
+use Rattle.model.specs.Refusals.{failing}
 use Rattle.theory.proofs.acceptance.Runs.{values-table}
 use Rattle.theory.proofs.general.Lists.{table_filled, all-filled, table_same, get_or-table}
 use Rattle.fields.proofs.Failing.{check-held, check-failed}
@@ -47,7 +48,7 @@ returns-in_err-check g c =
     let wrong = check-failed _ _ c.in_err-check.ensures.checked in
     let all = not-right (daily_rate w) day 0 60 l.t (omega arith)
     (sym (ap (daily_rate w).right is) ∙ sym (c.is_rate.ensures ∙ ap (daily_rate w).right (passed _ fits)) ∙ wrong) in
-    rw (refused _ _ c.from_residual.ensures) (c.in_err-check.ensures.checked ∙ ap (λ b. failing ((b, 5) ∷ [])) (wrong ∙ sym all))
+    rw (refused _ _ c.from_residual.ensures) (c.in_err-check.ensures.checked ∙ ap (λ b. failing ((b, Rate) ∷ [])) (wrong ∙ sym all))
 
 pub overflow_add-sum : goal.overflow_add-sum
 overflow_add-sum g c =
@@ -71,7 +72,7 @@ returns g c =
     let all : l.t ≡ 60 = omega arith in
     let whole : l.t ≡ length held = omega (arith, c.told-sums) in
     let rate = daily_rate w in (
-      ap (λ b. failing ((b, 5) ∷ [])) (rw all at l.invariant.right),
+      ap (λ b. failing ((b, Rate) ∷ [])) (rw all at l.invariant.right),
       all-filled held l.sums _ l.t whole l.invariant.held ∙ ap (table _) all
           ∙ table_same _ _ 60 (λ i k. ap (λ r. get_or held i (pos 0) +ℤ r) (sym (ap (λ rs. get_or rs i (pos 0)) (values-table rate day 0 60) ∙ get_or-table _ 60 i (pos 0) k))),
     )

@@ -2,9 +2,10 @@
 -- Each goal stands at a place of its own, with names of its own, so what they share is told in each.
 use Rattle.std.proofs.Common.{◌≡◌, ◌∙◌, ◌+◌, ◌*◌, [], ◌∷◌, drop, length, refl, ap, sym, arith}
 use Rattle.std.proofs.lemmas.List.{length_push}
+use Rattle.refusal.specs.declared.Refusal.TheVariants.{Rate}
 use Rattle.model.specs.Fields.{value_all, right_all}
 use Rattle.model.specs.Layout.{daily_rate, day}
-use Rattle.fields.specs.Failing.{failing}
+use Rattle.model.specs.Refusals.{failing}
 use Rattle.theory.proofs.acceptance.Runs.{values_length}
 use Rattle.fields.specs.Sums.{added}
 use Rattle.fields.proofs.DaySums.{sums-next, sums-room, day-right, turn-rates, turn-left, turn-within, all-days, no-sums}
@@ -68,7 +69,7 @@ returns-in_err-add_day g c =
     let wrong = check-failed _ _ c.in_err-add_day.ensures in
     let all = not-right (day w) rates 0 _ d (turn-within w rates _ _ d here whole g.met.F.RateForm.known)
     (day-right w rates (0 + w * 60 * d) ∙ ap (right_all (daily_rate w)) (sym read) ∙ wrong) in
-    rw (refused _ _ c.from_residual.ensures) (c.in_err-add_day.ensures ∙ ap (λ b. failing ((b, 5) ∷ [])) (wrong ∙ sym all))
+    rw (refused _ _ c.from_residual.ensures) (c.in_err-add_day.ensures ∙ ap (λ b. failing ((b, Rate) ∷ [])) (wrong ∙ sym all))
 
 pub returns : goal.returns
 returns g c =
@@ -76,4 +77,4 @@ returns g c =
     let l = c.loop-day.invariant in
     let (size, (short, same), remainder) = c.in-None.ensures.steps in
     let all = all-days w c.args.rates.now _ g.met.F.RateForm.known l.within (rw (← l.left, ← l.size) short) in
-    (ap (λ b. failing ((b, 5) ∷ [])) (rw all at l.right), rw all at l.held)
+    (ap (λ b. failing ((b, Rate) ∷ [])) (rw all at l.right), rw all at l.held)

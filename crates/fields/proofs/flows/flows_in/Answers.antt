@@ -1,9 +1,10 @@
 -- `field::flows_in` meets its contract: a turn reads one flow more. The check leaves each of these goals open without its answer.
 use Rattle.std.proofs.Common.{◌≡◌, ◌∙◌, ◌/◌, ◌++◌, [], ◌∷◌, leb, length, ap, sym, arith}
 use native.Mathlib.Numerals.{add-one}
+use Rattle.refusal.specs.declared.Refusal.TheVariants.{Flow}
 use Rattle.model.specs.Fields.{value_all}
 use Rattle.model.specs.Layout.{flow}
-use Rattle.fields.specs.Failing.{failing}
+use Rattle.model.specs.Refusals.{failing}
 use Rattle.theory.proofs.acceptance.Runs.{values-last, values_length}
 use Rattle.fields.proofs.Digits.{chunk-whole}
 use Rattle.fields.proofs.Failing.{check-held, check-failed}
@@ -38,4 +39,4 @@ returns-in_err-check g c =
     let wrong = check-failed _ _ c.in_err-check.ensures.checked in
     let all = not-right flow c.args.bytes.now 0 (length c.args.bytes.now / 4) l.chunk-index (omega arith)
     (sym (at_most 100000000 _) ∙ ap (λ v. leb v 100000000) (sym is) ∙ wrong) in
-    rw (refused _ _ c.from_residual.ensures) (c.in_err-check.ensures.checked ∙ ap (λ b. failing ((b, 8) ∷ [])) (wrong ∙ sym all))
+    rw (refused _ _ c.from_residual.ensures) (c.in_err-check.ensures.checked ∙ ap (λ b. failing ((b, Flow) ∷ [])) (wrong ∙ sym all))

@@ -1,10 +1,10 @@
 -- `forwards_within`: the limits of refusal 6, by the sums. The check leaves each of these goals open without its answer.
 use Rattle.std.proofs.Common.{[], ◌∷◌, ◌*◌, ◌∙◌, ap, length, ℕ}
+use Rattle.refusal.specs.declared.Refusal.TheVariants.{Forward}
 use Rattle.model.specs.Numbers.{every}
-use Rattle.model.specs.Refusals.{forwards_right}
+use Rattle.model.specs.Refusals.{failing, forwards_right}
 use Rattle.fields.proofs.DaySums.{few-steps, few-units, forwards-are, sums-bounded}
 use Rattle.fields.specs.Sums.{forward_right}
-use Rattle.fields.specs.Failing.{failing}
 use Rattle.fields.proofs.Failing.{refusal-of}
 use Rattle.fields.proofs.RatesOf.{days-hold, few-days}
 use Rattle.fields.proofs.given_days.forwards_within.Goals as goal
@@ -25,4 +25,4 @@ returns g c =
     let ds = c.args.held.now in
     let step = ap (λ (k : ℕ). k * length ds) (c.UNITS_PER_STEP.ensures ∙ g.met.F.RateForm.units) in
     let six = forwards-are {w = w} record { step = step; terms = c.requires.sums } in
-    refusal-of c.forwards_within.result ((every (forward_right (c.UNITS_PER_STEP.result * length ds) c.args.sums) 60, 6) ∷ []) (λ _. Unit {0}) c.forwards_within.ensures ∙ ap (λ b. failing ((b, 6) ∷ [])) (six ∙ ap (λ (k : ℕ). forwards_right k ds) step)
+    refusal-of c.forwards_within.result ((every (forward_right (c.UNITS_PER_STEP.result * length ds) c.args.sums) 60, Forward) ∷ []) (λ _. Unit {0}) c.forwards_within.ensures ∙ ap (λ b. failing ((b, Forward) ∷ [])) (six ∙ ap (λ (k : ℕ). forwards_right k ds) step)

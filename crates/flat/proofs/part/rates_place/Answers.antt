@@ -5,16 +5,21 @@ use Rattle.flat.specs.declared.part.HostPart.{HostPart}
 use Rattle.flat.proofs.part.Placed.{part_placed, some-part, no-part}
 use Rattle.flat.proofs.part.rates_place.Goals as goal
 
+pub returns-in-Ok-clause-value : goal.returns-in-Ok-clause-value
+returns-in-Ok-clause-value c =
+    let read = c.in-Ok.ensures.value in
+    some-part c.args.file.now _ _ read.refusal read.given.1.bytes read.there
+
 pub returns-in-Ok-clause-part : goal.returns-in-Ok-clause-part
 returns-in-Ok-clause-part c =
     let read = c.in-Ok.ensures.value in
     let file = c.args.file.now in
-    ap (λ (p : HostPart). take p.length (drop p.offset file)) (some-part file _ _ read.number read.given.1.bytes read.there) ∙ part_placed file
+    ap (λ (p : HostPart). take p.length (drop p.offset file)) (some-part file _ _ read.refusal read.given.1.bytes read.there) ∙ part_placed file
 
 pub returns-in-Err-clause-value : goal.returns-in-Err-clause-value
-returns-in-Err-clause-value c = no-part c.args.file.now _ c.in-Err.ensures.value.number
+returns-in-Err-clause-value c = no-part c.args.file.now _ c.in-Err.ensures.value.refusal
 
 pub returns-in-Err-clause-part : goal.returns-in-Err-clause-part
 returns-in-Err-clause-part c =
     let file = c.args.file.now in
-    ap (λ (p : HostPart). take p.length (drop p.offset file)) (no-part file _ c.in-Err.ensures.value.number) ∙ part_placed file
+    ap (λ (p : HostPart). take p.length (drop p.offset file)) (no-part file _ c.in-Err.ensures.value.refusal) ∙ part_placed file

@@ -4,4 +4,4 @@ use Rattle.reader.proofs.Exactly.{refused-part}
 use Rattle.reader.proofs.file.rates_part.Goals as goal
 
 pub returns-in-Err : goal.returns-in-Err
-returns-in-Err c = refused-part c.args.file _ _ c.in-Err.ensures.value.number refl refl
+returns-in-Err c = refused-part c.args.file _ _ c.in-Err.ensures.value.refusal refl refl

@@ -3,9 +3,10 @@
 -- Each goal stands at a place of its own, with names of its own, so what they share is told in each.
 use Rattle.std.proofs.Common.{◌∙◌, ◌*◌, ◌+◌, ◌/◌, get_or, length, [], ◌∷◌, ap, refl, sym}
 use mathlib.Core.Path.{ap₂}
+use Rattle.refusal.specs.declared.Refusal.TheVariants.{DayCount, Rate}
 use Rattle.model.specs.Fields.{right_all, value_all}
 use Rattle.model.specs.Layout.{day}
-use Rattle.fields.specs.Failing.{failing}
+use Rattle.model.specs.Refusals.{failing}
 use Rattle.theory.proofs.acceptance.Runs.{values_length}
 use Rattle.fields.specs.Checks.{count_checks}
 use Rattle.fields.specs.Sums.{sums_of}
@@ -22,7 +23,7 @@ returns-in_err-sum_days g c =
     let counted = whole-days w _ _ g.met.F.RateForm.known part.whole in
     let ds = days-whole w _ cursor.file.now (cursor.at + 1) _ counted part.bytes ∙ ap (value_all (day w) _ _) is in
     rw (refused _ _ c.from_residual-in_err-sum_days.ensures)
-    (go (count_checks 70 4 (w * 60) cursor.file.now cursor.at) ((right_all (day w) (value_all (day w) cursor.file.now (cursor.at + 1) (get_or cursor.file.now cursor.at 0)), 5) ∷ []) none (c.in_err-sum_days.ensures ∙ ap (λ xs. failing ((right_all (day w) xs, 5) ∷ [])) ds))
+    (go (count_checks 70 DayCount (w * 60) cursor.file.now cursor.at) ((right_all (day w) (value_all (day w) cursor.file.now (cursor.at + 1) (get_or cursor.file.now cursor.at 0)), Rate) ∷ []) none (c.in_err-sum_days.ensures ∙ ap (λ xs. failing ((right_all (day w) xs, Rate) ∷ [])) ds))
 
 pub invariant_of-summed : goal.invariant_of-summed
 invariant_of-summed g c =
@@ -48,6 +49,6 @@ returns g c =
     let counted = whole-days w _ _ g.met.F.RateForm.known part.whole in
     let ds = days-whole w _ cursor.file.now (cursor.at + 1) _ counted part.bytes ∙ ap (value_all (day w) _ _) is in
     let long = is ∙ sym (values_length (day w) cursor.file.now (cursor.at + 1) _) in (
-      sym (go (count_checks 70 4 (w * 60) cursor.file.now cursor.at) ((right_all (day w) (value_all (day w) cursor.file.now (cursor.at + 1) (get_or cursor.file.now cursor.at 0)), 5) ∷ []) none (sym right ∙ ap (λ xs. failing ((right_all (day w) xs, 5) ∷ [])) ds)),
+      sym (go (count_checks 70 DayCount (w * 60) cursor.file.now cursor.at) ((right_all (day w) (value_all (day w) cursor.file.now (cursor.at + 1) (get_or cursor.file.now cursor.at 0)), Rate) ∷ []) none (sym right ∙ ap (λ xs. failing ((right_all (day w) xs, Rate) ∷ [])) ds)),
       (record { sums = record { step = ap₂ (λ a n. a * n) u long; terms = sums ∙ ap sums_of ds }; place = refl; part = rw (← long) part }, moved),
     )

@@ -1,7 +1,7 @@
 -- `check` of two fields: the first refuses, or the second answers. The check leaves each of these goals open without its answer.
 use Rattle.std.proofs.Common.{◌∙◌, sym}
 use Rattle.std.proofs.lemmas.Result.{err_from_is_err_and}
-use Rattle.fields.proofs.Failing.{fails-first, holds-first}
+use Rattle.theory.proofs.acceptance.Checks.{fails-first, holds-first}
 use Rattle.fields.proofs.field.ThenField.check.Goals as goal
 
 pub returns-in_err-check : goal.returns-in_err-check

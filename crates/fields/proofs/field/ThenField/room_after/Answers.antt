@@ -1,6 +1,6 @@
 -- `room_after` of two fields: both are within their limits. The check leaves each of these goals open without its answer.
 use Rattle.std.proofs.Common.{refl}
-use Rattle.fields.proofs.Failing.{both-hold}
+use Rattle.theory.proofs.acceptance.Checks.{both-hold}
 use Rattle.fields.proofs.field.ThenField.room_after.Goals as goal
 
 pub room_after-requires : goal.room_after-requires

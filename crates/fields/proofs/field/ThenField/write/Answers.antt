@@ -1,7 +1,7 @@
 -- `write` of two fields: both are within their limits, and one is written behind the other.
 -- The check leaves each of these goals open without its answer.
 use Rattle.std.proofs.Common.{arith, length-append, refl}
-use Rattle.fields.proofs.Failing.{both-hold}
+use Rattle.theory.proofs.acceptance.Checks.{both-hold}
 use Rattle.fields.proofs.Written.{then}
 use Rattle.fields.proofs.field.ThenField.write.Goals as goal
 

@@ -1,8 +1,9 @@
 -- `read` of the shocks: one of them is out of its limits. The check leaves this goal open without its answer.
 use Rattle.std.proofs.Common.{◌∙◌, ◌+◌, [], ◌∷◌, ap}
+use Rattle.refusal.specs.declared.Refusal.TheVariants.{EndsEarly, Shock}
 use Rattle.model.specs.Fields.{reaches}
 use Rattle.model.specs.Layout.{shocks}
-use Rattle.fields.specs.Failing.{failing}
+use Rattle.model.specs.Refusals.{failing}
 use Rattle.fields.proofs.Fields.{shocks-are}
 use Rattle.fields.proofs.Steps.{go, refused}
 use Rattle.fields.proofs.shocks.ShocksField.read.Goals as goal
@@ -14,5 +15,5 @@ returns-in_err-check c =
     let (none, (are, moved)) = c.in_ok-up_shift.ensures in
     let right = c.shocks_within.ensures ∙ ap shocks.right (shocks-are c.in_ok-up_shift.field-0 file at are) in
     rw (refused _ _ c.from_residual-in_err-check.ensures)
-    (go ((reaches file (at + 24), 1) ∷ []) ((shocks.right (shocks.value file at), 11) ∷ []) none
-    (c.in_err-check.ensures.checked ∙ ap (λ b. failing ((b, 11) ∷ [])) right))
+    (go ((reaches file (at + 24), EndsEarly) ∷ []) ((shocks.right (shocks.value file at), Shock) ∷ []) none
+    (c.in_err-check.ensures.checked ∙ ap (λ b. failing ((b, Shock) ∷ [])) right))

@@ -3,8 +3,9 @@
 use Rattle.std.proofs.Common.{◌≡◌, ◌∙◌, ◌+◌, suc, [], ◌∷◌, get_or, ap, sym, refl, arith, pos, ◌*ℤ◌}
 use Rattle.std.proofs.lemmas.Int.{ints}
 use mathlib.Core.Path.{ap₂}
+use Rattle.refusal.specs.declared.Refusal.TheVariants.{Forward}
 use Rattle.model.specs.Numbers.{every}
-use Rattle.fields.specs.Failing.{failing}
+use Rattle.model.specs.Refusals.{failing}
 use Rattle.fields.specs.Sums.{sum_at, difference_right, forward_right}
 use Rattle.fields.proofs.Forwards.{sum-passed, product-passed, every-next, not-every}
 use Rattle.fields.proofs.Failing.{check-held, check-failed}
@@ -43,10 +44,10 @@ returns-in_err-check c =
     ∙ ap₂ (difference_right held.per_step) l.invariant.before (value ∙ ap (λ k. pos k *ℤ get_or held.sums l.t (pos 0)) one) in
     let wrong = check-failed _ _ c.in_err-check.ensures.checked in
     let all = not-every (forward_right held.per_step held.sums) 60 l.t c.loop-t-test.true (sym tested ∙ wrong) in
-    rw (refused _ _ c.from_residual.ensures) (c.in_err-check.ensures.checked ∙ ap (λ b. failing ((b, 6) ∷ [])) (wrong ∙ sym all))
+    rw (refused _ _ c.from_residual.ensures) (c.in_err-check.ensures.checked ∙ ap (λ b. failing ((b, Forward) ∷ [])) (wrong ∙ sym all))
 
 pub returns : goal.returns
 returns c =
     let l = c.loop-t in
     let all : l.t ≡ 60 = omega arith in
-    (ap (λ b. failing ((b, 6) ∷ [])) (rw all at l.invariant.right), tt)
+    (ap (λ b. failing ((b, Forward) ∷ [])) (rw all at l.invariant.right), tt)

@@ -57,8 +57,10 @@ enum {
     GINGHAMOWL_DAY_RATES = 60,       /* the zero rates of a day: terms 1 to 60 */
     GINGHAMOWL_ENTRIES = 240,        /* the least length of a factor or rate buffer */
     GINGHAMOWL_FILE_BYTES = 17623,   /* the longest accepted file; one byte more decides a refusal, and
-                                        every saved case fits */
-    GINGHAMOWL_LISTING_BYTES = 512,  /* a listing always fits into so many bytes */
+                                        every saved case fits (crates/promises: accepted_files_are_short,
+                                        first_bytes_decide, saved_files_are_short) */
+    GINGHAMOWL_LISTING_BYTES = 512,  /* a listing always fits into so many bytes: it has at most 463
+                                        (crates/promises: listings_are_short) */
     GINGHAMOWL_WINDOW_DAYS = 70,     /* the slots of a rolling window, and the most days that it holds */
     GINGHAMOWL_WINDOW_RATES = 4200,  /* the rates of all its slots */
     GINGHAMOWL_WINDOW_BYTES = 8896,  /* the size of a rolling window */

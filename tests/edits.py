@@ -103,6 +103,7 @@ def functions(crate):
 
 
 def statements(crate):
-    """The names that the proofs of a crate declare."""
+    """The names that the proofs of a crate declare, also behind common parameters; no fields of records."""
     return {name for path in glob.glob(os.path.join(ROOT, "crates", crate, "proofs", "**", "*.antt"), recursive=True)
-            for name in re.findall(r"^(?:pub )?(\S+) :", read_text(path), re.M)}
+            for part in re.split(r"^(?=\S)", read_text(path), flags=re.M) if not re.match(r"(?:pub )?(?:record|data)\b", part)
+            for name in re.findall(r"^ *(?:pub )?([^\s()]+) :", part, re.M)}

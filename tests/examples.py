@@ -102,6 +102,12 @@ def past_20():
     return c1(bonds=[0] * 20 + [1_000_000], shocks=c1().shocks | {"up_shift": 1_000, "down_shift": 500})
 
 
+def both_fall(up_shift, down_shift):
+    """C1 with one bond flow, at term 2, between pension flows at terms 1 and 3, and shifts: B - L falls on both curves, since the sums of
+    flow × term are equal and the pensions lie further apart."""
+    return c1(pension=[30_000_000, 0, 20_000_000], bonds=[0, 45_000_000], shocks=c1().shocks | {"up_shift": up_shift, "down_shift": down_shift})
+
+
 def finer():
     """A fund with one four-byte day, no rate of which is a whole step, with both shifts, and another number in every field."""
     return replace(up(), days=[[4_321 * t - 12_370 for t in range(1, 61)]], bonds=[9_876_543, 0, 45_678_912], rate_bytes=4)

@@ -156,6 +156,23 @@ def forward_rows():
                 yield f"{n} days, term {term}: {forward}", bits() + days + PENSION + SHOCKS_FIELD + people()
 
 
+def part_rows():
+    """A file for each refusal, by its number: it has rates where the part of an accepted one stands."""
+    steep = rates([0] + [6_001] * 59)
+    yield 1, bits() + rates([1] * 60)[:-1]
+    yield 2, TO_PEOPLE + people() + b"\0"
+    yield 3, number(0x8000 | REQUIRED, 2) + DAYS
+    yield 4, bits() + b"\x47" + DAYS[1:]
+    yield 5, bits() + rates(put(FLAT, 0, 10_001))
+    yield 6, bits() + steep + PENSION + SHOCKS_FIELD + people()
+    yield 7, TO_PENSION + b"\x79"
+    yield 8, TO_PENSION + flows(FLOW + 1)
+    yield 9, bits(UFR) + number(5_001, 2) + DAYS
+    yield 10, TO_AMOUNTS + run(8, AMOUNT + 1, *[0] * 7)
+    yield 11, TO_SHOCKS + run(2, 1_001, *[0] * 11)
+    yield 12, TO_PEOPLE + people(0)
+
+
 # ---------------------------------------------------------------- four-byte days
 
 LEAST, MOST = -100_000, 1_000_000  # of a rate of four bytes
@@ -272,6 +289,8 @@ QUICK = {
     "four-order": [],
 }
 
+QUICK_PARTS = (1, 3, 4, 5, 6, 9)
+
 
 def quick(groups):
     """The groups again, with their quick rows alone."""
@@ -285,6 +304,12 @@ def quick_groups():
     return quick(groups())
 
 
+def quick_part_rows():
+    """The parts of files that no field before the rates lets pass, and that of one which 6 refuses."""
+    return [(refusal, data) for refusal, data in part_rows() if refusal in QUICK_PARTS]
+
+
 def all_files():
     """Of both days fields."""
-    return [data for made in (groups(), four_byte_groups()) for _, _, rows in made for _, data in rows]
+    rows = [row for made in (groups(), four_byte_groups()) for _, _, group in made for row in group]
+    return [data for _, data in [*rows, *part_rows()]]

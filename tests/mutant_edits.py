@@ -1,4 +1,4 @@
-"""One-token wrong edits of the definitions (crates/NAME/specs/*.antt) and of the code (crates/NAME/src/*.rt).
+"""One-token wrong edits of the definitions (crates/NAME/specs/*.antt) and of the code (crates/NAME/src/*.rt), and records with a field less.
 
 tests/mutants.py puts them to the prover; this module only makes them. Comments, `use` lines, signatures, the heads of records and what
 stands left of a clause's `=` are left alone; the statements in records are definitions, and are edited.
@@ -10,6 +10,7 @@ from collections import Counter
 from dataclasses import dataclass
 
 LEFT_OUT = "left out"
+DROPPED = "dropped"  # the kind of the edits that are more than a token: a field of a record is left out
 
 # ---------------------------------------------------------------- what is exchanged for what
 
@@ -167,9 +168,9 @@ def neighbour(chain, name):
 
 
 def numbers(digits):
-    """A number one up, and doubled."""
+    """A number one up, one down, and doubled. 0 has none below, and twice 1 is one up."""
     n = int(digits)
-    return [("up", str(n + 1))] + ([("doubled", str(2 * n))] if n > 1 else [])
+    return [("up", str(n + 1))] + ([("down", str(n - 1))] if n > 0 else []) + ([("doubled", str(2 * n))] if n > 1 else [])
 
 
 def exchanged_token(token):
@@ -358,6 +359,18 @@ class Definitions:
         self.names, self.known_names, self.lines = defined(text), known_names, uses(text)
         self.chains = chains_in(set(text_of(tokens_of(ANTT, text, "--"))), known_types)
 
+    def without_fields(self, item):
+        """The edits by which a record says less: each field of one that has several is left out, whole."""
+        texts, made = text_of(item), []
+        starts = [i for i, text in enumerate(texts) if text == "pub" and i > texts.index("where")] if "where" in texts else []
+        if "record" not in texts[:2] or len(starts) < 2:
+            return []
+        for i, end in zip(starts, starts[1:] + [len(item)]):
+            text = self.text[:item[i].start] + self.text[item[end - 1].end:]
+            name = f"{texts[texts.index('record') + 1]}.{texts[i + 1]}"
+            made.append(mutant(self.path, name, DROPPED, item[i], 1, "", self.text, text))
+        return made
+
     def edited(self, token, new, bound):
         """The file with an edit, and with `use` of what it needs; None where a name is not to be had."""
         text = self.text[:token.start] + new + self.text[token.end:]
@@ -373,6 +386,7 @@ class Definitions:
     def mutants(self):
         seen, made = Counter(), []
         for item in items(self.text):
+            made += self.without_fields(item)
             bound = set(text_of(item))
             for name, tokens in bodies(item):
                 texts = text_of(tokens)

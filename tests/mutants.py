@@ -1,14 +1,16 @@
-"""Looks for holes: puts one-token wrong edits of the definitions that a reader must believe to the prover, with no proof touched.
+"""Looks for holes: puts one-token wrong edits of the definitions that a reader must believe, and records with a field less, to the prover, with
+no proof touched.
 
     python3 tests/mutants.py                  all of them, in an hour or two; ends with 1 if one survives that is not listed
     python3 tests/mutants.py --list           prints them and runs nothing
-    python3 tests/mutants.py --file Exact     those of one file (model/Exact, where two crates have one of that name)
+    python3 tests/mutants.py --file Exact,Curve          those of some files (model/Exact, where two crates have one of that name)
     python3 tests/mutants.py --kind up,order  those of some kinds of mistakes
     python3 tests/mutants.py --part 2/5       every fifth, from the second on
     python3 tests/mutants.py --minutes 30 --seed 7       in an order drawn by a seed, for half an hour; says what was not tried
     python3 tests/mutants.py --only KEY       one of them, with all that the prover says
     python3 tests/mutants.py --code [COUNT]   edits of the code instead, COUNT (100) drawn by the seed
     python3 tests/mutants.py --list-same      the survivors that mean the same, as rows of a table
+    python3 tests/mutants.py --stated         all of them, but only computed statements and plain uses of promises may refuse one
 
 --results FILE writes each verdict to FILE as it comes. --resume FILE skips what has a verdict there: a refusal while the edited file's
 contents are the same, and any other verdict only while every file under crates/ is. --warm DIR keeps what was proved of the tree as it
@@ -25,10 +27,15 @@ refusal, since what is taken was admitted; and a survivor can be tried anew with
 
 Survivors that mean the same as the original are listed in tests/mutants_same.txt, each line KEY because REASON.
 
+With --stated the theorems, the promises and the functions are left out, since each of these may refuse an edit only because its proof no
+longer fits (tests/stated.py). What survives there no number and no plain use of a promise guards: it is mended by one of these, or
+listed in tests/mutants_stated.txt, likewise, with the reason why none is wanted.
+
 The programs (ginghamowl, command, report, batch, answers, searches) and their tests (trials) are left out: no host calls them.
 """
 
 import argparse
+import copy
 import hashlib
 import json
 import os
@@ -46,27 +53,28 @@ from dataclasses import asdict, dataclass
 
 sys.path.insert(0, os.path.dirname(os.path.abspath(__file__)))
 import mutant_edits
+import stated
 from edits import DEFINED
 from mutant_edits import where
 
 ROOT = os.path.dirname(os.path.dirname(os.path.abspath(__file__)))
 SAME = os.path.join(ROOT, "tests", "mutants_same.txt")
+STATED = os.path.join(ROOT, "tests", "mutants_stated.txt")
 
 # The files of definitions that a reader must believe, by crate. Part and Version of `flat` are not here: no token of the one definition of
 # the first has a wrong edit, and a script writes the second.
 DEFINITIONS = {
     "arith": "Rounding Root Brackets",
-    "refusal": "Numbered",
-    "model": "Constants Numbers Case Limits Fields Layout Refusals",
-    "method": "Fraction Brackets Curve Exact Rounded Margins Demand3 Buffers Window Listing FourBytes",
+    "refusal": "Numbered Promises",
+    "model": "Constants Numbers Case Limits Fields Layout Refusals Sizes Promises",
+    "method": "Fraction Brackets Curve Exact Rounded Margins Demand3 Buffers Window Listing FourBytes Bonds Sizes TwelveFiles Promises",
     "heldcase": "Held",
-    "savingmodel": "Saving",
-    "rollingmodel": "Rolling",
-    "searchmodel": "Bisection",
-    "monthsmodel": "Months",
+    "savingmodel": "Saving Forms Promises",
+    "rollingmodel": "Rolling Promises",
+    "searchmodel": "Bisection Promises",
+    "monthsmodel": "Months Promises",
     "reader": "Answers",
     "listing": "Holds Shown",
-    "engine": "Guarantee",
     "flat": "Flat",
 }
 PROGRAMS = {"ginghamowl", "command", "report", "batch", "answers", "searches", "trials"}
@@ -170,6 +178,12 @@ class Prover:
         self.rattle, self.rlibs = os.path.join(kit, "bin", "rattle"), os.path.join(kit, "rlibs")
         self.logic = ["--antt-project", f"{kit}/rattle/logic/antt-project.json", "--logic-built", f"{kit}/logic_built"]
 
+    def over(self, deps):
+        """The same prover over other crates."""
+        other = copy.copy(self)
+        other.deps = deps
+        return other
+
     def words(self, tree, crate, incremental):
         libraries = [word for name in of_kit(crate, self.deps) for word in ("--extern", f"{name}={self.rlibs}/{name}.rlib")]
         libraries += ["-L", f"dependency={self.rlibs}"]
@@ -248,6 +262,10 @@ class Worker:
         shutil.copytree(os.path.join(root, "crates"), os.path.join(self.tree, "crates"), ignore=shutil.ignore_patterns("must-fail"))
         self.texts = crate_texts(root)
 
+    def try_group(self, mutants, keep):
+        for mutant in mutants:
+            keep(mutant, self.try_one(mutant))
+
     def try_one(self, mutant, show=None):
         """The mutant's outcome; its file is as it was afterwards."""
         incremental, began = os.path.join(self.folder, "checked"), time.monotonic()
@@ -277,6 +295,98 @@ class Worker:
         return Outcome(SURVIVES)
 
 
+class StatedWorker:
+    """A tree of definitions and statements alone, in which many mutants are tried in one check, each as copies of what it changes."""
+
+    def __init__(self, root, folder, warm, prover):
+        self.tree, self.prover, self.graph = os.path.join(folder, "tree"), prover, stated.Graph(root)
+        shutil.copytree(root, self.tree)
+        stated.put(self.tree, {"crates/all/src/lib.rt": stated.ALONE})
+        self.warm, self.incremental = warm, os.path.join(folder, "checked")
+        self.texts = crate_texts(root)
+
+    def try_group(self, mutants, keep):
+        """Mutants of one file, stage by stage."""
+        left, path = mutants, mutants[0].path
+        own = path.split("/")[1]
+        for crate in stages(own, self.prover.deps, naming(path, self.texts)):
+            if crate == own or any("/proofs/" in file for file in self.graph.of_stage(path, {crate}) if file.startswith(f"crates/{crate}/")):
+                refused = self.refused(left, {crate})
+                for mutant in [m for m in left if m.key in refused]:
+                    keep(mutant, refused[mutant.key])
+                left = [m for m in left if m.key not in refused]
+        for mutant in left:
+            keep(mutant, Outcome(SURVIVES))
+
+    def refused(self, mutants, crates):
+        """{key: outcome} of those that a stage refuses. The others have passed a check in which nothing was refused."""
+        found, queue, unsure = {}, batches(mutants), []
+        while queue:
+            batch = queue.pop(0)
+            now = self.check(batch, crates)
+            if now is None and len(batch) > 1:
+                queue += [batch[:len(batch) // 2], batch[len(batch) // 2:]]
+            else:
+                found |= now or {}
+                unsure += [m for m in batch if now and m.key not in now]
+            if not queue:
+                queue, unsure = batches(unsure), []
+        return found
+
+    def check(self, batch, crates):
+        """{key: outcome} of those that one check of them all refuses; None where it does not tell."""
+        texts, began = {}, time.monotonic()
+        for number, mutant in enumerate(batch):
+            texts |= stated.copies(self.graph, mutant, number, crates)
+        prover = self.prover.over(stated.deps_with_copies(self.prover.deps, texts))
+        stated.put(self.tree, texts)
+        shutil.rmtree(self.incremental, ignore_errors=True)
+        copied(self.warm, self.incremental)
+        try:
+            status, said = prover.check(self.tree, "all", self.incremental, TIMEOUT + 10 * len(batch))
+        finally:
+            for crate in {path.split("/")[1] for path in texts}:
+                shutil.rmtree(os.path.join(self.tree, "crates", crate))
+        taken = time.monotonic() - began
+        outcomes = {batch[n].key: outcome for n, outcome in told(said, self.tree).items()} if status == 1 else {}
+        for outcome in outcomes.values():
+            outcome.seconds = round(taken / len(batch), 1)
+        print(f"{where(batch[0].path)} in {min(crates)}: {len(outcomes)} of {len(batch)} refused (status {status}, {taken:.0f} s)", flush=True)
+        if status == 0 or outcomes:
+            return outcomes
+        if len(batch) > 1:
+            return None
+        if status in (None, 3):
+            return {batch[0].key: Outcome(TIME, min(crates), "no verdict")}
+        raise RuntimeError(f"the prover failed on {batch[0].key} (status {status}): {said[-500:]}")
+
+
+TOGETHER = 16  # so many mutants are tried in one check
+
+
+def batches(mutants):
+    return [mutants[at:at + TOGETHER] for at in range(0, len(mutants), TOGETHER)]
+
+
+TOLD = re.compile(r"^(\S+?/crates/(\w+)_(\d+)/(\S+?))(?::(\d+))?(?::\d+)?: error(?:\[[\w-]+\])?: (?:`([^`]+)`)?(.*)", re.M)
+
+
+def told(said, tree):
+    """{number: outcome} of the copies that a check refuses. The first error that is no consequence of another is named; that of a computed
+    statement before that of a plain use. Definitions that no longer have a type are no definitions, also those above the edited ones."""
+    errors = {}
+    for file, crate, number, inside, line, name, rest in TOLD.findall(said):
+        if file.startswith(tree):
+            follows, plain = "was not admitted" in rest, stated.plain(inside)
+            errors.setdefault(int(number), []).append((follows, plain, crate, inside, f"crates/{crate}/{inside}:{line} {name}".strip()))
+    found = {}
+    for number, each in errors.items():
+        follows, plain, crate, inside, first = min(each, key=lambda error: error[:2])
+        formed = not any(inside.startswith("specs/") for _, _, _, inside, _ in each)
+        found[number] = Outcome(REFUSED if formed else ILL_FORMED, crate, first)
+    return found
+
+
 def warmed(tree, folder, prover):
     """Proves the tree as it is into a folder: where that fails, a refusal of a mutant says nothing. False where the time is too short."""
     os.makedirs(folder, exist_ok=True)
@@ -293,20 +403,20 @@ def warmed(tree, folder, prover):
 
 
 class Run:
-    """Tries mutants with several workers at a time, and keeps each outcome."""
+    """Tries groups of mutants with several workers at a time, and keeps each outcome."""
 
-    def __init__(self, mutants, results, tree):
-        self.mutants, self.results, self.tree = mutants, results, tree
-        self.queue, self.outcomes, self.lock = list(mutants), {}, threading.Lock()
+    def __init__(self, groups, results, tree):
+        self.results, self.tree = results, tree
+        self.count, self.queue, self.outcomes, self.lock = sum(map(len, groups)), list(groups), {}, threading.Lock()
         self.busy, self.broken = 0, None
 
     def work(self, worker):
         try:
             while not self.broken and not worker.prover.stop.is_set():
-                mutant = self.next()
-                if mutant is None:
+                group = self.next()
+                if group is None:
                     return
-                self.keep(mutant, worker.try_one(mutant))
+                worker.try_group(group, self.keep)
         except Stopped:
             pass
         except Exception as error:  # a prover that fails says nothing of the mutant: the run ends
@@ -323,7 +433,7 @@ class Run:
         with self.lock:
             self.outcomes[mutant.key] = outcome
             told = f"{outcome.verdict} {outcome.crate} {outcome.first}".rstrip()
-            print(f"[{len(self.outcomes)}/{len(self.mutants)}] {mutant.key}: {told} ({outcome.seconds} s)", flush=True)
+            print(f"[{len(self.outcomes)}/{self.count}] {mutant.key}: {told} ({outcome.seconds} s)", flush=True)
             record = {"key": mutant.key, "text": text_sum(mutant), "tree": self.tree, **asdict(outcome)}
             self.results.write(json.dumps(record, ensure_ascii=False) + "\n")
             self.results.flush()
@@ -399,35 +509,60 @@ def column(mutant, outcome, same):
     return outcome.verdict
 
 
-def table(mutants, outcomes, same):
-    """The lines of the table: a row for each file, and one for all."""
+STATED_COLUMNS = ["made", "ill-formed", "computed", "plain use", "time", "same", "listed", "SURVIVES", "not tried"]
+
+
+def stated_column(mutant, outcome, same, listed):
+    """The column that a mutant is counted in where only computed statements and plain uses may refuse it."""
+    if outcome is None:
+        return "not tried"
+    if outcome.verdict == SURVIVES:
+        return "same" if mutant.key in same else "listed" if mutant.key in listed else "SURVIVES"
+    if outcome.verdict == REFUSED:
+        return "plain use" if stated.plain(outcome.first.split(":")[0]) else "computed"
+    return outcome.verdict
+
+
+def counted(mutants, columns, column_of, row_of):
+    """The lines of a table: a row for each file or kind, and one for all."""
     rows = {}
     for mutant in mutants:
-        for name in (where(mutant.path), "all"):
+        for name in (row_of(mutant), "all"):
             rows.setdefault(name, Counter())["made"] += 1
-            rows[name][column(mutant, outcomes.get(mutant.key), same)] += 1
+            rows[name][column_of(mutant)] += 1
     rows["all"] = rows.pop("all")
     width = max(map(len, rows))
-    lines = [" ".join([f"{'':{width}}"] + [f"{c:>10}" for c in COLUMNS])]
-    return lines + [" ".join([f"{name:{width}}"] + [f"{row[c]:>10}" for c in COLUMNS]) for name, row in rows.items()]
+    lines = [" ".join([f"{'':{width}}"] + [f"{c:>10}" for c in columns])]
+    return lines + [" ".join([f"{name:{width}}"] + [f"{row[c]:>10}" for c in columns]) for name, row in rows.items()]
 
 
-def report(mutants, outcomes, same, every):
-    """Prints the table, the survivors and what is wrong in the list of those that mean the same; whether all is well."""
-    print("\n".join(table(mutants, outcomes, same)))
+def table(mutants, outcomes, same):
+    """The lines of the table: a row for each file, and one for all."""
+    return counted(mutants, COLUMNS, lambda m: column(m, outcomes.get(m.key), same), lambda m: where(m.path))
+
+
+def stated_tables(mutants, outcomes, same, listed):
+    """The lines of both tables of --stated: by file, and by kind."""
+    column_of = lambda m: stated_column(m, outcomes.get(m.key), same, listed)
+    return [*counted(mutants, STATED_COLUMNS, column_of, lambda m: where(m.path)), "", *counted(mutants, STATED_COLUMNS, column_of, lambda m: m.kind)]
+
+
+def report(lines, mutants, outcomes, known, every):
+    """Prints tables, the survivors and what is wrong in the lists of those that are known; whether all is well."""
+    print("\n".join(lines))
     well = True
     for mutant in mutants:
         outcome = outcomes.get(mutant.key)
-        at = column(mutant, outcome, same)
-        if at == "SURVIVES":
+        survives = outcome and outcome.verdict == SURVIVES
+        if survives and mutant.key not in known:
             print(f"SURVIVES {mutant.path}:{mutant.line} {mutant.old} → {mutant.new or mutant_edits.LEFT_OUT}   {mutant.key}")
-        elif at == "time":
+            well = False
+        elif outcome and outcome.verdict == TIME:
             print(f"refused by time {mutant.path}:{mutant.line} {mutant.key}: {outcome.crate} {outcome.first}")
-        if outcome and mutant.key in same and at != "same":
-            print(f"listed as the same, and {outcome.verdict}: {mutant.key}")
-        well = well and at != "SURVIVES"
-    for key in [key for key in same if key not in every]:
-        print(f"listed as the same, and no mutant: {key}")
+        if outcome and mutant.key in known and not survives:
+            print(f"listed, and {outcome.verdict}: {mutant.key}")
+    for key in [key for key in known if key not in every]:
+        print(f"listed, and no mutant: {key}")
     untried = sum(m.key not in outcomes for m in mutants)
     if untried:
         print(f"{untried} of {len(mutants)} were not tried")
@@ -440,11 +575,13 @@ def options(argv):
     parser = argparse.ArgumentParser(description=__doc__, formatter_class=argparse.RawDescriptionHelpFormatter)
     parser.add_argument("--list", action="store_true")
     parser.add_argument("--list-same", action="store_true")
-    parser.add_argument("--file", metavar="NAME")
+    parser.add_argument("--file", metavar="NAME,..", type=lambda text: text.split(","))
     parser.add_argument("--kind", metavar="KIND,..", type=lambda text: text.split(","))
     parser.add_argument("--part", metavar="K/N", type=part)
     parser.add_argument("--only", metavar="KEY")
-    parser.add_argument("--code", metavar="COUNT", type=int, nargs="?", const=100)
+    which = parser.add_mutually_exclusive_group()
+    which.add_argument("--code", metavar="COUNT", type=int, nargs="?", const=100)
+    which.add_argument("--stated", action="store_true")
     parser.add_argument("--minutes", metavar="M", type=float)
     parser.add_argument("--seed", type=int)
     parser.add_argument("--jobs", metavar="J", type=int, default=2)
@@ -473,7 +610,7 @@ def chosen(mutants, args):
     if args.only:
         return [m for m in mutants if m.key == args.only] or sys.exit(f"mutants: no mutant has the key {args.only}")
     if args.file:
-        mutants = [m for m in mutants if where(m.path).endswith("/" + args.file) or where(m.path) == args.file]
+        mutants = [m for m in mutants if where(m.path) in args.file or where(m.path).rpartition("/")[2] in args.file]
     if args.kind:
         mutants = [m for m in mutants if m.kind in args.kind]
     if args.code is not None:
@@ -488,19 +625,39 @@ def chosen(mutants, args):
 
 def tried(mutants, args, deps, work):
     """{key: outcome}: the prover's, and those of an earlier run."""
-    tree = tree_sum(ROOT)
+    root = os.path.join(work, "stated") if args.stated else ROOT
+    if args.stated:
+        deps = stated_deps(ROOT, root, deps)
+    tree = tree_sum(root)
     outcomes = resumed(args.resume, mutants, tree) if args.resume else {}
     left = [m for m in mutants if m.key not in outcomes]
     prover = Prover(deps, time.monotonic() + 60 * args.minutes if args.minutes else None)
-    warm = None if args.only else args.warm or os.path.join(work, "warm")
-    workers = [Worker(ROOT, os.path.join(work, str(i)), warm, prover) for i in range(min(args.jobs, len(left)))]
-    if args.only:
+    warm = None if args.only and not args.stated else args.warm or os.path.join(work, "warm")
+    groups = by_file(left) if args.stated else [[m] for m in left]
+    kind = StatedWorker if args.stated else Worker
+    workers = [kind(root, os.path.join(work, str(i)), warm, prover) for i in range(min(args.jobs, len(groups)))]
+    if args.only and not args.stated:
         return {**outcomes, **{m.key: workers[0].try_one(m, print) for m in left}}
     with open(args.results or os.devnull, "a", encoding="utf-8") as results:
-        run = Run(left, results, tree)
-        if workers and warmed(workers[0].tree, warm, prover):
+        run = Run(groups, results, tree)
+        whole = prover.over({**deps, "all": list(deps)}) if args.stated else prover
+        if workers and warmed(workers[0].tree, warm, whole):
             run.all(workers)
     return {**outcomes, **run.outcomes}
+
+
+def by_file(mutants):
+    """The mutants in groups, those of a file together."""
+    groups = {}
+    for mutant in mutants:
+        groups.setdefault(mutant.path, []).append(mutant)
+    return list(groups.values())
+
+
+def stated_deps(root, folder, deps):
+    """The tree for --stated, made in a folder; {crate: what it depends on there}."""
+    whole = [*DEFINED, *APART["long"]]
+    return stated.stated_tree(root, folder, whole, [crate for crate in DEFINITIONS if crate not in whole], deps)
 
 
 def main(argv):
@@ -518,7 +675,9 @@ def main(argv):
     with tempfile.TemporaryDirectory(prefix="mutants-") as work:
         outcomes = tried(mutants, args, deps, work)
     known = same if args.code is None else {}
-    return 0 if report(mutants, outcomes, known, {m.key for m in every}) else 1
+    listed = read_same(STATED) if args.stated else {}
+    lines = stated_tables(mutants, outcomes, same, listed) if args.stated else table(mutants, outcomes, known)
+    return 0 if report(lines, mutants, outcomes, {**known, **listed}, {m.key for m in every}) else 1
 
 
 if __name__ == "__main__":

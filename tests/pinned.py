@@ -1,5 +1,5 @@
-"""Writes numbers of tests/reference.py, tests/rolling.py and tests/months.py as computed statements about the definitions, in
-thirteen files (PATHS below).
+"""Writes numbers of tests/reference.py, tests/rolling.py and tests/months.py, and those of hosts/words.toml, as computed statements about
+the definitions, in the files of PATHS below.
 
 Command line: python3 tests/pinned.py           writes the files
               python3 tests/pinned.py --check   ends with 1 if one of them is another
@@ -7,8 +7,10 @@ Command line: python3 tests/pinned.py           writes the files
 
 import os
 import sys
+import tomllib
 from dataclasses import replace
 from fractions import Fraction
+from itertools import product
 from types import SimpleNamespace
 
 import examples
@@ -20,7 +22,7 @@ import reference
 import rolling
 import to_save
 import windows
-from antt import (ENDS, PEOPLE, argument, both_ends, case_definition, computed, computed_fraction, day_or_name,
+from antt import (ENDS, PEOPLE, argument, both_ends, case_definition, case_term, computed, computed_fraction, day_or_name,
                   definition, file_term, given_term, holds, integer, list_term, long_list, record, refusal, refuted,
                   short_list, window_term)
 from reference import (ALL_STEPS, AMOUNTS, LOWER, MONEY, SHOCKS, TESTS, UPPER, Exact, ExactCurve, Rounded, StepsLeft,
@@ -82,11 +84,36 @@ use mathlib.Core.Path.{◌≡◌, refl}
 use mathlib.Core.List.{List, [], ◌∷◌, ◌++◌, map}
 """
 
+BORDERS_HEAD = """\
+-- The margins of a verdict, of funds that are far from both borders: a valuation that answers undecided for them would break them.
+""" + WRITTEN + """\
+use Prim.Native.Nat.{ℕ}
+use mathlib.Core.Path.{◌≡◌}
+use mathlib.Core.Logic.{◌⊎◌}
+use mathlib.Core.List.{[], ◌∷◌}
+use native.Mathlib.Nat.{not-le_of_lt}
+use native.Mathlib.Omega.{arith}
+use lib.Dec.{lit<}
+use lib.ListN.{replicate}
+use lib.IntN.{pos}
+use Rattle.std.specs.Prelude.{None, Result, Ok, Err}
+use Rattle.refusal.specs.declared.Refusal.{Refusal}
+use Rattle.model.specs.Case.{FileCase}
+use Rattle.method.specs.Curve.{base}
+use Rattle.method.specs.Exact as Exact
+use Rattle.method.specs.Buffers.{answered}
+use Rattle.method.specs.Margins.{NearFirst, NearSecond, first_margin, second_margin}
+use Rattle.model.specs.declared.figures.Valuation.{Valuation}
+use Rattle.model.specs.declared.figures.Verdict.TheVariants.{Onbeslist}
+use Rattle.method.proofs.Computing.{all}
+"""
+
 QUICK_HEAD = """\
 -- The refusals of files at the limits and in the order of checks: those rows of the table that are quick to compute. The whole table is in
 -- the crate `refusals`.
 """ + WRITTEN + REFUSED_USES + """\
-use Rattle.model.specs.Refusals.{refusal, rates_part}
+use Rattle.std.specs.Prelude.{None}
+use Rattle.model.specs.Refusals.{refusal, days_at, day_count, rates_part_after, rates_part}
 use Rattle.model.proofs.Computing.{pairs, all}
 """
 
@@ -151,15 +178,15 @@ use Rattle.savingmodel.proofs.Computing.{all}
 """
 
 SEARCH_HEAD = """\
--- The search for a zero rate: the step that is tested next, what a test leaves, and the steps left after each test, as
--- computed statements about the definitions.
+-- The search for a zero rate: the step that is tested next, what a test leaves, the steps left after each test, and how many tests are
+-- made, as computed statements about the definitions.
 """ + WRITTEN + """\
 use Prim.Native.Nat.{ℕ, ◌-◌, ◌*◌}
 use mathlib.Core.Path.{◌≡◌, refl}
 use mathlib.Core.Bool.{Bool, true, false}
 use mathlib.Core.List.{List, [], ◌∷◌, map}
 use Rattle.arith.specs.Rounding.{End, low, high}
-use Rattle.searchmodel.specs.Bisection.{middle, halved, after_tests, steps_left, is_left, how_many, most_left}
+use Rattle.searchmodel.specs.Bisection.{middle, halved, after_tests, tests_made, rate_test, steps_left, is_left, how_many, most_left}
 use Rattle.searchmodel.specs.declared.StepsLeft.{StepsLeft}
 use Rattle.searchmodel.proofs.Computing.{all}
 """
@@ -276,9 +303,10 @@ use mathlib.Core.Path.{◌≡◌, refl}
 use mathlib.Core.Bool.{true}
 use mathlib.Core.List.{List, [], ◌∷◌, ◌++◌, map}
 use lib.IntN.{pos, neg_ℤ}
+use Rattle.std.specs.Prelude.{None}
 use Rattle.model.specs.Case.{FileCase}
 use Rattle.model.specs.Layout.{file_of, case_of}
-use Rattle.model.specs.Refusals.{refusal, days_at, day_count, rates_part}
+use Rattle.model.specs.Refusals.{refusal, days_at, day_count, rates_part_after, rates_part}
 use Rattle.model.proofs.Computing.{pairs, all}
 """
 
@@ -302,6 +330,7 @@ use Rattle.method.specs.Rounded as Rounded
 use Rattle.method.specs.FourBytes.{rewritten, rewritten_file}
 use Rattle.method.specs.Listing.{ascii, word}
 use Rattle.model.specs.declared.figures.Verdict.TheVariants.{Dekkingstekort}
+use Rattle.model.proofs.Computing.{pairs}
 use Rattle.model.proofs.FourByteCases.{finer_case, old_case, new_case, old_file, new_file}
 use Rattle.method.proofs.Computing.{all}
 """
@@ -352,6 +381,54 @@ use Rattle.monthsmodel.proofs.Computing.{all}
 use Rattle.monthsmodel.proofs.MonthsCases.{found_history}
 """
 
+HOST_HEAD = """\
+-- What a host is told: the numbers of verdicts and refusals, each figure in its place, kinds of points, counts and UFRs; and what a struct of
+-- these numbers says, and prints. All of it as computed statements about the definitions.
+-- tests/pinned.py wrote this file, from the one table of words, hosts/words.toml: change that, not this. Assumes nothing.
+use Prim.Native.Nat.{ℕ}
+use Prim.Native.String.{String}
+use mathlib.Core.Path.{◌≡◌, refl}
+use mathlib.Core.List.{List, [], ◌∷◌, ◌++◌, map}
+use Rattle.std.specs.Prelude.{Ok, Err}
+use Rattle.std.specs.Float.{binary64}
+use Rattle.std.specs.Float.Ieee.{of_bits}
+use Rattle.refusal.specs.declared.Refusal.{Refusal}
+use Rattle.refusal.specs.declared.Refusal.TheVariants.{
+  EndsEarly,
+  BytesFollow,
+  WrongFields,
+  DayCount,
+  Rate,
+  Forward,
+  FlowCount,
+  Flow,
+  Ufr,
+  Amount,
+  Shock,
+  People,
+  Buffers,
+  Room,
+  WindowFull,
+  WindowEmpty,
+  History,
+  Month,
+  MonthsUfr,
+  Damaged,
+}
+use Rattle.model.specs.declared.figures.Figures.{Figures}
+use Rattle.model.specs.declared.figures.Verdict.{Verdict}
+use Rattle.model.specs.declared.figures.Verdict.TheVariants.{Dekkingstekort, Reservetekort, VrijVermogen, Onbeslist}
+use Rattle.model.specs.declared.figures.Valuation.{Valuation}
+use Rattle.model.specs.declared.window.Point.TheVariants.{Factor, Money, Blank}
+use Rattle.method.specs.Window.{double}
+use Rattle.method.specs.Listing.{listing}
+use Rattle.method.proofs.Computing.{text, all}
+use Rattle.flat.specs.Flat.{verdict_number, verdict_from, host_valuation, valuation_from, host_point, host_saved, host_ufr}
+use Rattle.flat.specs.declared.HostValuation.{HostValuation}
+use Rattle.flat.specs.declared.HostSaved.{HostSaved}
+use Rattle.flat.specs.declared.HostUfr.{HostUfr}
+"""
+
 FOUR_TABLE_HEAD = """\
 -- Rates in four bytes: the refusals of files at each limit, on both sides, and in each place of the order of checks; the order of checks of
 -- a case; the listings of a file, of the same rewritten, and of a fund none of whose rates is a whole step; and two of its zero rates. All
@@ -391,6 +468,7 @@ TITLES = {
 }
 
 
+BOTH = 2, 4  # widths of the runs in the bytes of files that have four-byte rates
 RISING = [7 * t for t in range(1, 61)]  # the rates of a day, none like the other
 
 
@@ -488,6 +566,24 @@ def bond_statements():
         out.append(computed_fraction(f"past20-{move}-exact-B", f"Exact.B past20 {move}", getattr(exact, move).bond_worth(past.bonds)))
     out.append(computed("past20-S1", *both_ends("Rounded.S1 past20 {e}", rounded.S1)))
     out.append(computed_fraction("past20-exact-S1", "Exact.S1 past20", exact.S1))
+    return out
+
+
+def both_fall_statements():
+    """B - L falls on the up and on the down curve, as a fund's does that has its bond flow between its pensions: S1 is the larger fall, not
+    their sum."""
+    out = []
+    for name, case, larger in (("both_fall", examples.both_fall(1_000, 500), "up"), ("both_fall_down", examples.both_fall(500, 1_000), "down")):
+        rounded, exact = Rounded(case), Exact(case)
+        falls = {move: exact.fall(getattr(exact, move)) for move in rounded.falls}
+        assert all(fall[LOWER] > 0 for fall in rounded.falls.values()) and exact.S1 == falls[larger] == max(falls.values())
+        what = f"A bond flow at term 2 between pensions at terms 1 and 3: B - L falls on both curves, more on the {larger} curve."
+        out.append(case_definition(name, case, what))
+        for move, fall in falls.items():
+            out.append(computed(f"{name}-{move}-fall", *both_ends(f"Rounded.fall {name} {move} {{e}}", rounded.falls[move])))
+            out.append(computed_fraction(f"{name}-{move}-exact-fall", f"Exact.fall {name} {move}", fall))
+        out.append(computed(f"{name}-S1", *both_ends(f"Rounded.S1 {name} {{e}}", rounded.S1)))
+        out.append(computed_fraction(f"{name}-exact-S1", f"Exact.S1 {name}", exact.S1))
     return out
 
 
@@ -609,10 +705,48 @@ def pinned():
     sections = [PINNED_HEAD, *bent_statements()]
     for name, case in (("up", examples.up()), ("down", examples.down())):
         sections += fund_statements(name, case)
-    sections += bond_statements() + deepest_statements()
+    sections += bond_statements() + both_fall_statements() + deepest_statements()
     sections += width_statements() + demand_statements() + shifted_statements() + margin_statements()
     sections += shortage_statements() + undecided_statements()
     return "\n".join(sections)
+
+
+# ---------------------------------------------------------------- crates/method/proofs/Borders.antt
+
+NEAR = """\
+-- undecided is said only within the margins of a border, by the exact figures
+abbrev pub Near : FileCase → Type 0
+Near k = NearFirst (first_margin k) (Exact.A k) (Exact.L k base) ⊎ NearSecond (second_margin k) (Exact.A k) (Exact.L k base) (Exact.S² k)
+
+-- of what a valuation answers; a refusal has no verdict
+abbrev pub UndecidedNear : FileCase → Result Valuation Refusal → Type 0
+UndecidedNear k (Err refusal) = ⊥
+UndecidedNear k (Ok v) = v.verdict ≡ Onbeslist → Near k
+"""
+FAR_FUNDS = {  # by the cash: what the fund is, and the field that is false of it at each border
+    "short": (900_000, "below the first border", "below", "positive"),
+    "middling": (1_075_000, "above the first border and below the second", "above", "below"),
+    "rich": (1_200_000, "above both borders", "above", "above"),
+}
+
+
+def far_statements(name, cash, where, *failing):
+    """That a fund is far from both borders, and that its valuation is not undecided."""
+    case, fund = examples.c1(amounts=examples.c1().amounts | {"cash": cash}), f"(with_cash {cash})"
+    exact, rounded = Exact(case), Rounded(case)
+    assert not reference.within_margins(exact, rounded.WL, rounded.WB)
+    near = f"(Exact.A {fund}) (Exact.L {fund} base)"
+    borders = (("first", f"NearFirst (first_margin {fund}) {near}"), ("second", f"NearSecond (second_margin {fund}) {near} (Exact.S² {fund})"))
+    return [f"-- a fund {where}",
+            *(refuted(f"{name}-far-from-{border}", proposition, field) for (border, proposition), field in zip(borders, failing, strict=True)),
+            f"{name}-decided : UndecidedNear {fund} (answered None {fund})\nunfolding all\n"
+            f"{name}-decided undecided = absurd (let told : ◌≡◌ {{A = ℕ}} 0 1 = cc in omega (arith, told))\n"]
+
+
+def borders():
+    cash = case_term(examples.c1(amounts=examples.c1().amounts | {"cash": "cash"}))
+    return "\n".join([BORDERS_HEAD, NEAR, f"-- C1 with other cash\nabbrev pub with_cash : ℕ → FileCase\nwith_cash cash = {cash}\n",
+                      *(statement for name, fund in FAR_FUNDS.items() for statement in far_statements(name, *fund))])
 
 
 # ---------------------------------------------------------------- Refused.antt of both crates
@@ -639,12 +773,45 @@ def part_statement(days, rate_bytes=2):
             + f"\n{computed('rates-part', f'rates_part part_file ≡ {file_term(data[offset:offset + length])}')}")
 
 
+def part_term(data):
+    """The part of a file that holds its rates."""
+    offset, length = reference.rates_part(data)
+    return file_term(data[offset:offset + length], BOTH)
+
+
+def place_equations(name, data, days):
+    """Where the days of a file stand, and how many they are."""
+    return [f"days_at {name} ≡ {reference.rates_part(data)[0] - 1}", f"day_count {name} ≡ {days}"]
+
+
+def plain_part_statements(rate_bytes):
+    """The rates' part of a file of two days without any optional field. That nothing refuses the file is not computed: it takes longer."""
+    days = [RISING, [1_300] * 60]
+    data = encode(examples.c1(days=days, amounts=dict.fromkeys(AMOUNTS, 0), rate_bytes=rate_bytes), False, False, False)
+    assert refusal(data) == 0
+    return [definition("plain_file", "List ℕ", file_term(data, BOTH), "A file of two days without any optional field, which is accepted."),
+            computed("plain-part", *place_equations("plain_file", data, len(days)), f"rates_part_after None plain_file ≡ {part_term(data)}")]
+
+
+def refused_parts(rows):
+    """Files with rates, each refused with its own number, and that the part of each is empty."""
+    assert all(refusal(data) == number and reference.rates_part(data) == (0, 0) for number, data in rows)
+    files = listed([(str(number), argument(file_term(data))) for number, data in rows])
+    return [definition("refused_files", "List (List ℕ)", files, "Files in which rates stand, by the number that refuses them: \"an empty part\"."),
+            computed("refused-parts", f"map rates_part refused_files ≡ {short_list(['[]'] * len(rows))}")]
+
+
 def refused_quickly():
-    return "\n".join([QUICK_HEAD, *(group_statement(*group) for group in limits.quick_groups()), part_statement([RISING])])
+    return "\n".join([QUICK_HEAD, *(group_statement(*group) for group in limits.quick_groups()), part_statement([RISING]),
+                      *plain_part_statements(2), *refused_parts(limits.quick_part_rows())])
 
 
 def refused():
-    return "\n".join([TABLE_HEAD, *(group_statement(*group) for group in limits.groups()), part_statement([RISING, [300] * 60])])
+    numbers = list(range(1, 13))
+    assert [number for number, _ in limits.part_rows()] == numbers
+    return "\n".join([TABLE_HEAD, *(group_statement(*group) for group in limits.groups()), part_statement([RISING, [300] * 60]),
+                      *refused_parts(list(limits.part_rows())),
+                      computed("refused-part-numbers", f"map refusal refused_files ≡ {short_list(numbers)}")])
 
 
 # ---------------------------------------------------------------- crates/savingmodel/proofs/SavedCases.antt
@@ -719,7 +886,15 @@ def buffer_statements():
                      f"save_refusal steep 0 ≡ {reference.save(steep, b'').refusal}"),
             computed("save-answers", *(answer_equation("small", small, room) for room in rooms), answer_equation("steep", steep, length)),
             computed("bytes_after", after_equation("small", small, longer), after_equation("steep", steep, longer)),
-            computed("untouched-on-14", after_equation("small", small, shorter))]
+            computed("untouched-on-14", after_equation("small", small, shorter)), untouched_statement_of_cases()]
+
+
+def untouched_statement_of_cases():
+    """What a buffer holds after each of the refusals of a case: what it held."""
+    rows, held = list(to_save.order_rows()), b"\xaa\x55"
+    assert all(reference.save(given, held).refusal not in (0, 14) and reference.save(given, held).after == held for _, given in rows)
+    return computed("untouched-on-refusal", f"map (λ k. saved_after k {argument(file_term(held))}) order_cases ≡ "
+                                            f"replicate {len(rows)} {argument(file_term(held))}")
 
 
 def saved():
@@ -743,6 +918,8 @@ abbrev pub falling : ℕ → ℕ → End → ℕ → ℕ
 falling a b low t = a - {FALL} * t
 falling a b high t = b - {FALL} * t
 """
+SOME_HALVINGS = 0, 1, 13, 14, 15, 16, 30
+SEARCHED_TERMS = 2, 4, 21  # of which the searches of 4 make 15 tests and 14, the others 14 and 15
 
 
 def interval(left):
@@ -809,6 +986,34 @@ def after_statements():
             after_statement("after-tests", *((f"(is_left {interval_argument(part)})", within(part)) for part in parts))]
 
 
+def tests_made(passes, end, most):
+    """How many of so many halvings make a test: "a single step is not tested"."""
+    first = reference.halvings(passes, end)
+    halved = first + reference.halvings(passes, end, first[-1])[1:]
+    return sum(left.first < left.last for left in halved[:most])
+
+
+def made_equations(terms, passes):
+    """The numbers of tests of both searches; terms and passes: for each end the term of a test, and the test."""
+    return [f"map (tests_made {word} {term}) some_halvings ≡ {short_list(tests_made(test, end, most) for most in SOME_HALVINGS)}"
+            for (end, word), term, test in zip(ENDS, terms, passes, strict=True)]
+
+
+def tests_made_statements():
+    """Of tests that every step passes or fails: of 22,001 steps some searches need 15 tests and others 14, and none makes more with a larger
+    budget. Then of both searches of some terms."""
+    bent = Rounded(examples.bent())
+    out = [definition("some_halvings", "List ℕ", short_list(SOME_HALVINGS), "no test, one, around the most, and many more"),
+           computed("tests-counted", *made_equations(["passing"] * 2, [lambda step: True] * 2),
+                    *made_equations(["failing"] * 2, [lambda step: False] * 2))]
+    for t in SEARCHED_TERMS:
+        factor = bent.factors[t]
+        terms = [f"(rate_test {factor_argument(factor, t)} {word} {t})" for _, word in ENDS]
+        passes = [lambda step, end=end: reference.step_passes(step, factor, t, end) for end, _ in ENDS]
+        out.append(computed(f"tests-made-{t}", *made_equations(terms, passes)))
+    return out
+
+
 def factor_argument(factor, t):
     """A factor that is this one at term t."""
     return f"(falling {factor[LOWER] + FALL * t} {factor[UPPER] + FALL * t})"
@@ -861,7 +1066,7 @@ def counted_statements():
 
 def search_cases():
     return "\n".join([SEARCH_HEAD, *search_definitions(), middle_statement(), *halved_statements(), *after_statements(),
-                      *steps_left_statements(), *counted_statements()])
+                      *steps_left_statements(), *tests_made_statements(), *counted_statements()])
 
 
 # ---------------------------------------------------------------- crates/rollingmodel/proofs/RollingCases.antt
@@ -998,6 +1203,11 @@ FULL_WINDOW = """\
 full-window : (w : RollingWindow) → rolling_right w ≡ true → ltb w.count 70 ≡ false → add_refusal w high_day ≡ 15
 unfolding add_refusal first_of
 full-window w right full = simp (right, full)
+
+-- and that window is given back
+full-window-kept : (w : RollingWindow) → rolling_right w ≡ true → ltb w.count 70 ≡ false → add_day w high_day ≡ changed_to 15 w
+unfolding add_refusal add_day first_of
+full-window-kept w right full = simp (right, full)
 """
 
 
@@ -1195,7 +1405,6 @@ abbrev pub quads : ℕ → ℕ → ℕ → ℕ → ℕ → List ℕ
 quads zero a b c d = []
 quads (suc n) a b c d = a ∷ b ∷ c ∷ d ∷ quads n a b c d
 """
-BOTH = 2, 4  # widths of the runs in the bytes of such files
 
 
 def four_term(data):
@@ -1207,11 +1416,20 @@ def finer_statements():
     to steps, which are others."""
     case = examples.finer()
     data = encode(case, True, True, True)
-    offset, length = reference.rates_part(data)
-    out = read_statements("finer", case, data) + [case_statement("finer")]
-    out.append(computed("finer-part", f"days_at finer_file ≡ {offset - 1}", f"day_count finer_file ≡ {len(case.days)}",
-                        f"rates_part finer_file ≡ {file_term(data[offset:offset + length])}"))
-    return out
+    part = f"rates_part finer_file ≡ {part_term(data)}"
+    return read_statements("finer", case, data) + [case_statement("finer"),
+                                                   computed("finer-part", *place_equations("finer_file", data, len(case.days)), part)]
+
+
+def chosen_statements():
+    """Where the days stand with each choice of the optional fields, of files that end behind their count."""
+    case = examples.c1(amounts=dict.fromkeys(AMOUNTS, 0), rate_bytes=4)
+    told = lambda present: ", ".join(name for name, stands in zip(("UFR", "bonds", "amounts"), present) if stands) or "none"
+    choices = [(present, encode(replace(case, bonds=[5, 6] if present[1] else []), *present)) for present in product((False, True), repeat=3)]
+    starts = [reference.rates_part(data)[0] for _, data in choices]
+    rows = [(told(present), argument(four_term(data[:start]))) for (present, data), start in zip(choices, starts)]
+    return [definition("chosen_files", "List (List ℕ)", listed(rows), "Files with each choice of the optional fields, to the count of their days."),
+            computed("chosen-days-at", f"map days_at chosen_files ≡ {short_list(start - 1 for start in starts)}")]
 
 
 def finer_working():
@@ -1337,12 +1555,18 @@ def four_month_statements():
 
 def four_byte_cases():
     groups = [group_statement(*group, BOTH) for group in limits.quick(limits.four_byte_groups())]
-    return "\n".join([FOUR_HEAD, QUADS, *groups, *finer_statements(), *rewriting_statements()])
+    return "\n".join([FOUR_HEAD, QUADS, *groups, *finer_statements(), *plain_part_statements(4), *chosen_statements(),
+                      *rewriting_statements()])
+
+
+def rewritten_defaults():
+    """The rewritten file of one that says what it might leave out: a UFR of 4,200, and amounts of 0."""
+    return rewriting_statement("rewritten-defaults", encode(examples.c1(amounts=dict.fromkeys(AMOUNTS, 0)), True, False, True))
 
 
 def four_figures():
     return "\n".join([FOUR_FIGURES_HEAD, *finer_working(), computed("rewritten-case", "rewritten old_case ≡ new_case"),
-                      computed("rewritten-file", "rewritten_file old_file ≡ new_file")])
+                      computed("rewritten-file", "rewritten_file old_file ≡ new_file"), rewritten_defaults()])
 
 
 def four_saved():
@@ -1361,11 +1585,15 @@ def four_months():
 
 # ---------------------------------------------------------------- crates/fourbytecases/proofs/FourBytes.antt
 
+def rewriting_statement(name, data):
+    return computed(name, f"rewritten_file {argument(four_term(data))} ≡ {four_term(files.rewritten(data))}")
+
+
 def plain_rewriting():
     """The rewritten file of one without optional fields: three days, and every rate limit in it."""
     case = replace(examples.before_rewriting(), ufr=reference.DEFAULT_UFR, bonds=[], amounts=dict.fromkeys(AMOUNTS, 0))
     plain = encode(replace(case, days=[*case.days, [-1_000] * 60, [10_000] * 60]), False, False, False)
-    return computed("plain-rewriting", f"rewritten_file {argument(four_term(plain))} ≡ {four_term(files.rewritten(plain))}")
+    return rewriting_statement("plain-rewriting", plain)
 
 
 def four_refused():
@@ -1444,7 +1672,94 @@ def pinned_files():
     return "\n".join(out + shifted_figures() + deepest_figures())
 
 
-PATHS = {"crates/method/proofs/Pinned.antt": pinned, "crates/model/proofs/Refused.antt": refused_quickly,
+# ---------------------------------------------------------------- crates/flat/proofs/Pinned.antt
+
+with open(os.path.join(ROOT, "hosts/words.toml"), "rb") as file:
+    WORDS = tomllib.load(file)
+OTHER_NAMES = {"MAP": "WrongFields", "GROWTH": "Forward", "BUFFER": "Buffers", "SAVED_BUFFER": "Room", "ROLLING_FULL": "WindowFull",
+               "ROLLING_EMPTY": "WindowEmpty"}  # of the refusals that the table calls otherwise than the definitions do
+UNDECIDED = [0, 5, 255]  # numbers that no verdict has
+FIGURES = [name.lower() for name in MONEY]
+
+
+def variant(entry):
+    """The refusal or the verdict of an entry of the table, as the definitions have it."""
+    return OTHER_NAMES.get(entry["name"]) or entry["name"].title().replace("_", "")
+
+
+def numbered_definition(name, kind, entries, what):
+    """The variants of entries of the table, each with its number as a comment."""
+    return definition(name, f"List {kind}", listed([(str(entry["number"]), variant(entry)) for entry in entries]), what)
+
+
+def brackets(numbers):
+    """Figures that have these brackets, by name."""
+    return record([(name, f"record {{ lower = {lower}; upper = {upper} }}") for name, (lower, upper) in zip(FIGURES, numbers, strict=True)])
+
+
+def host_definitions():
+    """Ten different brackets; the structs, of their numbers in order; every verdict and every refusal, in the order of the table."""
+    ten = [(2 * at + 1, 2 * at + 2) for at in range(len(FIGURES))]
+    return [f"-- ten brackets, no number of which is another's\nabbrev pub ten_brackets : Figures\nten_brackets = {brackets(ten)}\n",
+            f"abbrev pub no_brackets : Figures\nno_brackets = {brackets([(0, 0)] * len(FIGURES))}\n",
+            maker("judged", ["Verdict", "Valuation"], [("figures", "ten_brackets"), ("verdict", "a")], "the ten brackets with a verdict"),
+            maker("told", ["ℕ", "ℕ", "Figures", "HostValuation"], [("refusal", "a"), ("verdict", "b"), ("figures", "c")],
+                  "refusal, verdict and figures"),
+            maker("saved", ["ℕ", "ℕ", "HostSaved"], [("refusal", "a"), ("written", "b")], "refusal and bytes written"),
+            maker("found", ["ℕ", "ℕ", "HostUfr"], [("refusal", "a"), ("ufr", "b")], "refusal and UFR"),
+            numbered_definition("every_verdict", "Verdict", WORDS["verdict"], "every verdict, with its number"),
+            numbered_definition("every_refusal", "Refusal", WORDS["refusal"], "every refusal, with its number")]
+
+
+def of_refusals(term, told):
+    """That the term of each refusal is what is told of its number."""
+    return f"map (λ r. {term}) every_refusal ≡ map ({told}) ({short_list(entry['number'] for entry in WORDS['refusal'])})"
+
+
+def host_statements():
+    """What is told of an answer: each figure by its name, the number of each verdict, and a refusal's number with zeros."""
+    numbers = short_list(entry["number"] for entry in WORDS["verdict"])
+    figures = [f"(host_valuation (Ok (judged Onbeslist))).figures.{name}.{end} ≡ {2 * at + more}"
+               for at, name in enumerate(FIGURES) for more, end in enumerate(("lower", "upper"), 1)]
+    return [computed("verdict-numbers", f"map verdict_number every_verdict ≡ {numbers}"),
+            computed("host-figures", *figures),
+            computed("host-verdicts", f"map (λ v. host_valuation (Ok (judged v))) every_verdict ≡ map (λ n. told 0 n ten_brackets) ({numbers})"),
+            computed("host-refusals", of_refusals("host_valuation (Err r)", "λ n. told n 0 no_brackets")),
+            computed("host-saved", "host_saved (Ok 160) ≡ saved 0 160", "host_saved (Ok 0) ≡ saved 0 0",
+                     of_refusals("host_saved (Err r)", "λ n. saved n 0")),
+            computed("host-ufr", "host_ufr (Ok 3100) ≡ found 0 3100", "host_ufr (Ok 0) ≡ found 0 0",
+                     of_refusals("host_ufr (Err r)", "λ n. found n 0")),
+            computed("host-points", "host_point Blank ≡ record { kind = 0; lower = of_bits binary64 0; upper = of_bits binary64 0 }",
+                     *(f"host_point ({kind} (double 3) (double 4)) ≡ record {{ kind = {number}; lower = double 3; upper = double 4 }}"
+                       for number, kind in enumerate(("Factor", "Money"), 1)))]
+
+
+def said_statements():
+    """What a struct says: each number of a verdict, and numbers that none has; each number of a refusal, and others, before the verdict."""
+    refusals = short_list([entry["number"] for entry in WORDS["refusal"]] + [20, 255])
+    rows = [(entry["number"], variant(entry)) for entry in WORDS["verdict"]] + [(number, "Onbeslist") for number in UNDECIDED]
+    return [computed("verdicts-back", *(f"verdict_from {number} ≡ {verdict}" for number, verdict in rows)),
+            computed("figures-back", *(f"valuation_from (told 0 {number} ten_brackets) ≡ Ok (judged {verdict})" for number, verdict in rows)),
+            computed("refusals-back", f"map (λ n. valuation_from (told n 3 ten_brackets)) ({refusals}) ≡ map Err ({refusals})")]
+
+
+def printed_statements():
+    """The listing of a struct with each number: the word of its verdict, or a refusal."""
+    lines = [f"{name} {2 * at + 1} {2 * at + 2}" for at, name in enumerate(MONEY)]
+    words = [(entry["number"], entry["word"]) for entry in WORDS["verdict"]] + [(number, reference.ONBESLIST) for number in UNDECIDED]
+    last = WORDS["refusal"][-1]["number"]
+    printed = lambda refusal, verdict: f"listing (valuation_from (told {refusal} {verdict} ten_brackets))"
+    return [definition("ten_lines", "List String", strings(lines)),
+            computed("host-listings", *(f'{printed(0, number)} ≡ text (ten_lines ++ ("V {word}" ∷ []))' for number, word in words),
+                     f'{printed(1, 3)} ≡ text ("R 1" ∷ [])', f'{printed(last, 3)} ≡ text ("R {last}" ∷ [])')]
+
+
+def host_told():
+    return "\n".join([HOST_HEAD, *host_definitions(), *host_statements(), *said_statements(), *printed_statements()])
+
+
+PATHS = {"crates/method/proofs/Pinned.antt": pinned, "crates/method/proofs/Borders.antt": borders, "crates/flat/proofs/Pinned.antt": host_told,
+          "crates/model/proofs/Refused.antt": refused_quickly,
          "crates/savingmodel/proofs/SavedCases.antt": saved, "crates/searchmodel/proofs/SearchCases.antt": search_cases,
          "crates/rollingmodel/proofs/RollingCases.antt": rolling_cases, "crates/monthsmodel/proofs/MonthsCases.antt": months_cases,
          "crates/pinned/proofs/Files.antt": pinned_files, "crates/accepted/proofs/Accepted.antt": accepted,

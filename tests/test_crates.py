@@ -12,6 +12,8 @@ from edits import ROOT, functions, read_text
 
 # A crate that holds a value of a type without naming it: its proofs name the crate of the type.
 HELD = {("searches", "searchmodel")}
+# The functions of crates of statements: each has a result as its contract, takes nothing and does nothing.
+RESULTS = {"twelvecases": {"twelve_cases"}}
 
 
 def listed(text):
@@ -54,7 +56,7 @@ class Crates(unittest.TestCase):
     def test_definitions_have_no_function(self):
         for crate in set().union(*mutants.APART.values()):
             with self.subTest(crate=crate):
-                self.assertEqual(functions(crate), set())
+                self.assertEqual(functions(crate), RESULTS.get(crate, set()))
 
     def test_unit_tests_stand_where_nothing_depends_on_them(self):
         """A crate with tests is proved twice, and a test that changes is to have no other crate proved again."""

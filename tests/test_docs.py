@@ -142,6 +142,8 @@ def wrong_link(page, text, target):
     goal = os.path.normpath(os.path.join(os.path.dirname(page), path)) if path else page
     if path and goal not in TREE:
         return True
+    if path and not goal.endswith(".md") and re.fullmatch(r"L\d+", anchor):
+        return not 1 <= int(anchor[1:]) <= read_page(goal).count("\n")
     return bool(anchor) and anchor not in anchors(read_page(goal) if path else text)
 
 
@@ -176,7 +178,7 @@ class TestOfTheTest(unittest.TestCase):
     def test_right(self):
         self.check("[a](../README.md) [b](GUARANTEES.md#demand-1) `crates/method/specs/Exact.antt` `crates/*/src/lib.rt` "
                    "`method/weight_60` `arith/*` `tests/{reference,examples}.py` `target/bin/valuation` `crates/NAME/src` "
-                   "`reference.py` `specs/Exact.antt` `rt check` `a / b` `.case` `x.min(y)` [c](https://example.org/x)", [])
+                   "`reference.py` `specs/Exact.antt` `rt check` `a / b` `.case` `x.min(y)` [c](https://example.org/x) [d](../VERSION#L1)", [])
         self.check("    python3 tests/reference.py FILE   # n/m is no path\n", [])
 
     def test_wrong(self):
@@ -191,7 +193,7 @@ class TestOfTheTest(unittest.TestCase):
         self.check("```\npython3 tests/nothing.py\n```\n", ["tests/nothing.py"])
 
     def test_wrong_links(self):
-        for target in ("README.md", "../docs/NOTHING.md", "#nothing", "GUARANTEES.md#demand-4"):
+        for target in ("README.md", "../docs/NOTHING.md", "#nothing", "GUARANTEES.md#demand-4", "../VERSION#L2", "../VERSION#L0", "../README.md#L1"):
             self.check(f"# Page\n[a]({target})", [target])
             self.check(f"# Page\n[`a`]({target})", [target])
         self.check("# A page, of sorts\n[a](#a-page-of-sorts)", [])

@@ -1,6 +1,7 @@
 """Tests of the mutants, without the prover: python3 -m unittest discover -s tests (or python3 tests/test_mutants.py)."""
 
 import contextlib
+import glob
 import io
 import json
 import os
@@ -54,14 +55,27 @@ def without_uses(text):
 class Made(unittest.TestCase):
     def test_exactly_these(self):
         self.assertEqual([m.key.removeprefix("model/Small:") for m in small()], [
-            "Held.first:≤#1→<", "Held.first:120#1→121", "Held.first:120#1→240", "Held.second:≤#1→<", "Held.second:1#1→2",
-            "sized:le_z#1→lt_z", "sized:20#1→21", "sized:20#1→40", "sized:+#1→-",
-            "chosen:5#1→6", "chosen:5#1→10", "chosen:other#1→left out", "chosen:high#2→low"])
+            "Held.first:pub#1→left out", "Held.second:pub#1→left out", "Held.first:≤#1→<", "Held.first:120#1→121", "Held.first:120#1→119", "Held.first:120#1→240",
+            "Held.second:≤#1→<", "Held.second:1#1→2", "Held.second:1#1→0",
+            "sized:le_z#1→lt_z", "sized:20#1→21", "sized:20#1→19", "sized:20#1→40", "sized:+#1→-",
+            "chosen:5#1→6", "chosen:5#1→4", "chosen:5#1→10", "chosen:other#1→left out", "chosen:high#2→low"])
+
+    def test_a_field_less(self):
+        texts = {m.key: m.text for m in small()}
+        self.assertEqual(texts["model/Small:Held.first:pub#1→left out"], SMALL.replace("pub first : n ≤ 120", ""))
+        self.assertEqual(texts["model/Small:Held.second:pub#1→left out"], SMALL.replace("pub second : (e : End) → n ≤ 1", ""))
+        one = SMALL.replace("  pub first : n ≤ 120\n", "")
+        self.assertEqual([m.key for m in small(one) if m.kind == "dropped"], [])
+
+    def test_nothing_is_below_0(self):
+        text = SMALL.replace("record { low = 5; high = other high }", "0")
+        self.assertEqual([m.new for m in small(text) if m.name == "chosen"], ["1"])
 
     def test_lines_and_kinds(self):
         found = {(m.line, m.kind) for m in small()}
-        self.assertEqual(found, {(10, "order"), (10, "up"), (10, "doubled"), (12, "order"), (12, "up"), (18, "order"), (18, "up"),
-                                 (18, "doubled"), (18, "operator"), (21, "up"), (21, "doubled"), (21, "left out"), (21, "end")})
+        self.assertEqual(found, {(10, "dropped"), (12, "dropped"), (10, "order"), (10, "up"), (10, "down"), (10, "doubled"), (12, "order"), (12, "up"), (12, "down"),
+                                 (18, "order"), (18, "up"), (18, "down"), (18, "doubled"), (18, "operator"), (21, "up"), (21, "down"),
+                                 (21, "doubled"), (21, "left out"), (21, "end")})
 
     def test_a_name_that_is_missing_comes_into_its_use_line(self):
         texts = {m.key: m.text for m in small()}
@@ -105,7 +119,7 @@ class OfTheRepository(unittest.TestCase):
         self.assertEqual(len({m.key for m in self.mutants}), len(self.mutants))
 
     def test_each_differs_in_one_token(self):
-        for m in self.mutants:
+        for m in [m for m in self.mutants if m.kind != mutant_edits.DROPPED]:
             before, after = without_uses(self.originals[m.path]), without_uses(m.text)
             places = [p.start() for p in re.finditer(re.escape(m.old), before)]
             self.assertTrue(any(before[:p] + m.new + before[p + len(m.old):] == after for p in places), m.key)
@@ -117,8 +131,10 @@ class OfTheRepository(unittest.TestCase):
         for m in self.mutants:
             self.assertEqual(signatures(m.text), signatures(self.originals[m.path]), m.key)
 
-    def test_what_is_listed_as_the_same_names_mutants(self):
-        self.assertLessEqual(set(mutants.read_same(mutants.SAME)), {m.key for m in self.mutants})
+    def test_what_is_listed_names_mutants(self):
+        same, stated = mutants.read_same(mutants.SAME), mutants.read_same(mutants.STATED)
+        self.assertLessEqual({*same, *stated}, {m.key for m in self.mutants})
+        self.assertFalse(set(same) & set(stated))
 
     def test_the_page_lists_the_same(self):
         page = mutant_edits.read(mutants.ROOT, "docs/GUARANTEES.md")
@@ -152,7 +168,7 @@ class OfCode(unittest.TestCase):
     def test_exactly_these(self):
         known = {"Ends": Type(frozenset(), (("lower", "upper"),))}
         self.assertEqual([m.key.removeprefix("curves/src/lib:") for m in mutant_edits.of_code("crates/curves/src/lib.rt", CODE, known)],
-                         ["MOST:1_000#1→1001", "MOST:1_000#1→2000", "wide:0#1→1", "wide:lower#2→upper", "wide:<#1→<=", "wide:upper#1→lower"])
+                         ["MOST:1_000#1→1001", "MOST:1_000#1→999", "MOST:1_000#1→2000", "wide:0#1→1", "wide:lower#2→upper", "wide:<#1→<=", "wide:upper#1→lower"])
 
     def test_programs_have_none(self):
         made = mutant_edits.code_mutants(mutants.ROOT, set(mutants.crates(mutants.ROOT)))
@@ -201,7 +217,7 @@ class Judged(unittest.TestCase):
 class Reported(unittest.TestCase):
     def report(self, outcomes, same=()):
         with contextlib.redirect_stdout(io.StringIO()) as said:
-            well = mutants.report(small(), outcomes, dict.fromkeys(same, "of a reason"), {m.key for m in small()})
+            well = mutants.report(["a table"], small(), outcomes, dict.fromkeys(same, "of a reason"), {m.key for m in small()})
         return well, said.getvalue()
 
     def test_a_survivor(self):
@@ -218,9 +234,9 @@ class Reported(unittest.TestCase):
     def test_a_list_that_is_wrong_is_told(self):
         key = "model/Small:sized:le_z#1→lt_z"
         said = self.report({key: Outcome(REFUSED, "model")}, [key, "model/Small:gone:1#1→2"])[1]
-        self.assertIn(f"listed as the same, and refused: {key}", said)
-        self.assertIn("listed as the same, and no mutant: model/Small:gone:1#1→2", said)
-        self.assertIn("12 of 13 were not tried", said)
+        self.assertIn(f"listed, and refused: {key}", said)
+        self.assertIn("listed, and no mutant: model/Small:gone:1#1→2", said)
+        self.assertIn("18 of 19 were not tried", said)
 
     def test_the_table_counts_each_once(self):
         made = small()
@@ -228,8 +244,18 @@ class Reported(unittest.TestCase):
                                                     Outcome(REFUSED, "method"), Outcome(REFUSED, "refusals"), Outcome(REFUSED, "engine"), Outcome(TIME, "model"), Outcome(SURVIVES), Outcome(SURVIVES)])}
         head, row, total = mutants.table(made, outcomes, {made[8].key: "of a reason"})
         self.assertEqual(" ".join(head.split()), "made ill-formed own crate definitions theory long above time same SURVIVES not tried")
-        self.assertEqual(row.split()[1:], ["13", "1", "1", "1", "1", "1", "1", "1", "1", "1", "4"])
+        self.assertEqual(row.split()[1:], ["19", "1", "1", "1", "1", "1", "1", "1", "1", "1", "10"])
         self.assertEqual(total.split()[1:], row.split()[1:])
+
+    def test_the_tables_of_stated_count_each_once(self):
+        made = small()
+        plain = Outcome(REFUSED, "model", "crates/model/proofs/Plain.antt:1 a-b")
+        outcomes = {m.key: o for m, o in zip(made, [Outcome(ILL_FORMED, "model"), Outcome(REFUSED, "model"), Outcome(REFUSED, "pinned"), plain,
+                                                    Outcome(TIME, "model"), Outcome(SURVIVES), Outcome(SURVIVES), Outcome(SURVIVES)])}
+        head, *rows = mutants.stated_tables(made, outcomes, {made[5].key: "of a reason"}, {made[6].key: "of a reason"})
+        self.assertEqual(" ".join(head.split()), "made ill-formed computed plain use time same listed SURVIVES not tried")
+        self.assertEqual([row.split()[1:] for row in rows[:2]], 2 * [["19", "1", "2", "1", "1", "1", "1", "1", "11"]])
+        self.assertEqual([row.split()[0] for row in rows[4:]], ["dropped", "order", "up", "down", "doubled", "operator", "left", "end", "all"])
 
     def test_rows_of_the_same(self):
         self.assertEqual(mutants.same_rows({"model/A:b:&&#1→||": "of a reason"}), ["| `model/A:b:&&#1→\\|\\|` | of a reason |"])
@@ -251,6 +277,7 @@ class Chosen(unittest.TestCase):
 
     def test_files_and_kinds(self):
         self.assertEqual(self.chosen("--file", "Small"), self.chosen())
+        self.assertEqual(self.chosen("--file", "Large,model/Small"), self.chosen())
         self.assertEqual(self.chosen("--file", "mall"), [])
         self.assertEqual(self.chosen("--kind", "operator,end"), ["model/Small:sized:+#1→-", "model/Small:chosen:high#2→low"])
 
@@ -290,6 +317,11 @@ class Stages(unittest.TestCase):
         self.assertEqual(mutants.of_kit("window", self.DEPS), ["core", "std", "arrayvec"])
         self.assertEqual(mutants.of_kit("theory", self.DEPS), ["core", "std"])
         self.assertIn("itoa", mutants.of_kit("host", mutants.crates(mutants.ROOT)))
+
+    def test_every_file_of_definitions_is_in_the_table(self):
+        for crate in mutants.DEFINED:
+            there = {os.path.basename(path)[:-len(".antt")] for path in glob.glob(os.path.join(mutants.ROOT, "crates", crate, "specs", "*.antt"))}
+            self.assertEqual(set(mutants.DEFINITIONS[crate].split()), there - {"Lib", "inner"})
 
     def test_every_crate_of_the_tables_is_listed(self):
         listed = mutants.crates(mutants.ROOT)

@@ -297,6 +297,8 @@ def change_rows():
     yield "dropped-of-two", TWO, None
     yield "dropped-over-the-end", OVER_THE_END, None
     yield "dropped-of-damaged", WRONG_SUM, None
+    yield "refused-day", TWO, HIGH
+    yield "dropped-of-none", EMPTY._replace(start=MOST_DAYS - 1), None
 
 
 def value_rows():

@@ -50,12 +50,6 @@ module _ (a b k : ℕ) (pos : 0 < b) (e : k ≡ divide low a b) where
   near : (k * b ≤ a) × (a < k * b + b)
   near = subst (λ (m : ℕ). (m * b ≤ a) × (a < m * b + b)) (sym e) (divide-floor a b pos)
 
-  pub divide-high-exact : a ≤ k * b → k ≡ divide high a b
-  divide-high-exact h = divide-high-is a b k h (omega (arith, near))
-
-  pub divide-high-more : k * b < a → k + 1 ≡ divide high a b
-  divide-high-more h = divide-high-is a b (k + 1) (omega (arith, near)) (omega arith)
-
 -- a common factor of the dividend and the divisor makes no difference
 pub divide-common : (e : End) (c a b : ℕ) → 0 < c → 0 < b → divide e (c * a) (c * b) ≡ divide e a b
 divide-common low c a b some pos =

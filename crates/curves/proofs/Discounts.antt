@@ -95,6 +95,3 @@ late_is c f r (suc j) w h l =
     l ∙ by-ends (λ e. divide e (end_of f e * steps_per_one) (steps_per_one + c.ufr)) (λ e. Rounded.factor (curve_of c) e (suc j))
     (λ e. rw (rounded-factor-next (curve_of c) e j (omega arith), weighed-from-61 (curve_of c) (other e) (suc j) h, end_is f (λ e. Rounded.factor (curve_of c) e j) p e)
     (ufr-reduced e (Rounded.factor (curve_of c) e j) c.ufr))
-
-pub next-within : (c : CurveSums) (f : Bracket) (t : ℕ) → FactorsWithin c → f ≡ bracket (λ e. Rounded.factor (curve_of c) e t) → NextWithin c f (t + 1)
-next-within c f t w k = let e : t + 1 - 1 ≡ t = omega arith in record { curve = w; some = omega arith; before = rw e k }

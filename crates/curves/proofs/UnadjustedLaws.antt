@@ -54,7 +54,3 @@ first-terms c adjusted e =
     (table_same (λ i. bracket (λ e. Rounded.factor (curve_of c) e (suc i))) (λ i. bracket (λ e. Rounded.unadjusted (curve_of c) e (suc i))) 20
     (λ i h. by-ends (λ e. Rounded.factor (curve_of c) e (suc i)) (λ e. Rounded.unadjusted (curve_of c) e (suc i)) (λ e. rounded-factor-to-20 (curve_of c) e (suc i) h)))
     ∙ ap (λ (all : List Bracket). brackets (Rounded.unadjusted (curve_of c)) 20 ++ drop 20 all) (sym e)
-
-pub all-terms : (f : End → ℕ → ℕ) (adjusted out : List Bracket) (t n : ℕ) → t ≡ n → out ≡ brackets f t ++ drop t adjusted
-    → out ≡ brackets f n ++ drop n adjusted
-all-terms f adjusted out t n e k = k ∙ ap (λ (i : ℕ). brackets f i ++ drop i adjusted) e

@@ -1,3 +1,1 @@
 pub mod Valued
-pub mod Guaranteed
-pub mod Plain

@@ -2,12 +2,14 @@
 -- Assumes nothing.
 use Prim.Native.Nat.{ℕ, ◌≤◌, ◌<◌}
 use mathlib.Core.Path.{◌≡◌, ap, sym, ◌∙◌, subst}
-use mathlib.Core.Bool.{Bool, true, false, ◌&&◌}
+use mathlib.Core.Bool.{Bool, false, ◌&&◌}
 use mathlib.Core.List.{List, ◌∷◌, ◌++◌}
-use borrow.Author.Tests.{le-leb, lt-leb}
+use borrow.Author.Tests.{lt-leb}
 use lib.Dec.{leb}
 use lib.IntN.{ℤ}
-use lib.ListN.{length, drop}
+use lib.ListN.{length, get_or, drop}
+use mir.Syntax.{w8}
+use mir.Val.{Fits}
 use Rattle.std.proofs.lemmas.Bool.{and_right}
 use Rattle.std.specs.Prelude.{Some, None, Result, Ok, Err}
 use Rattle.method.specs.Curve.{base}
@@ -20,25 +22,25 @@ use Rattle.model.specs.declared.figures.Valuation.{Valuation}
 use Rattle.heldcase.specs.Held.{held}
 use Rattle.heldcase.specs.declared.Case.{Case}
 use Rattle.theory.proofs.acceptance.Acceptance.{refusal-number, within-limits}
+use Rattle.theory.proofs.demand3.Calls.{own-refusal, call, figures-call}
+use Rattle.reader.proofs.Exactly.{slice-bytes}
 use Rattle.refusal.specs.declared.Refusal.{Refusal}
 use Rattle.refusal.specs.declared.Refusal.TheVariants.{Buffers}
-use Rattle.engine.specs.Guarantee.{Call}
+use Rattle.method.specs.Promises.{Call, FiguresCall}
 use Rattle.working.specs.inner.Ranges.{CaseFits}
 use Rattle.working.specs.inner.Working.{factors_on, rates_on, money_of}
 use Rattle.working.proofs.HeldCase.{held_fits, held-money, held-valued}
 
+-- of a lent slice: its element type says of each entry that it is a byte
+pub call-of-slice : (file factors : List ℕ) (rates : List ℤ) → ((i : ℕ) → Fits w8 (get_or file i 0)) → Call file factors rates
+call-of-slice file factors rates known = call file factors rates (slice-bytes file known)
+
+pub figures-of-slice : (file : List ℕ) → ((i : ℕ) → Fits w8 (get_or file i 0)) → FiguresCall file
+figures-of-slice file known = figures-call file (slice-bytes file known)
+
 -- one check before others
 fails : (b : Bool) (rest : List Check) → b ≡ false → failing ((b, Buffers) ∷ rest) ≡ Some Buffers
 fails b rest e = rw e
-
-passes : (b : Bool) (rest : List Check) → b ≡ true → failing ((b, Buffers) ∷ rest) ≡ failing rest
-passes b rest e = rw e
-
--- with both buffers long enough, a valuation has the refusal of its file
-pub own-refusal : (file f₀ : List ℕ) (z₀ : List ℤ) → 240 ≤ length f₀ → 240 ≤ length z₀
-    → failing (valuation_checks (length f₀) (length z₀) file) ≡ failing (checks file)
-own-refusal file f₀ z₀ hf hz =
-    passes (leb 240 (length f₀) && leb 240 (length z₀)) (checks file) (rw (le-leb 240 (length f₀) hf, le-leb 240 (length z₀) hz))
 
 abbrev ok_of : Valuation → Result Valuation Refusal
 ok_of v = Ok v

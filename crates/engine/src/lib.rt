@@ -5,7 +5,7 @@ ghost use Rattle.std.specs.Prelude.{◌≡◌, length};
 ghost use Rattle.method.specs.Buffers.{answered, valuation_of, factors_after, rates_after};
 ghost use Rattle.model.specs.Layout.{case_of};
 ghost use Rattle.model.specs.Refusals.{failing, checks};
-ghost use Rattle.engine.specs.Guarantee.{Call};
+ghost use Rattle.method.specs.Promises.{Call, FiguresCall};
 
 use model::figures::Valuation;
 use reader::file::read;
@@ -32,7 +32,8 @@ pub fn value(file: &[u8], factors: &mut [u64], rates: &mut [i64]) -> Result<Valu
 
 /// The figures and the verdict of a case file, or its refusal: no buffer is lent and no zero rate is worked out.
 pub fn figures_of(file: &[u8]) -> Result<Valuation, Refusal>
-    ensures { result ≡ answered (failing (checks file.now)) (case_of file.now) }
+    ensures value { result ≡ answered (failing (checks file.now)) (case_of file.now) }
+    ensures call { FiguresCall file.now }
 {
     // Not by `?`, as above.
     match read(file) {

@@ -1,6 +1,7 @@
 // Where the rates stand in a file, as a host is told.
 ghost use Rattle.std.specs.Prelude.{◌≡◌, take, drop};
 ghost use Rattle.model.specs.Refusals.{rates_part};
+ghost use Rattle.model.specs.Promises.{PartCall};
 ghost use Rattle.flat.specs.Part.{host_part};
 
 use reader::file::read;
@@ -18,6 +19,7 @@ pub struct HostPart {
 pub fn rates_place(file: &[u8]) -> HostPart
     ensures value { result ≡ host_part file.now }
     ensures part { take result.length (drop result.offset file.now) ≡ rates_part file.now }
+    ensures call { PartCall file.now }
 {
     match read(file) {
         Ok(reading) => HostPart {

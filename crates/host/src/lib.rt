@@ -2,13 +2,19 @@
 // numbers: none has a `requires`. include/ginghamowl.h declares them.
 #![tactic(auto)]
 
-ghost use Rattle.std.specs.Prelude.{◌≡◌, length, take, drop};
+ghost use Rattle.std.specs.Prelude.{◌≡◌, [], length, take, drop};
 ghost use Rattle.method.specs.Buffers.{valuation_of, factors_after, rates_after};
+ghost use Rattle.method.specs.Promises.{Call};
 ghost use Rattle.monthsmodel.specs.Months.{ufr_answer, months_valuation, months_factors_after, months_rates_after};
 ghost use Rattle.model.specs.Refusals.{refusal, rates_part};
+ghost use Rattle.model.specs.Promises.{RefusalCall, PartCall};
 ghost use Rattle.rollingmodel.specs.Rolling.{empty_window, add_day, drop_day, rolling_valuation, rolling_factors_after, rolling_rates_after};
+ghost use Rattle.rollingmodel.specs.Promises.{Holds, AddCall, DropCall, WindowCall};
+ghost use Rattle.monthsmodel.specs.Promises.{UfrCall, MonthsCall};
 ghost use Rattle.method.specs.Window.{window_point};
 ghost use Rattle.method.specs.Listing.{listing_after, listing_length};
+ghost use Rattle.method.specs.Sizes.{ListingCall};
+ghost use Rattle.savingmodel.specs.Promises.{SaveCall};
 ghost use Rattle.savingmodel.specs.Saving.{given, save_answer, saved_after};
 ghost use Rattle.flat.specs.Flat.{host_valuation, host_point, valuation_from, host_saved, host_ufr};
 ghost use Rattle.flat.specs.Version.{engine_version};
@@ -67,6 +73,7 @@ pub extern "C" fn ginghamowl_value(
     ensures value { result ≡ host_valuation (valuation_of (length factors.old) (length rates.old) file.now) }
     ensures factors { factors.new ≡ factors_after file.now factors.old rates.old }
     ensures rates { rates.new ≡ rates_after file.now factors.old rates.old }
+    ensures call { Call file.now factors.old rates.old }
 {
     value(file, factors, rates).into()
 }
@@ -74,7 +81,8 @@ pub extern "C" fn ginghamowl_value(
 // The number that a file is refused with; 0 where it is accepted. No buffers are lent, so never 13.
 #[unsafe(no_mangle)]
 pub extern "C" fn ginghamowl_refusal(file: &[u8]) -> u8
-    ensures { result ≡ refusal file.now }
+    ensures value { result ≡ refusal file.now }
+    ensures call { RefusalCall file.now }
 {
     refusal_of(file)
 }
@@ -85,6 +93,7 @@ pub extern "C" fn ginghamowl_refusal(file: &[u8]) -> u8
 pub extern "C" fn ginghamowl_rates_part(file: &[u8]) -> HostPart
     ensures value { result ≡ host_part file.now }
     ensures part { take result.length (drop result.offset file.now) ≡ rates_part file.now }
+    ensures call { PartCall file.now }
 {
     rates_place(file)
 }
@@ -108,6 +117,7 @@ pub extern "C" fn ginghamowl_window_point(
 pub extern "C" fn ginghamowl_listing(valuation: HostValuation, out: &mut [u8]) -> usize
     ensures value { result ≡ listing_length (valuation_from valuation) (length out.old) }
     ensures text { out.new ≡ listing_after (valuation_from valuation) out.old }
+    ensures call { ListingCall (valuation_from valuation) out.old }
 {
     write_listing(Valuation::try_from(valuation), out)
 }
@@ -124,6 +134,7 @@ pub extern "C" fn ginghamowl_save(
     ensures value { result ≡ host_saved
         (save_answer (given fields rates.now pension.now bonds.now) (length out.old)) }
     ensures buffer { out.new ≡ saved_after (given fields rates.now pension.now bonds.now) out.old }
+    ensures call { SaveCall (given fields rates.now pension.now bonds.now) out.old }
 {
     let case = GivenCase {
         fields: &fields,
@@ -137,7 +148,8 @@ pub extern "C" fn ginghamowl_save(
 // An empty rolling window.
 #[unsafe(no_mangle)]
 pub extern "C" fn ginghamowl_rolling_empty() -> RollingWindow
-    ensures { result ≡ empty_window }
+    ensures value { result ≡ empty_window }
+    ensures holds { Holds result [] }
 {
     empty()
 }
@@ -145,7 +157,8 @@ pub extern "C" fn ginghamowl_rolling_empty() -> RollingWindow
 // The rolling window with a day behind the newest, as `rolling::add_day` gives it.
 #[unsafe(no_mangle)]
 pub extern "C" fn ginghamowl_rolling_add(window: RollingWindow, day: Day) -> ChangedWindow
-    ensures { result ≡ add_day window day.rates }
+    ensures value { result ≡ add_day window day.rates }
+    ensures call { AddCall window day.rates }
 {
     let mut changed = ChangedWindow { refusal: 0, window };
     changed.refusal = number_of(add_day(&mut changed.window, &day));
@@ -155,7 +168,8 @@ pub extern "C" fn ginghamowl_rolling_add(window: RollingWindow, day: Day) -> Cha
 // The rolling window without its oldest day, as `rolling::drop_day` gives it.
 #[unsafe(no_mangle)]
 pub extern "C" fn ginghamowl_rolling_drop(window: RollingWindow) -> ChangedWindow
-    ensures { result ≡ drop_day window }
+    ensures value { result ≡ drop_day window }
+    ensures call { DropCall window }
 {
     let mut changed = ChangedWindow { refusal: 0, window };
     changed.refusal = number_of(drop_day(&mut changed.window));
@@ -180,6 +194,7 @@ pub extern "C" fn ginghamowl_rolling_value(
         factors.old rates.old }
     ensures rates { rates.new ≡ rolling_rates_after window (given fields case_rates.now pension.now bonds.now)
         factors.old rates.old }
+    ensures call { WindowCall window (given fields case_rates.now pension.now bonds.now) factors.old rates.old }
 {
     let case = GivenCase {
         fields: &fields,
@@ -193,7 +208,8 @@ pub extern "C" fn ginghamowl_rolling_value(
 // The UFR that a history of months gives, as `months::ufr::ufr_of` finds it.
 #[unsafe(no_mangle)]
 pub extern "C" fn ginghamowl_ufr_of(history: &[u8], start: u64) -> HostUfr
-    ensures { result ≡ host_ufr (ufr_answer history.now start) }
+    ensures value { result ≡ host_ufr (ufr_answer history.now start) }
+    ensures call { UfrCall history.now start }
 {
     ufr_of(history, start).into()
 }
@@ -211,6 +227,7 @@ pub extern "C" fn ginghamowl_value_with_months(
         (months_valuation file.now history.now start (length factors.old) (length rates.old)) }
     ensures factors { factors.new ≡ months_factors_after file.now history.now start factors.old rates.old }
     ensures rates { rates.new ≡ months_rates_after file.now history.now start factors.old rates.old }
+    ensures call { MonthsCall file.now history.now start factors.old rates.old }
 {
     value_with_months(file, history, start, factors, rates).into()
 }

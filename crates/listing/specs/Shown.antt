@@ -1,10 +1,12 @@
 -- What the window shows of a case, where the factors of the case stand in front of the lent buffer (document 01, 'Buffers, window, print').
 -- Assumes nothing.
-use Rattle.std.specs.Prelude.{ℕ, ◌≤◌, ◌<◌, ◌≡◌, List}
+use Rattle.std.specs.Prelude.{ℕ, ◌≤◌, ◌<◌, ◌≡◌, List, length, ℤ}
 use Rattle.arith.specs.Rounding.{End, low, high}
 use Rattle.model.specs.Case.{FileCase}
+use Rattle.model.specs.Layout.{case_of}
 use Rattle.method.specs.Curve.{base, curve}
 use Rattle.method.specs.Rounded as Rounded
+use Rattle.method.specs.Buffers.{factors_after, valuation_refusal}
 use Rattle.method.specs.Window.{double, window_point}
 use Rattle.model.specs.declared.figures.Figures.{Figures}
 use Rattle.model.specs.declared.window.Point.TheVariants.{Factor, Money, Blank}
@@ -36,3 +38,9 @@ pub record Shown (k : FileCase) (held : List ℕ) : Type 0 where
   pub s : MoneyShown 130 (Rounded.figures k) (Rounded.S k)
   pub none : (lent : List ℕ) → window_point 0 lent (Rounded.figures k) ≡ Blank
   pub later : (lent : List ℕ) (p : ℕ) → 130 < p → window_point p lent (Rounded.figures k) ≡ Blank
+
+-- What is promised: of every file that is valued, with whatever buffers it is valued, the window shows the figures, over what the buffer of factors
+-- holds then. So no point from 1 to 130 is blank.
+pub record ShownAfterValuations : Type 0 where
+  pub shown : (file factors : List ℕ) (rates : List ℤ) → valuation_refusal (length factors) (length rates) file ≡ 0
+      → Shown (case_of file) (factors_after file factors rates)

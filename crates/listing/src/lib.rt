@@ -10,6 +10,7 @@ ghost use Rattle.std.specs.Prelude.{◌≡◌, ◌+◌, ◌≤◌, ◌++◌, OnO
 ghost use Rattle.std.specs.Io.KnownBytes.{Appends};
 ghost use Rattle.arrayvec.specs.ArrayVec.{array_vec_len};
 ghost use Rattle.method.specs.Listing.{line, figure_lines, word, listing, listing_after, listing_length};
+ghost use Rattle.method.specs.Sizes.{ListingCall};
 ghost use Rattle.listing.specs.Lines.{IsLineByLine};
 ghost use Rattle.listing.specs.inner.Parts.{spaced};
 
@@ -20,8 +21,8 @@ use model::figures::{Bracket, Figures, Valuation, Verdict};
 use std::io;
 use std::io::Write;
 
-// No listing is longer. Callees ask for room in a clause, since `ArrayVec` is the toolchain's own type: it tells how many bytes it can hold, and
-// not how many more.
+// No listing is longer: `promises::sizes::listings_are_short`. Callees ask for room in a clause, since `ArrayVec` is the toolchain's own type: it
+// tells how many bytes it can hold, and not how many more.
 pub type Text = ArrayVec<u8, 512>;
 
 // By parts, and not by `write!`: of what `write!` appends its contract speaks only where it succeeds, and it does not say that it does where
@@ -120,9 +121,11 @@ pub fn print<W: Write>(out: &mut W, v: Result<Valuation, u8>) -> io::Result<()>
 
 /// Writes the listing of a valuation to the front of a buffer, and answers its length. A buffer that is too short is left alone; then
 /// the answer is 0, as C is told it. The error is the number of a refusal, also one that a host made up.
+#[tactic(auto, using(theory::proofs::sizes::Listed::listing_call))]
 pub fn write_listing(v: Result<Valuation, u8>, out: &mut [u8]) -> usize
     ensures count { result ≡ listing_length v (length out.old) }
     ensures text { out.new ≡ listing_after v out.old }
+    ensures call { ListingCall v out.old }
     ensures part { (result ≤ length out.new) × (result ≡ length (take result out.new)) }
 {
     let text = text_of(v);

@@ -18,6 +18,7 @@ use Rattle.method.specs.Rounded as Rounded
 use Rattle.method.specs.FourBytes.{rewritten, rewritten_file}
 use Rattle.method.specs.Listing.{ascii, word}
 use Rattle.model.specs.declared.figures.Verdict.TheVariants.{Dekkingstekort}
+use Rattle.model.proofs.Computing.{pairs}
 use Rattle.model.proofs.FourByteCases.{finer_case, old_case, new_case, old_file, new_file}
 use Rattle.method.proofs.Computing.{all}
 
@@ -159,3 +160,7 @@ rewritten-case = refl
 rewritten-file : rewritten_file old_file ≡ new_file
 unfolding all
 rewritten-file = refl
+
+rewritten-defaults : rewritten_file ((0x00 ∷ 0x77 ∷ 0x10 ∷ 0x68 ∷ 0x01 ∷ []) ++ pairs 60 0x00 0x00 ++ (0x01 ∷ 0x00 ∷ 0x0f ∷ 0x42 ∷ 0x40 ∷ []) ++ pairs 45 0x00 0x00 ++ (0x00 ∷ 0x64 ∷ 0x03 ∷ 0x0c ∷ 0x01 ∷ 0xcc ∷ [])) ≡ (0x00 ∷ 0xf5 ∷ 0x10 ∷ 0x68 ∷ 0x01 ∷ 0x00 ∷ 0x0f ∷ 0x42 ∷ 0x40 ∷ []) ++ pairs 45 0x00 0x00 ++ (0x00 ∷ 0x64 ∷ 0x03 ∷ 0x0c ∷ 0x01 ∷ 0xcc ∷ 0x01 ∷ []) ++ pairs 120 0x00 0x00
+unfolding all
+rewritten-defaults = refl

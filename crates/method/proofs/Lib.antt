@@ -1,7 +1,16 @@
 -- What is computed of the definitions of specs/: each number is worked out by the definitions themselves. Computing: which definitions.
 -- Worked: document 01's hand-worked cases. Pinned, FourByteCases: curves, figures, verdicts, margins. Widths: the widths of demand 3.
+-- Plain: each promise of specs/Promises.antt used in plain numbers.
+-- PlainSizes: how long a listing is.
+-- PlainBonds, PlainFourBytes: what is promised, in plain numbers.
+-- Borders: undecided only near a border.
 pub mod Computing
 pub mod Worked
 pub mod Pinned
 pub mod FourByteCases
 pub mod Widths
+pub mod Plain
+pub mod PlainSizes
+pub mod PlainBonds
+pub mod PlainFourBytes
+pub mod Borders

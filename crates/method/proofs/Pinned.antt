@@ -659,6 +659,144 @@ past20-exact-S1 : Exact.S1 past20 ≐ 220190039947966824482749091552564190200100
 unfolding all
 past20-exact-S1 = (lit< tt, lit< tt, refl)
 
+-- A bond flow at term 2 between pensions at terms 1 and 3: B - L falls on both curves, more on the up curve.
+abbrev pub both_fall : FileCase
+both_fall = record {
+  rate_bytes = 2;
+  ufr = 4200;
+  days = replicate 60 (pos 0)
+      ∷ [];
+  pension = 30000000 ∷ 0 ∷ 20000000
+      ∷ [];
+  bonds = 0 ∷ 45000000
+      ∷ [];
+  amounts = record {
+    mature = 0;
+    emerging = 0;
+    private = 0;
+    property = 0;
+    commodities = 0;
+    credit = 0;
+    cash = 1100000;
+    currency = 0;
+  };
+  shocks = record {
+    up_shift = 1000;
+    down_shift = 500;
+    mature_fall = 0;
+    emerging_fall = 0;
+    private_fall = 0;
+    property_fall = 0;
+    currency_fall = 0;
+    commodities_fall = 0;
+    spread_rise = 0;
+    correlation = 0;
+    spread = 0;
+    duration = 0;
+  };
+  people = record {
+    heads = 100;
+    pension_age = 780;
+    mean_age = 460;
+  };
+}
+
+both_fall-up-fall : (Rounded.fall both_fall up low ≡ 145101)
+    × (Rounded.fall both_fall up high ≡ 145104)
+unfolding all
+both_fall-up-fall = (refl, refl)
+
+both_fall-up-exact-fall : Exact.fall both_fall up ≐ 149500000000 // 1030301
+unfolding all
+both_fall-up-exact-fall = (lit< tt, lit< tt, refl)
+
+both_fall-down-fall : (Rounded.fall both_fall down low ≡ 38129)
+    × (Rounded.fall both_fall down high ≡ 38132)
+unfolding all
+both_fall-down-fall = (refl, refl)
+
+both_fall-down-exact-fall : Exact.fall both_fall down ≐ 300500000000 // 7880599
+unfolding all
+both_fall-down-exact-fall = (lit< tt, lit< tt, refl)
+
+both_fall-S1 : (Rounded.S1 both_fall low ≡ 145101)
+    × (Rounded.S1 both_fall high ≡ 145104)
+unfolding all
+both_fall-S1 = (refl, refl)
+
+both_fall-exact-S1 : Exact.S1 both_fall ≐ 149500000000 // 1030301
+unfolding all
+both_fall-exact-S1 = (lit< tt, lit< tt, refl)
+
+-- A bond flow at term 2 between pensions at terms 1 and 3: B - L falls on both curves, more on the down curve.
+abbrev pub both_fall_down : FileCase
+both_fall_down = record {
+  rate_bytes = 2;
+  ufr = 4200;
+  days = replicate 60 (pos 0)
+      ∷ [];
+  pension = 30000000 ∷ 0 ∷ 20000000
+      ∷ [];
+  bonds = 0 ∷ 45000000
+      ∷ [];
+  amounts = record {
+    mature = 0;
+    emerging = 0;
+    private = 0;
+    property = 0;
+    commodities = 0;
+    credit = 0;
+    cash = 1100000;
+    currency = 0;
+  };
+  shocks = record {
+    up_shift = 500;
+    down_shift = 1000;
+    mature_fall = 0;
+    emerging_fall = 0;
+    private_fall = 0;
+    property_fall = 0;
+    currency_fall = 0;
+    commodities_fall = 0;
+    spread_rise = 0;
+    correlation = 0;
+    spread = 0;
+    duration = 0;
+  };
+  people = record {
+    heads = 100;
+    pension_age = 780;
+    mean_age = 460;
+  };
+}
+
+both_fall_down-up-fall : (Rounded.fall both_fall_down up low ≡ 36880)
+    × (Rounded.fall both_fall_down up high ≡ 36883)
+unfolding all
+both_fall_down-up-fall = (refl, refl)
+
+both_fall_down-up-exact-fall : Exact.fall both_fall_down up ≐ 299500000000 // 8120601
+unfolding all
+both_fall_down-up-exact-fall = (lit< tt, lit< tt, refl)
+
+both_fall_down-down-fall : (Rounded.fall both_fall_down down low ≡ 155106)
+    × (Rounded.fall both_fall_down down high ≡ 155109)
+unfolding all
+both_fall_down-down-fall = (refl, refl)
+
+both_fall_down-down-exact-fall : Exact.fall both_fall_down down ≐ 150500000000 // 970299
+unfolding all
+both_fall_down-down-exact-fall = (lit< tt, lit< tt, refl)
+
+both_fall_down-S1 : (Rounded.S1 both_fall_down low ≡ 155106)
+    × (Rounded.S1 both_fall_down high ≡ 155109)
+unfolding all
+both_fall_down-S1 = (refl, refl)
+
+both_fall_down-exact-S1 : Exact.S1 both_fall_down ≐ 150500000000 // 970299
+unfolding all
+both_fall_down-exact-S1 = (lit< tt, lit< tt, refl)
+
 -- A fund with the lowest rates, the largest down shift and one bond flow, at term 60: no bond factor is larger than that of the down curve.
 abbrev pub deepest_file : List ℕ
 deepest_file =

@@ -1,10 +1,8 @@
--- The files of document 01's hand-worked cases, and what is quick to compute of them (`twelve-cases` of `twelvecases` gathers all
--- of them); then 13 before all other refusals, the lent buffers and the window on small files. Each statement is computed. Assumes
--- nothing.
-use Prim.Native.Nat.{ℕ, ◌*◌, ◌<◌}
-use Prim.Native.String.{String}
+-- What is quick to compute of the files of the twelve hand-worked cases (`TwelveCases` of `twelvecases` gathers all of them); then 13 before
+-- all other refusals, the lent buffers and the window on small files. Each statement is computed. Assumes nothing.
+use Prim.Native.Nat.{ℕ, ◌<◌}
 use mathlib.Core.Path.{◌≡◌, refl}
-use mathlib.Core.List.{List, [], ◌∷◌, ◌++◌}
+use mathlib.Core.List.{List, [], ◌∷◌}
 use native.Mathlib.Omega.{arith}
 use lib.Dec.{lit<}
 use lib.ListN.{replicate}
@@ -22,102 +20,12 @@ use Rattle.method.specs.Rounded as Rounded
 use Rattle.method.specs.Buffers.{valuation_refusal, valuation_of, factors_after, rates_after}
 use Rattle.method.specs.Window.{double, window_point}
 use Rattle.method.specs.Listing.{ascii, listing}
+use Rattle.method.specs.TwelveFiles.{flat, with_days, file_c1, file_c2, file_c5, file_c9, file_c10, file_c11, listing_c1}
 use Rattle.arith.specs.declared.bracket.Bracket.{Bracket}
 use Rattle.model.specs.declared.figures.Figures.{Figures}
 use Rattle.model.specs.declared.figures.Verdict.TheVariants.{Reservetekort, VrijVermogen}
 use Rattle.model.specs.declared.window.Point.TheVariants.{Factor, Money, Blank}
-use Rattle.model.proofs.Computing.{pairs}
-use Rattle.method.proofs.Computing.{text, all}
-
--- n zeros
-abbrev pub zeros : ℕ → List ℕ
-zeros n = replicate n 0
-
--- The fields of file C1, as bytes. "one day, all rates 0"; "Flat means one day with that rate at every term".
-abbrev pub flat : ℕ → ℕ → List ℕ
-flat a b = 1 ∷ pairs 60 a b
-
--- "one flow 1,000,000"
-abbrev pub one_flow : List ℕ
-one_flow = 1 ∷ 0x00 ∷ 0x0f ∷ 0x42 ∷ 0x40 ∷ []
-
--- "cash 1,100,000, other amounts 0": cash is the seventh, here by its last three bytes
-abbrev pub cash_only : ℕ → ℕ → ℕ → List ℕ
-cash_only a b c = zeros (6 * 8) ++ (0 ∷ 0 ∷ 0 ∷ 0 ∷ 0 ∷ a ∷ b ∷ c ∷ []) ++ zeros 8
-
-abbrev pub cash : List ℕ
-cash = cash_only 0x10 0xc8 0xe0
-
--- "shocks 0"
-abbrev pub no_shocks : List ℕ
-no_shocks = zeros (12 * 2)
-
--- "H 100, ages 780 and 460"
-abbrev pub aged : ℕ → ℕ → ℕ → ℕ → List ℕ
-aged a b c d = 0 ∷ 0 ∷ 0 ∷ 100 ∷ a ∷ b ∷ c ∷ d ∷ []
-
-abbrev pub people : List ℕ
-people = aged 0x03 0x0c 0x01 0xcc
-
--- "map 0x0076": a file with the fields that C1 has
-abbrev pub like_c1 : List ℕ → List ℕ → List ℕ → List ℕ → List ℕ → List ℕ
-like_c1 days flows amounts shocks people = 0x00 ∷ 0x76 ∷ days ++ flows ++ amounts ++ shocks ++ people
-
-abbrev pub file_c1 : List ℕ
-file_c1 = like_c1 (flat 0 0) one_flow cash no_shocks people
-
--- C1 with other days: "a field that a case doesn't name is as in C1"
-abbrev pub with_days : List ℕ → List ℕ
-with_days days = like_c1 days one_flow cash no_shocks people
-
--- C1 with other cash; C2 has 1,099,999
-abbrev pub with_cash : ℕ → ℕ → ℕ → List ℕ
-with_cash a b c = like_c1 (flat 0 0) one_flow (cash_only a b c) no_shocks people
-
-abbrev pub file_c2 : List ℕ
-file_c2 = with_cash 0x10 0xc8 0xdf
-
--- "days at 100 and 101"
-abbrev pub file_c5 : List ℕ
-file_c5 = with_days (2 ∷ pairs 60 0 100 ++ pairs 60 0 101)
-
--- "one day, rate 0 then 6,000 for all later terms", and 6,001
-abbrev pub file_c8 : ℕ → ℕ → List ℕ
-file_c8 a b = with_days (1 ∷ 0 ∷ 0 ∷ pairs 59 a b)
-
--- "S1 300, S2 400 euros, correlation 500, others 0": a bond flow of 30,300 at term 1 loses 300 on a curve that is 1 % up, mature equity
--- of 1,000 loses 400 thousandths, and a pension flow of 0 gives no S6
-abbrev pub file_c9 : List ℕ
-file_c9 =
-    0x00 ∷ 0x7e ∷ flat 0 0
-    ++ (1 ∷ zeros 4)
-    ++ (1 ∷ 0x00 ∷ 0x00 ∷ 0x76 ∷ 0x5c ∷ [])
-    ++ (zeros 6 ++ (0x03 ∷ 0xe8 ∷ []) ++ zeros (7 * 8))
-    ++ (0x03 ∷ 0xe8 ∷ 0x00 ∷ 0x00 ∷ 0x01 ∷ 0x90 ∷ zeros (6 * 2) ++ (0x01 ∷ 0xf4 ∷ zeros (2 * 2)))
-    ++ people
-
--- "pension age 780, mean 540"
-abbrev pub file_c10 : List ℕ
-file_c10 = like_c1 (flat 0 0) one_flow cash no_shocks (aged 0x03 0x0c 0x02 0x1c)
-
--- "mean age above pension age": 460 and 780
-abbrev pub file_c11 : List ℕ
-file_c11 = like_c1 (flat 0 0) one_flow cash no_shocks (aged 0x01 0xcc 0x03 0x0c)
-
-abbrev pub listing_c1 : List String
-listing_c1 =
-    "L 100000000 100000000"
-    ∷ "B 0 0"
-    ∷ "A 110000000 110000000"
-    ∷ "S1 0 0"
-    ∷ "S2 0 0"
-    ∷ "S3 0 0"
-    ∷ "S4 0 0"
-    ∷ "S5 0 0"
-    ∷ "S6 10000000 10000000"
-    ∷ "S 10000000 10000000"
-    ∷ "V VRIJ VERMOGEN"
-    ∷ []
+use Rattle.method.proofs.Computing.{all}
 
 -- `≐`, by which exact figures are compared here, holds of the same number, and neither of another nor of what is no fraction
 same_number : 2 // 4 ≐ 1 // 2
@@ -129,7 +37,7 @@ other-number h = let e = h.2 in omega (arith, e)
 no_fraction : (0 // 0 ≐ 1 // 1 → ⊥) × (1 // 1 ≐ 0 // 0 → ⊥)
 no_fraction = (λ h. let r = h.0 in omega (arith, r), λ h. let r = h.1 in omega (arith, r))
 
-pub c1-listing : listing (answer_of (valuation_of 240 240 file_c1)) ≡ text listing_c1
+pub c1-listing : listing (answer_of (valuation_of 240 240 file_c1)) ≡ listing_c1
 unfolding all
 c1-listing = refl
 
@@ -229,6 +137,21 @@ ten_brackets = record {
   s = ends 19 20;
 }
 
+-- figures of 0 with another S
+abbrev with_s : ℕ → ℕ → Figures
+with_s l u = record {
+  l = ends 0 0;
+  b = ends 0 0;
+  a = ends 0 0;
+  s1 = ends 0 0;
+  s2 = ends 0 0;
+  s3 = ends 0 0;
+  s4 = ends 0 0;
+  s5 = ends 0 0;
+  s6 = ends 0 0;
+  s = ends l u;
+}
+
 -- a factor needs its own two entries: 2 are enough for factor 1, 240 for factor 120; and a double holds 2^53
 window-factors : (window_point 1 counting ten_brackets ≡ Factor (double 0) (double 1))
     × (window_point 120 counting ten_brackets ≡ Factor (double 238) (double 239))
@@ -238,18 +161,25 @@ window-factors : (window_point 1 counting ten_brackets ≡ Factor (double 0) (do
 unfolding all
 window-factors = (refl, refl, refl, refl, refl)
 
--- a money figure needs no factor
+-- each of the ten in its place; a money figure needs no factor
 window-money : (window_point 121 counting ten_brackets ≡ Money (double 1) (double 2))
     × (window_point 122 counting ten_brackets ≡ Money (double 3) (double 4))
+    × (window_point 123 counting ten_brackets ≡ Money (double 5) (double 6))
     × (window_point 124 counting ten_brackets ≡ Money (double 7) (double 8))
+    × (window_point 125 counting ten_brackets ≡ Money (double 9) (double 10))
+    × (window_point 126 counting ten_brackets ≡ Money (double 11) (double 12))
+    × (window_point 127 counting ten_brackets ≡ Money (double 13) (double 14))
+    × (window_point 128 counting ten_brackets ≡ Money (double 15) (double 16))
+    × (window_point 129 counting ten_brackets ≡ Money (double 17) (double 18))
     × (window_point 130 counting ten_brackets ≡ Money (double 19) (double 20))
     × (window_point 121 [] ten_brackets ≡ Money (double 1) (double 2))
     × (window_point 130 [] ten_brackets ≡ Money (double 19) (double 20))
     × (window_point 123 (replicate 239 0) ten_brackets ≡ Money (double 5) (double 6))
 unfolding all
-window-money = (refl, refl, refl, refl, refl, refl, refl)
+window-money = (refl, refl, refl, refl, refl, refl, refl, refl, refl, refl, refl, refl, refl)
 
--- any other number, also 2^63, and 131 where 262 entries are lent; a factor that lacks an entry; and 2^53 + 1, which a double does not hold
+-- any other number, also 2^63, and 131 where 262 entries are lent; a factor that lacks an entry; and 2^53 + 1, which a double does not hold,
+-- as either end of a factor or of a money figure
 window-blank : (window_point 0 counting ten_brackets ≡ Blank)
     × (window_point 131 counting ten_brackets ≡ Blank)
     × (window_point 131 (replicate 262 0) ten_brackets ≡ Blank)
@@ -258,5 +188,9 @@ window-blank : (window_point 0 counting ten_brackets ≡ Blank)
     × (window_point 1 (5 ∷ []) ten_brackets ≡ Blank)
     × (window_point 120 (replicate 239 0) ten_brackets ≡ Blank)
     × (window_point 1 (0 ∷ 9007199254740993 ∷ []) ten_brackets ≡ Blank)
+    × (window_point 1 (9007199254740993 ∷ 9007199254740993 ∷ []) ten_brackets ≡ Blank)
+    × (window_point 130 counting (with_s 0 9007199254740993) ≡ Blank)
+    × (window_point 130 counting (with_s 9007199254740993 9007199254740993) ≡ Blank)
+    × (window_point 130 counting (with_s 0 9007199254740992) ≡ Money (double 0) (double 9007199254740992))
 unfolding all
-window-blank = (refl, refl, refl, refl, refl, refl, refl, refl)
+window-blank = (refl, refl, refl, refl, refl, refl, refl, refl, refl, refl, refl, refl)

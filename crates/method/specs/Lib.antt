@@ -1,5 +1,8 @@
--- Document 01's working as definitions, from the curve to the listing; FourBytes is request Six of document 02. All of it has to be believed,
--- except what is in inner.
+-- The working as definitions, from the curve to the listing. Bonds: what is promised of bonds off the adjusted curve. FourBytes: rates
+-- in four bytes. Promises, the page to open first: what is promised of a valuation. Sizes: how long a listing is. TwelveFiles: the files of the
+-- twelve hand-worked cases. All of it has to be believed, except what is in inner.
+-- The working as definitions, from the curve to the listing; Bonds: what is promised of bonds off the adjusted curve; FourBytes: rates
+-- in four bytes. All of it has to be believed, except what is in inner.
 pub mod Fraction
 pub mod Brackets
 pub mod Curve
@@ -10,5 +13,9 @@ pub mod Demand3
 pub mod Buffers
 pub mod Listing
 pub mod Window
+pub mod Bonds
 pub mod FourBytes
+pub mod Promises
+pub mod Sizes
+pub mod TwelveFiles
 pub mod inner

@@ -1,9 +1,11 @@
 -- What is computed of the definitions of specs/: each number is worked out by the definitions themselves. Computing: which definitions.
 -- First: the number of the first check that fails. Read: what a file is read as. Refused, FourByteCases: refusals, and the rates of a file.
--- Changed: cases with another field.
+-- Changed: cases with another field. Plain, PlainSizes: what is promised of reading a file and of sizes, in plain numbers.
 pub mod Computing
 pub mod Changed
 pub mod First
 pub mod Read
 pub mod Refused
 pub mod FourByteCases
+pub mod Plain
+pub mod PlainSizes

@@ -7,4 +7,6 @@ pub mod Limits
 pub mod Fields
 pub mod Layout
 pub mod Refusals
+pub mod Promises
+pub mod Sizes
 pub mod inner

@@ -7,7 +7,9 @@ use mathlib.Core.List.{List, ◌++◌}
 use borrow.Author.Tests.{le-leb, lt-leb}
 use lib.Dec.{leb}
 use lib.IntN.{ℤ}
-use lib.ListN.{length, drop}
+use lib.ListN.{length, get_or, drop}
+use mir.Syntax.{w8}
+use mir.Val.{Fits}
 use Rattle.std.proofs.lemmas.Bool.{and_right}
 use Rattle.std.specs.Prelude.{Option, Some, None, Result, Ok, Err}
 use Rattle.std.specs.Result.{result_unwrap_or, result_err}
@@ -18,12 +20,15 @@ use Rattle.heldcase.specs.Held.{held}
 use Rattle.model.specs.Layout.{case_of}
 use Rattle.model.specs.Limits.{WithinLimits}
 use Rattle.monthsmodel.specs.Months.{history_checks, ufr_found, found_or, ufr_answer, months_checks, months_case, months_valuation, months_factors_after, months_rates_after}
+use Rattle.monthsmodel.specs.Promises.{MonthsCall}
 use Rattle.model.specs.Refusals.{failing, checks}
 use Rattle.heldcase.specs.declared.Case.{Case}
 use Rattle.model.specs.declared.figures.Valuation.{Valuation}
 use Rattle.theory.proofs.curve.Changed.{ufr-P}
 use Rattle.theory.proofs.general.Lists.{table_same}
 use Rattle.theory.proofs.months.Valued.{own_first, history-after, within-limits}
+use Rattle.theory.proofs.months.Promised.{months_call}
+use Rattle.reader.proofs.Exactly.{slice-bytes}
 use Rattle.refusal.specs.declared.Refusal.{Refusal}
 use Rattle.refusal.specs.declared.Refusal.TheVariants.{Buffers}
 use Rattle.working.specs.inner.Ranges.{CaseFits}
@@ -38,6 +43,11 @@ unfolding held per_step
 changed-held ufr k =
     rw (table_same (λ i. P (curve k base) (suc i)) (λ i. P (curve (with_ufr ufr k) base) (suc i)) 60 (λ i l. sym (ufr-P ufr k base (suc i))))
 
+-- of a lent slice: its element type says of each entry that it is a byte
+pub call-of-slice : (file history : List ℕ) (start : ℕ) (factors : List ℕ) (rates : List ℤ) → ((i : ℕ) → Fits w8 (get_or file i 0))
+    → MonthsCall file history start factors rates
+call-of-slice file history start factors rates known = months_call file (slice-bytes file known) history start factors rates
+
 -- ---- what a history gives
 
 found_of : (o : Option Refusal) (ufr n : ℕ) → found_or o ufr ≡ Ok n → (o ≡ None) × (ufr ≡ n)
@@ -48,21 +58,22 @@ refused-of : (o : Option Refusal) (ufr : ℕ) (r : Refusal) → found_or o ufr �
 refused-of None ufr r e = cc
 refused-of (Some s) ufr r e = ap (λ (a : Result ℕ Refusal). result_err a) e
 
-module _ (file history : List ℕ) (start : ℕ) (f₀ : List ℕ) (z₀ : List ℤ) where
+module _ {file history : List ℕ} {start : ℕ} {f₀ : List ℕ} {z₀ : List ℤ} (call : MonthsCall file history start f₀ z₀) where
   abbrev first : Option Refusal
   first = failing (months_checks file history start (length f₀) (length z₀))
 
-  -- the contract of `value_with_months`: the answer, and both buffers at the end
+  -- the contract of `value_with_months`: the answer, both buffers at the end, and what holds of every call
   abbrev pub Meets : Result Valuation Refusal → List ℕ → List ℤ → Type 0
   Meets answer fs zs = record {
     value : answer ≡ months_valuation file history start (length f₀) (length z₀);
     factors : fs ≡ months_factors_after file history start f₀ z₀;
     rates : zs ≡ months_rates_after file history start f₀ z₀;
+    call : MonthsCall file history start f₀ z₀;
   }
 
   refused-with : (r : Refusal) → first ≡ Some r → Meets (Err r) f₀ z₀
   unfolding months_valuation months_factors_after months_rates_after
-  refused-with r e = record { value = rw e; factors = rw e; rates = rw e }
+  refused-with r e = record { value = rw e; factors = rw e; rates = rw e; call = call }
 
   short : (leb 240 (length f₀) && leb 240 (length z₀)) ≡ false → Meets (Err Buffers) f₀ z₀
   short h = refused-with Buffers (rw h)
@@ -113,4 +124,4 @@ module _ (file history : List ℕ) (start : ℕ) (f₀ : List ℕ) (z₀ : List 
         unfolding months_valuation months_factors_after months_rates_after
         valued-months p q t =
             let (x, (y, z)) = held-valued (months_case file history) limits f₀ z₀ case-holds p q t in
-            record { value = rw none.0 x; factors = rw none.0 y; rates = rw none.0 z }
+            record { value = rw none.0 x; factors = rw none.0 y; rates = rw none.0 z; call = call }

@@ -5,6 +5,7 @@ pub mod ufr;
 
 ghost use Rattle.std.specs.Prelude.{◌≡◌, length};
 ghost use Rattle.monthsmodel.specs.Months.{months_valuation, months_factors_after, months_rates_after};
+ghost use Rattle.monthsmodel.specs.Promises.{MonthsCall};
 
 use heldcase::Case;
 use model::figures::Valuation;
@@ -25,6 +26,7 @@ pub fn value_with_months(
     ensures value { result ≡ months_valuation file.now history.now start (length factors.old) (length rates.old) }
     ensures factors { factors.new ≡ months_factors_after file.now history.now start factors.old rates.old }
     ensures rates { rates.new ≡ months_rates_after file.now history.now start factors.old rates.old }
+    ensures call { MonthsCall file.now history.now start factors.old rates.old }
 {
     let factors = factors.first_chunk_mut().ok_or(Refusal::Buffers)?;
     let rates = rates.first_chunk_mut().ok_or(Refusal::Buffers)?;

@@ -2,6 +2,7 @@
 ghost use Rattle.std.specs.Prelude.{◌≡◌, pos};
 ghost use Rattle.model.specs.Fields.{within_z};
 ghost use Rattle.monthsmodel.specs.Months.{ufr_answer};
+ghost use Rattle.monthsmodel.specs.Promises.{UfrCall};
 
 use fields::rates::{RateForm, TwoBytes};
 use refusal::Refusal;
@@ -17,7 +18,8 @@ fn is_ufr(ufr: i64) -> bool
 // The mean of the months of a ring, rounded to the nearest 100 steps, halves upward: 17 for a history that is no full ring of 120 months,
 // 18 for a month out of limits, 19 for a mean that is no UFR. Hosts in C hand in the months and their start apart.
 pub fn ufr_of(history: &[u8], start: u64) -> Result<u64, Refusal>
-    ensures { result ≡ ufr_answer history.now start }
+    ensures value { result ≡ ufr_answer history.now start }
+    ensures call { UfrCall history.now start }
 {
     if history.len() != 240 {
         return Err(Refusal::History);

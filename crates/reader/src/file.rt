@@ -1,6 +1,7 @@
 // Reading a whole file: the map, then each field of the layout that it announces, then that nothing follows, then what only the sums show.
 ghost use Rattle.std.specs.Prelude.{◌≡◌};
 ghost use Rattle.model.specs.Refusals.{refusal};
+ghost use Rattle.model.specs.Promises.{RefusalCall, PartCall};
 ghost use Rattle.reader.specs.Answers.{Read, ReadExactly, RatesPart, IsFirstOfAll};
 
 use fields::cursor::Cursor;
@@ -64,7 +65,8 @@ pub fn read(file: &[u8]) -> Result<Reading<'_>, Refusal>
 
 // The number that a file is refused with; 0 where it is accepted, as C is told it.
 pub fn refusal_of(file: &[u8]) -> u8
-    ensures { result ≡ refusal file.now }
+    ensures value { result ≡ refusal file.now }
+    ensures call { RefusalCall file.now }
 {
     match read(file) {
         Ok(_) => 0,
@@ -74,7 +76,8 @@ pub fn refusal_of(file: &[u8]) -> u8
 
 // The caller's own bytes that hold the rates; none of them where the file is refused.
 pub fn rates_part(file: &[u8]) -> &[u8]
-    ensures { RatesPart file.entry result }
+    ensures value { RatesPart file.entry result }
+    ensures call { PartCall file.now }
 {
     match read(file) {
         Ok(reading) => reading.rates,

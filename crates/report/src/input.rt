@@ -1,7 +1,8 @@
 // Reading a case file, as far as its bytes decide, and valuing it.
 ghost use Rattle.std.specs.Prelude.{◌≡◌, ◌≤◌, IfErr, IfOk, OnOk, length, take};
 ghost use Rattle.batch.specs.Unread.{KeepsUnread};
-ghost use Rattle.report.specs.Valued.{valuation_with, IsFront, IsTold, Printed, HasStatus};
+ghost use Rattle.model.specs.Sizes.{deciding_bytes};
+ghost use Rattle.report.specs.Valued.{valuation_with, IsFront, IsTold, Printed, HasStatus, ValuedCall, IsPromised};
 
 use crate::numbers::{Numbers, numbers_of};
 use batch::{Cut, Stopped};
@@ -9,7 +10,7 @@ use model::figures::Valuation;
 use refusal::Refusal;
 use std::io::{Read, Write};
 
-// The longest acceptable file has 17,623 bytes. So the first 17,624 decide, also what comes before refusal 2.
+// As many bytes as decide about an input: one more than the longest file that is accepted. `promises::sizes::first_bytes_decide` says so.
 const MOST_BYTES: usize = 17_624;
 
 /// A history of months, and the place of its oldest month.
@@ -28,7 +29,8 @@ pub struct Told {
 
 // The valuation of a file, with its own UFR or with that of a history.
 fn value_file(file: &[u8], history: Option<History<'_>>) -> Result<Valuation, Refusal>
-    ensures { result ≡ valuation_with history.entry file.now }
+    ensures value { result ≡ valuation_with history.entry file.now }
+    ensures call { ValuedCall history.entry file.now result }
 {
     match history {
         None => engine::figures_of(file),
@@ -42,8 +44,8 @@ fn value_file(file: &[u8], history: Option<History<'_>>) -> Result<Valuation, Re
 
 // Reads the bytes that decide to the front of `file`, and answers how many there are.
 fn read_front<R: Read>(input: &mut R, file: &mut [u8]) -> Result<usize, Cut>
-    requires { length file.old ≡ 17624 }
-    ensures most { IfOk result (λ count. count ≤ 17624) }
+    requires { length file.old ≡ deciding_bytes }
+    ensures most { IfOk result (λ count. count ≤ deciding_bytes) }
     ensures front { IfOk result (λ count. IsFront (R.remaining input.old) (take count file.new)) }
 {
     // By `?`, since the goal of a call in the last place names the buffer in no way that an answer can use.
@@ -51,9 +53,10 @@ fn read_front<R: Read>(input: &mut R, file: &mut [u8]) -> Result<usize, Cut>
     Ok(count)
 }
 
-/// What is told of the file that a reader gives.
+/// What is told of the file that a reader gives: of all its bytes, of which no more are read than decide.
 pub fn tell_input<R: Read>(input: &mut R, history: Option<History<'_>>) -> Result<Told, Cut>
-    ensures { IfOk result (IsTold (R.remaining input.old) history.entry) }
+    ensures told { IfOk result (IsTold (R.remaining input.old) history.entry) }
+    ensures call { IfOk result (λ told. IsPromised history.entry (R.remaining input.old)) }
 {
     let mut file = [0u8; MOST_BYTES];
     let count = read_front(input, &mut file)?;
@@ -73,6 +76,7 @@ pub fn print_input<R: Read, W: Write>(
 ) -> Result<u8, Stopped>
     ensures printed { OnOk result (Printed history.entry (R.remaining input.old) (W.contents out.old) (W.contents out.new)) }
     ensures status { IfOk result (HasStatus history.entry (R.remaining input.old)) }
+    ensures call { IfOk result (λ status. IsPromised history.entry (R.remaining input.old)) }
     ensures unread { IfErr result (KeepsUnread (W.contents out.old) (W.contents out.new)) }
 {
     let mut file = [0u8; MOST_BYTES];

@@ -21,6 +21,7 @@ use Rattle.model.specs.Limits.{Between, WithinLimits}
 use Rattle.model.specs.Numbers.{every, table}
 use Rattle.model.specs.Refusals.{failing, forwards_right}
 use Rattle.rollingmodel.specs.Rolling.{days_held, rolling_right, rolling_checks, rolling_valuation, rolling_factors_after, rolling_rates_after}
+use Rattle.rollingmodel.specs.Promises.{WindowCall}
 use Rattle.heldcase.specs.declared.Case.{Case}
 use Rattle.model.specs.declared.figures.Valuation.{Valuation}
 use Rattle.rollingmodel.specs.declared.RollingWindow.{RollingWindow}
@@ -38,6 +39,7 @@ use Rattle.refusal.specs.declared.Refusal.TheVariants.{Buffers, Damaged}
 use Rattle.rolling.specs.inner.Joined.{joined}
 use Rattle.rolling.proofs.Ordered.{value-27, value-13, value-long}
 use Rattle.theory.proofs.rolling.Valued.{within-limits}
+use Rattle.theory.proofs.rolling.Promised.{window_call}
 
 -- ---- the sums of the days held
 
@@ -99,17 +101,18 @@ module _ (w : RollingWindow) (k : FileCase) (f₀ : List ℕ) (z₀ : List ℤ) 
   abbrev valued : FileCase
   valued = with_days 2 (days_held w) k
 
-  -- the contract of `value_window`: the answer, and both buffers at the end
+  -- the contract of `value_window`: the answer, both buffers at the end, and what holds of every call
   abbrev pub Meets : Result Valuation Refusal → List ℕ → List ℤ → Type 0
   Meets answer fs zs = record {
     value : answer ≡ rolling_valuation w k (length f₀) (length z₀);
     factors : fs ≡ rolling_factors_after w k f₀ z₀;
     rates : zs ≡ rolling_rates_after w k f₀ z₀;
+    call : WindowCall w k f₀ z₀;
   }
 
   refused-window : (r : Refusal) → failing (rolling_checks w k (length f₀) (length z₀)) ≡ Some r → Meets (Err r) f₀ z₀
   unfolding rolling_valuation rolling_factors_after rolling_rates_after
-  refused-window r e = record { value = rw e; factors = rw e; rates = rw e }
+  refused-window r e = record { value = rw e; factors = rw e; rates = rw e; call = window_call w k f₀ z₀ }
 
   pub damaged : rolling_right w ≡ false → Meets (Err Damaged) f₀ z₀
   damaged h = refused-window Damaged (value-27 w k (length f₀) (length z₀) h)
@@ -143,4 +146,4 @@ module _ (w : RollingWindow) (k : FileCase) (f₀ : List ℕ) (z₀ : List ℤ) 
     valued-window hf hz p q r =
         let (x, (y, z)) = held-valued valued limits f₀ z₀ is p q r in
         let zero = sym (none ∙ value-long w k (length f₀) (length z₀) hf hz) in
-        record { value = rw zero x; factors = rw zero y; rates = rw zero z }
+        record { value = rw zero x; factors = rw zero y; rates = rw zero z; call = window_call w k f₀ z₀ }

@@ -20,11 +20,12 @@ use Rattle.model.specs.Layout.{daily_rate, day}
 use Rattle.model.specs.Numbers.{table}
 use Rattle.model.specs.Refusals.{first_of}
 use Rattle.rollingmodel.specs.Rolling.{slot, day_in, days_held, sums_of, rolling_right, with_day_in, add_refusal, drop_refusal, added, dropped, add_day, drop_day}
+use Rattle.rollingmodel.specs.Promises.{Right}
 use Rattle.rollingmodel.specs.declared.RollingWindow.{RollingWindow}
 use Rattle.theory.proofs.acceptance.Runs.{right-more, right-at}
 use Rattle.theory.proofs.general.Lists.{length-table, table-first, table_same, table_of}
 use Rattle.theory.proofs.rolling.Held.{held-count, held-day}
-use Rattle.theory.proofs.rolling.Right.{Right, right-facts, facts-right, sums_at}
+use Rattle.theory.proofs.rolling.Right.{right-facts, facts-right, sums_at}
 use Rattle.fields.specs.Sums.{Bounded}
 use Rattle.rolling.specs.inner.Sums.{plus, minus, first_days}
 use Rattle.rolling.proofs.Sums.{sums-small, plus-is, minus-is}

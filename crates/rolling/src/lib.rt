@@ -3,11 +3,12 @@
 
 pub mod valued;
 
-ghost use Rattle.std.specs.Prelude.{◌≡◌, ◌<◌, is_ok, IfOk, IfErr};
+ghost use Rattle.std.specs.Prelude.{◌≡◌, ◌<◌, [], is_ok, IfOk, IfErr};
 ghost use Rattle.model.specs.Fields.{right_all};
 ghost use Rattle.model.specs.Layout.{daily_rate, day};
 ghost use Rattle.fields.specs.Sums.{Bounded};
 ghost use Rattle.rollingmodel.specs.Rolling.{day_in, with_day_in, rolling_right, add_day, drop_day, empty_window};
+ghost use Rattle.rollingmodel.specs.Promises.{Holds, AddCall, DropCall};
 ghost use Rattle.refusal.specs.declared.Refusal.TheVariants.{Damaged, Rate};
 ghost use Rattle.refusal.specs.Numbered.{refused_by};
 ghost use Rattle.rolling.specs.inner.Sums.{plus, minus};
@@ -19,8 +20,11 @@ use rollingmodel::{Day, RollingWindow};
 
 const TERMS: usize = 60;
 
+// An empty window: it is right, and holds no day.
+#[tactic(auto, using(theory::proofs::rolling::Holds::empty_holds))]
 pub fn empty() -> RollingWindow
-    ensures { result ≡ empty_window }
+    ensures value { result ≡ empty_window }
+    ensures holds { Holds result [] }
 {
     RollingWindow {
         count: 0,
@@ -117,7 +121,8 @@ pub fn place_of(w: &RollingWindow) -> Result<Place<70>, Refusal>
 // Adds a trading day behind the newest: 27 for a window that is not right, 15 for one of 70 days, 5 for a rate out of limits. A refused
 // day changes nothing.
 pub fn add_day(w: &mut RollingWindow, new: &Day) -> Result<(), Refusal>
-    ensures { record { refusal = refused_by result; window = w.new } ≡ add_day w.old new.now.rates }
+    ensures changed { record { refusal = refused_by result; window = w.new } ≡ add_day w.old new.now.rates }
+    ensures call { AddCall w.old new.now.rates }
 {
     let place = place_of(w)?;
     let slot = place.free().ok_or(Refusal::WindowFull)?;
@@ -130,7 +135,8 @@ pub fn add_day(w: &mut RollingWindow, new: &Day) -> Result<(), Refusal>
 
 // Drops the oldest day: 27 for a window that is not right, 16 for an empty one. A refused drop changes nothing.
 pub fn drop_day(w: &mut RollingWindow) -> Result<(), Refusal>
-    ensures { record { refusal = refused_by result; window = w.new } ≡ drop_day w.old }
+    ensures changed { record { refusal = refused_by result; window = w.new } ≡ drop_day w.old }
+    ensures call { DropCall w.old }
 {
     let place = place_of(w)?;
     let slot = place.oldest().ok_or(Refusal::WindowEmpty)?;

@@ -6,6 +6,7 @@ ghost use Rattle.model.specs.Case.{with_days};
 ghost use Rattle.model.specs.Refusals.{failing};
 ghost use Rattle.fields.specs.Sums.{raised};
 ghost use Rattle.rollingmodel.specs.Rolling.{days_held, rolling_right, rolling_checks, rolling_valuation, rolling_factors_after, rolling_rates_after};
+ghost use Rattle.rollingmodel.specs.Promises.{WindowCall};
 ghost use Rattle.saving.specs.Said.{said};
 ghost use Rattle.refusal.specs.declared.Refusal.TheVariants.{Damaged};
 ghost use Rattle.rolling.specs.inner.Joined.{joined};
@@ -81,6 +82,7 @@ pub fn value_window(
     ensures value { result ≡ rolling_valuation w.now (said given.now) (length factors.old) (length rates.old) }
     ensures factors { factors.new ≡ rolling_factors_after w.now (said given.now) factors.old rates.old }
     ensures rates { rates.new ≡ rolling_rates_after w.now (said given.now) factors.old rates.old }
+    ensures call { WindowCall w.now (said given.now) factors.old rates.old }
 {
     let days = days_in(w)?;
     let factors = factors.first_chunk_mut().ok_or(Refusal::Buffers)?;

@@ -143,6 +143,11 @@ full-window : (w : RollingWindow) → rolling_right w ≡ true → ltb w.count 7
 unfolding add_refusal first_of
 full-window w right full = simp (right, full)
 
+-- and that window is given back
+full-window-kept : (w : RollingWindow) → rolling_right w ≡ true → ltb w.count 70 ≡ false → add_day w high_day ≡ changed_to 15 w
+unfolding add_refusal add_day first_of
+full-window-kept w right full = simp (right, full)
+
 -- The order of checks of a drop.
 abbrev pub drop_refusals : List ℕ
 drop_refusals =
@@ -177,6 +182,14 @@ dropped-over-the-end = refl
 dropped-of-damaged : drop_day wrong_sum ≡ changed_to 27 wrong_sum
 unfolding all
 dropped-of-damaged = refl
+
+refused-day : add_day two_days high_day ≡ changed_to 5 two_days
+unfolding all
+refused-day = refl
+
+dropped-of-none : drop_day (window_of 0 69 (replicate 4200 (pos 0)) (replicate 60 (pos 0))) ≡ changed_to 16 (window_of 0 69 (replicate 4200 (pos 0)) (replicate 60 (pos 0)))
+unfolding all
+dropped-of-none = refl
 
 queued-days : (queued_by [] (drop_oldest ∷ add some_day ∷ add high_day ∷ add limits_day ∷ drop_oldest ∷ []) ≡ (limits_day ∷ []))
     × (queued_by (replicate 70 some_day) (add limits_day ∷ drop_oldest ∷ add limits_day ∷ []) ≡ (replicate 69 some_day ++ (limits_day ∷ [])))

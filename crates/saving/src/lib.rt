@@ -6,6 +6,7 @@ pub mod given;
 pub mod included;
 
 ghost use Rattle.std.specs.Prelude.{◌≡◌, length};
+ghost use Rattle.savingmodel.specs.Promises.{SaveCall};
 ghost use Rattle.savingmodel.specs.Saving.{save_answer, saved_after};
 ghost use Rattle.saving.specs.Said.{said};
 
@@ -19,6 +20,7 @@ use refusal::Refusal;
 pub fn save(case: &GivenCase, out: &mut [u8]) -> Result<usize, Refusal>
     ensures value { result ≡ save_answer (said case.now) (length out.old) }
     ensures buffer { out.new ≡ saved_after (said case.now) out.old }
+    ensures call { SaveCall (said case.now) out.old }
 {
     let file = checked_file(case)?;
     let left = file

@@ -3,3 +3,5 @@
 pub mod Computing
 pub mod SavedCases
 pub mod FourByteCases
+pub mod Plain
+pub mod PlainForms

@@ -230,3 +230,7 @@ bytes_after = (refl, refl)
 untouched-on-14 : saved_after small (pairs 79 0xaa 0x55 ++ (0xaa ∷ [])) ≡ pairs 79 0xaa 0x55 ++ (0xaa ∷ [])
 unfolding all
 untouched-on-14 = refl
+
+untouched-on-refusal : map (λ k. saved_after k (0xaa ∷ 0x55 ∷ [])) order_cases ≡ replicate 11 (0xaa ∷ 0x55 ∷ [])
+unfolding all
+untouched-on-refusal = refl

@@ -19,7 +19,7 @@ fn print_row<E: RateEnd, W: Write>(out: &mut W, search: Search) -> io::Result<()
     write!(out, " {}", search.term)?;
     // `tests` is not an index: a search asks for the number of tests.
     for tests in 0..=TESTS {
-        let left = search.steps_left::<E>(tests);
+        let left = search.steps_left::<E>(tests).left;
         write!(out, " {} {}", left.first, left.last)?;
     }
     out.write_all(b"\n")
@@ -45,7 +45,7 @@ fn print_term<W: Write>(out: &mut W, t: usize, factor: Bracket, guess: u64) -> i
     print_row::<Low, W>(out, by_upper)?;
     out.write_all(b"U")?;
     print_row::<High, W>(out, by_lower)?;
-    let lower = by_upper.steps_left::<Low>(TESTS);
+    let lower = by_upper.steps_left::<Low>(TESTS).left;
     Ok(lower.first.min(LAST_GUESS))
 }
 

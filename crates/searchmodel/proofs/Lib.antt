@@ -1,4 +1,6 @@
 -- What is computed of the definitions of specs/: each number is worked out by the definitions themselves. Computing: which definitions.
--- SearchCases: middle steps, halvings, and what is left after so many tests.
+-- SearchCases: middle steps, halvings, what is left after so many tests, and how many are made. Plain: what is promised, in plain
+-- numbers.
 pub mod Computing
 pub mod SearchCases
+pub mod Plain

@@ -1,5 +1,5 @@
--- The search for a zero rate: the step that is tested next, what a test leaves, and the steps left after each test, as
--- computed statements about the definitions.
+-- The search for a zero rate: the step that is tested next, what a test leaves, the steps left after each test, and how many tests are
+-- made, as computed statements about the definitions.
 -- tests/pinned.py wrote this file, from an implementation in Python that was written from the papers and, for request Six, from the
 -- readings that its first lines name (tests/reference.py): change that, not this. Assumes nothing.
 use Prim.Native.Nat.{ℕ, ◌-◌, ◌*◌}
@@ -7,7 +7,7 @@ use mathlib.Core.Path.{◌≡◌, refl}
 use mathlib.Core.Bool.{Bool, true, false}
 use mathlib.Core.List.{List, [], ◌∷◌, map}
 use Rattle.arith.specs.Rounding.{End, low, high}
-use Rattle.searchmodel.specs.Bisection.{middle, halved, after_tests, steps_left, is_left, how_many, most_left}
+use Rattle.searchmodel.specs.Bisection.{middle, halved, after_tests, tests_made, rate_test, steps_left, is_left, how_many, most_left}
 use Rattle.searchmodel.specs.declared.StepsLeft.{StepsLeft}
 use Rattle.searchmodel.proofs.Computing.{all}
 
@@ -133,6 +133,33 @@ steps-left-missed : (map (steps_left (falling 936304916368 977769424723) low 2) 
     × (map (steps_left (falling 936304916368 977769424723) high 2) every_test ≡ between 0 22000 ∷ between 0 11000 ∷ between 0 5500 ∷ between 2751 5500 ∷ between 4126 5500 ∷ between 4814 5500 ∷ between 5158 5500 ∷ between 5330 5500 ∷ between 5416 5500 ∷ between 5416 5458 ∷ between 5438 5458 ∷ between 5449 5458 ∷ between 5454 5458 ∷ between 5457 5458 ∷ between 5457 5457 ∷ between 5457 5457 ∷ [])
 unfolding all
 steps-left-missed = (refl, refl)
+
+-- no test, one, around the most, and many more
+abbrev pub some_halvings : List ℕ
+some_halvings =
+    0 ∷ 1 ∷ 13 ∷ 14 ∷ 15 ∷ 16 ∷ 30 ∷ []
+
+tests-counted : (map (tests_made low passing) some_halvings ≡ 0 ∷ 1 ∷ 13 ∷ 14 ∷ 15 ∷ 15 ∷ 15 ∷ [])
+    × (map (tests_made high passing) some_halvings ≡ 0 ∷ 1 ∷ 13 ∷ 14 ∷ 15 ∷ 15 ∷ 15 ∷ [])
+    × (map (tests_made low failing) some_halvings ≡ 0 ∷ 1 ∷ 13 ∷ 14 ∷ 14 ∷ 14 ∷ 14 ∷ [])
+    × (map (tests_made high failing) some_halvings ≡ 0 ∷ 1 ∷ 13 ∷ 14 ∷ 14 ∷ 14 ∷ 14 ∷ [])
+unfolding all
+tests-counted = (refl, refl, refl, refl)
+
+tests-made-2 : (map (tests_made low (rate_test (falling 1006756904105 1006756904107) low 2)) some_halvings ≡ 0 ∷ 1 ∷ 13 ∷ 14 ∷ 14 ∷ 14 ∷ 14 ∷ [])
+    × (map (tests_made high (rate_test (falling 1006756904105 1006756904107) high 2)) some_halvings ≡ 0 ∷ 1 ∷ 13 ∷ 14 ∷ 15 ∷ 15 ∷ 15 ∷ [])
+unfolding all
+tests-made-2 = (refl, refl)
+
+tests-made-4 : (map (tests_made low (rate_test (falling 1008693721096 1008693721100) low 4)) some_halvings ≡ 0 ∷ 1 ∷ 13 ∷ 14 ∷ 15 ∷ 15 ∷ 15 ∷ [])
+    × (map (tests_made high (rate_test (falling 1008693721096 1008693721100) high 4)) some_halvings ≡ 0 ∷ 1 ∷ 13 ∷ 14 ∷ 14 ∷ 14 ∷ 14 ∷ [])
+unfolding all
+tests-made-4 = (refl, refl)
+
+tests-made-21 : (map (tests_made low (rate_test (falling 938880681054 938880681093) low 21)) some_halvings ≡ 0 ∷ 1 ∷ 13 ∷ 14 ∷ 14 ∷ 14 ∷ 14 ∷ [])
+    × (map (tests_made high (rate_test (falling 938880681054 938880681093) high 21)) some_halvings ≡ 0 ∷ 1 ∷ 13 ∷ 14 ∷ 15 ∷ 15 ∷ 15 ∷ [])
+unfolding all
+tests-made-21 = (refl, refl)
 
 is-left : (map (is_left (between 5 9)) (0 ∷ 4 ∷ 5 ∷ 7 ∷ 9 ∷ 10 ∷ 22000 ∷ []) ≡ false ∷ false ∷ true ∷ true ∷ true ∷ false ∷ false ∷ [])
     × (map (is_left (between 0 1)) (0 ∷ 1 ∷ 2 ∷ []) ≡ true ∷ true ∷ false ∷ [])

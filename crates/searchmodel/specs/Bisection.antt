@@ -32,6 +32,21 @@ unfoldable pub after_tests : End → (ℕ → Bool) → ℕ → StepsLeft
 after_tests e test zero = all_steps
 after_tests e test (suc j) = halved e test (after_tests e test j)
 
+-- ---- how many tests are made
+-- A test asks whether one step passes, which is to compare its result with the factor. It counts as a test however it is answered: by the
+-- result, which is then worked out, by bounds of it, or because it was known before the search that the result is above or below the factor.
+-- So "j tests" are j halvings, whatever was known before, and no more than j results are worked out. What is known before a search comes from
+-- bounds of two results, which rule out no step and are no tests.
+
+-- how many tests a halving makes: one, and none of a single step
+abbrev pub tests_of : StepsLeft → ℕ
+tests_of p = if nat_le p.last p.first then 0 else 1
+
+-- how many tests a search makes that has a budget of j
+unfoldable pub tests_made : End → (ℕ → Bool) → ℕ → ℕ
+tests_made e test zero = 0
+tests_made e test (suc j) = tests_made e test j + tests_of (after_tests e test j)
+
 -- "the search for the lower and the upper rate": by document 01's own tests of term t, from the factors at both ends
 abbrev pub rate_test : (End → ℕ → ℕ) → End → ℕ → ℕ → Bool
 rate_test factor low t i = lower_test factor t i
@@ -73,3 +88,6 @@ pub record ShortSearch (factor : End → ℕ → ℕ) (e : End) (t : ℕ) : Type
   -- "so a budget of 15 tests always suffices": one step is left then, and it is the rate
   pub one : count_left (steps_left factor e t 15) ≡ 1
   pub found : rate_of factor e t ≡ step_at (steps_left factor e t 15).first
+  -- no search makes more tests than its budget, and none makes more than 15, whatever its budget
+  pub within : (j : ℕ) → tests_made e (rate_test factor e t) j ≤ j
+  pub most : (j : ℕ) → tests_made e (rate_test factor e t) j ≤ 15

@@ -6,6 +6,7 @@
 pub mod general
 pub mod acceptance
 pub mod saving
+pub mod sizes
 pub mod rolling
 pub mod months
 pub mod curve

@@ -15,3 +15,4 @@ pub mod RateTests
 pub mod Bisection
 pub mod ZeroRate
 pub mod Searches
+pub mod Promised

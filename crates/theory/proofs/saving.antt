@@ -2,3 +2,4 @@
 -- within the limits can be handed in.
 pub mod Saved
 pub mod Given
+pub mod Promised

@@ -15,7 +15,7 @@ use Rattle.model.specs.declared.figures.Verdict.TheVariants.{Dekkingstekort, Res
 use Rattle.method.specs.Buffers.{valuation_of, refusal_number, factors_after}
 use Rattle.model.proofs.Computing.{pairs}
 use Rattle.method.proofs.Computing.{all}
-use Rattle.method.proofs.Worked.{flat, with_days, with_cash, file_c1, file_c5}
+use Rattle.method.specs.TwelveFiles.{flat, with_days, with_cash, file_c1, file_c5}
 use Rattle.method.proofs.Widths.{Narrow}
 
 -- "DEKKINGSTEKORT if 20 × A < 21 × L": C1 with cash 1,049,999, and with 1,050,000, where both are the same

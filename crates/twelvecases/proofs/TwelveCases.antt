@@ -1,36 +1,13 @@
--- The twelve hand-worked cases of document 01 as one result about the definitions, `twelve-cases`. What is quick to compute of them is in
--- Worked.antt of `model`; here is which of their files are accepted, and the table. Assumes nothing.
-use Prim.Native.Nat.{◌*◌, ◌<◌, ◌≤◌}
+-- The twelve hand-worked cases give what was worked out by hand. What is quick to compute of them is in Worked.antt of `method`; here is
+-- which of their files are accepted, and all of it in one result, `twelve_cases`. Assumes nothing.
 use mathlib.Core.Path.{◌≡◌, refl}
-use mathlib.Core.List.{[], ◌∷◌}
 use lib.Dec.{lit≤}
-use lib.ListN.{length, replicate}
-use lib.IntN.{pos, neg_ℤ}
-use Rattle.refusal.specs.Numbered.{answer_of}
-use Rattle.arith.specs.Rounding.{low, high}
-use Rattle.model.specs.Numbers.{number, twos_complement}
-use Rattle.method.specs.Fraction.{◌//◌, ◌≐◌}
-use Rattle.model.specs.Case.{FileCase}
-use Rattle.model.specs.Layout.{case_of}
+use lib.ListN.{length}
 use Rattle.model.specs.Refusals.{refusal}
-use Rattle.method.specs.Curve.{base, curve}
-use Rattle.method.specs.Exact as Exact
-use Rattle.method.specs.Rounded as Rounded
-use Rattle.method.specs.Buffers.{valuation_of}
-use Rattle.method.specs.Listing.{listing}
-use Rattle.model.specs.declared.figures.Verdict.TheVariants.{Reservetekort, VrijVermogen}
-use Rattle.method.proofs.Computing.{text, all}
+use Rattle.method.specs.TwelveFiles.{flat, with_days, file_c1, file_c2, file_c5, file_c8, file_c9, file_c10, file_c11}
+use Rattle.method.proofs.Computing.{all}
+use Rattle.twelvecases.specs.TwelveCases.{TwelveCases}
 use Rattle.method.proofs.Worked.{
-  flat,
-  with_days,
-  file_c1,
-  file_c2,
-  file_c5,
-  file_c8,
-  file_c9,
-  file_c10,
-  file_c11,
-  listing_c1,
   c1-listing,
   c1-exact,
   c2-verdicts,
@@ -47,52 +24,6 @@ use Rattle.method.proofs.Worked.{
   c11-file,
   c12-refusal,
 }
-
--- The paper's statements. A file with refusal 0 is accepted, and `case_of` is the case that its bytes hold.
-pub record TwelveCases : Type 0 where
-  -- "Its 224 bytes give": the listing; and the exact verdict is the same
-  pub c1 : (length file_c1 ≡ 224)
-      × (refusal file_c1 ≡ 0)
-      × (listing (answer_of (valuation_of 240 240 file_c1)) ≡ text listing_c1)
-      × (Exact.verdict (case_of file_c1) ≡ VrijVermogen)
-  -- "C1 with cash 1,099,999: RESERVETEKORT"
-  pub c2 : (refusal file_c2 ≡ 0)
-      × (Rounded.verdict (case_of file_c2) ≡ Reservetekort)
-      × (Exact.verdict (case_of file_c2) ≡ Reservetekort)
-  -- "bytes FE 0C are -500; flat, exact factor 1 is 200/199"
-  pub c3 : (twos_complement 2 (number (0xfe ∷ 0x0c ∷ []) 0 2) ≡ neg_ℤ (pos 500))
-      × (refusal (with_days (flat 0xfe 0x0c)) ≡ 0)
-      × ((case_of (with_days (flat 0xfe 0x0c))).days ≡ replicate 60 (neg_ℤ (pos 500)) ∷ [])
-      × (Exact.factor (curve (case_of (with_days (flat 0xfe 0x0c))) base) 1 ≐ 200 // 199)
-  -- "flat FC 18 (-1,000) passes; flat FC 17 gives 5"
-  pub c4 : (refusal (with_days (flat 0xfc 0x18)) ≡ 0) × (refusal (with_days (flat 0xfc 0x17)) ≡ 5)
-  -- "days at 100 and 101 give exact factor 1 of 200,000/200,201"
-  pub c5 : (refusal file_c5 ≡ 0) × (Exact.factor (curve (case_of file_c5) base) 1 ≐ 200000 // 200201)
-  -- "flat 0, exact factor 21 is 250,000/250,903"
-  pub c6 : Exact.factor (curve (case_of file_c1) base) 21 ≐ 250000 // 250903
-  -- "flat 5,000, exact growth 21 is 1.049312"
-  pub c7 : (refusal (with_days (flat 0x13 0x88)) ≡ 0)
-      × (Exact.growth (curve (case_of (with_days (flat 0x13 0x88))) base) 21 ≐ 1049312 // 1000000)
-  -- "one day, rate 0 then 6,000 for all later terms passes; 6,001 gives 6"
-  pub c8 : (refusal (file_c8 0x17 0x70) ≡ 0) × (refusal (file_c8 0x17 0x71) ≡ 6)
-  -- "S1 300, S2 400 euros, correlation 500, others 0: S is 60,827 to 60,828": rounded from these, and the exact S of a file that has them
-  pub c9 : (Rounded.buffer low 500 30000 40000 0 0 0 0 ≡ 60827)
-      × (Rounded.buffer high 500 30000 40000 0 0 0 0 ≡ 60828)
-      × (refusal file_c9 ≡ 0)
-      × (Exact.S1 (case_of file_c9) ≐ 30000 // 1)
-      × (Exact.S2 (case_of file_c9) ≐ 40000 // 1)
-      × (Exact.S² (case_of file_c9) ≐ 3700000000 // 1)
-      × (60827 * 60827 ≤ 3700000000)
-      × (3700000000 ≤ 60828 * 60828)
-  -- "pension age 780, mean 540: TSO 6.5"
-  pub c10 : (refusal file_c10 ≡ 0) × (Exact.TSO (case_of file_c10) ≐ 65 // 10)
-  -- "mean age above pension age: TSO 2", of every case, and of a file
-  pub c11 : ((k : FileCase) → k.people.pension_age < k.people.mean_age → Exact.TSO k ≐ 2 // 1)
-      × (refusal file_c11 ≡ 0)
-      × ((case_of file_c11).people.pension_age < (case_of file_c11).people.mean_age)
-      × (Exact.TSO (case_of file_c11) ≐ 2 // 1)
-  -- "empty file gives 1"
-  pub c12 : refusal [] ≡ 1
 
 c1-bytes : (length file_c1 ≡ 224) × (refusal file_c1 ≡ 0)
 unfolding all
@@ -134,8 +65,8 @@ c11-accepted : refusal file_c11 ≡ 0
 unfolding all
 c11-accepted = refl
 
-pub twelve-cases : TwelveCases
-twelve-cases = record {
+pub twelve_cases : TwelveCases
+twelve_cases = record {
   c1 = (c1-bytes.0, c1-bytes.1, c1-listing, c1-exact);
   c2 = (c2-accepted, c2-verdicts.0, c2-verdicts.1);
   c3 = (c3-bytes, c3-accepted, c3-days, c3-factor);

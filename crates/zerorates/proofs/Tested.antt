@@ -22,7 +22,7 @@ use Rattle.theory.proofs.curve.Steps.{ends, scaled-in, scaled-ends, width_after}
 use Rattle.theory.proofs.curve.RateTests.{tested-small, tested-width}
 use Rattle.zerorates.specs.inner.Powers.{Encloses, power_most}
 use Rattle.zerorates.specs.inner.Ranges.{StepWithin}
-use Rattle.zerorates.specs.inner.Results.{passed, passing}
+use Rattle.zerorates.specs.inner.Results.{BothCompare, passed, passing}
 use Rattle.zerorates.proofs.Powers.{in-units, in-units-most}
 
 -- over no years
@@ -70,13 +70,19 @@ module _ {x r : Bracket} {t i : ℕ} (w : StepWithin t i) (p : Encloses x t i (p
 results-order : (t i : ℕ) → tested low t i ≤ tested high t i
 results-order t i = scaled-ends steps_per_one (98000 + i) t (omega arith)
 
-pub compared-above : (e : End) (t factor i : ℕ) → factor < tested low t i → Greater ≡ nat_cmp (tested e t i) factor
+compared-above : (e : End) (t factor i : ℕ) → factor < tested low t i → Greater ≡ nat_cmp (tested e t i) factor
 compared-above low t factor i h = nat_cmp_is (tested low t i) factor Greater h
 compared-above high t factor i h = nat_cmp_is (tested high t i) factor Greater (omega (arith, results-order t i))
 
-pub compared-below : (e : End) (t factor i : ℕ) → tested high t i < factor → Less ≡ nat_cmp (tested e t i) factor
+compared-below : (e : End) (t factor i : ℕ) → tested high t i < factor → Less ≡ nat_cmp (tested e t i) factor
 compared-below low t factor i h = nat_cmp_is (tested low t i) factor Less (omega (arith, results-order t i))
 compared-below high t factor i h = nat_cmp_is (tested high t i) factor Less h
+
+pub both-above : {t factor i : ℕ} → factor < tested low t i → BothCompare Greater t i factor
+both-above {t} {factor} {i} h = record { by = λ e. compared-above e t factor i h }
+
+pub both-below : {t factor i : ℕ} → tested high t i < factor → BothCompare Less t i factor
+both-below {t} {factor} {i} h = record { by = λ e. compared-below e t factor i h }
 
 -- the test of the definition, by the comparison
 pub passing-is : (e : End) (t factor i : ℕ) → passing e (nat_cmp (tested e t i) factor) ≡ passed e t factor i

@@ -54,8 +54,8 @@ pub fn zero_rates(factors: &[Bracket; 120]) -> [RateBracket; 120]
             factor: factor.lower,
             known,
         };
-        let lower = by_upper.steps_left::<Low>(TESTS);
-        let upper = by_lower.steps_left::<High>(TESTS);
+        let lower = by_upper.steps_left::<Low>(TESTS).left;
+        let upper = by_lower.steps_left::<High>(TESTS).left;
         step = lower.first;
         out[t] = RateBracket {
             lower: rate_at(lower.first),

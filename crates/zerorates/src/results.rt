@@ -1,10 +1,12 @@
 // The tests of a zero rate, which compare a result of a step with a factor. A result is 10^12, multiplied t times by 100,000 ÷ (100,000 + z)
 // and rounded each time, down or up.
-ghost use Rattle.std.specs.Prelude.{◌≡◌};
+ghost use Rattle.std.specs.Prelude.{◌≡◌, ◌≤◌, ◌<◌, ◌+◌, ◌-◌, ◌^◌, IfSome};
 ghost use Rattle.std.specs.Ordering.{nat_cmp};
 ghost use Rattle.method.specs.Rounded.{tested};
-ghost use Rattle.zerorates.specs.inner.Results.{Results};
+ghost use Rattle.zerorates.specs.inner.Known.{Known};
+ghost use Rattle.zerorates.specs.inner.Results.{BothCompare, Results};
 
+use super::known::Interval;
 use super::step::TermStep;
 use arith::bracket::Bracket;
 use arith::end::End;
@@ -19,10 +21,13 @@ pub const FIRST_DIVISOR: u64 = 98_000;
 const WIDEST: u64 = 1_000;
 
 impl TermStep {
-    // The result, rounded at an end each year.
-    fn rounded_result<E: End>(self) -> u64
-        ensures { result ≡ tested E.end self.term self.step }
+    // The result, rounded at an end each year. That is a test of the step, and `made` counts it.
+    fn rounded_result<E: End>(self, made: &mut u64) -> u64
+        requires { made.old < 2 ^ 64 - 1 }
+        ensures is { result ≡ tested E.end self.term self.step }
+        ensures counted { made.new ≡ made.old + 1 }
     {
+        *made += 1;
         let mut x = Case::UNIT;
         for _ in 0..self.term {
             x = Short::quotient::<E>(x, Case::STEPS_PER_ONE, FIRST_DIVISOR + self.step);
@@ -42,17 +47,41 @@ impl TermStep {
         }
     }
 
-    /// How the result, rounded at an end, compares with a factor. It is worked out only where the bounds leave that open.
-    pub fn compare<E: End>(self, factor: u64) -> Ordering
-        ensures { result ≡ nat_cmp (tested E.end self.term self.step) factor }
+    // How both results compare with a factor, where that is known or their bounds tell it.
+    fn sure_order(self, factor: u64, known: Interval) -> Option<Ordering>
+        requires { Known self.term factor known }
+        ensures { IfSome result (λ o. BothCompare o self.term self.step factor) }
     {
+        if self.step < known.lo {
+            return Some(Ordering::Greater);
+        }
+        if known.hi <= self.step {
+            return Some(Ordering::Less);
+        }
         let bounds = self.result_bounds();
         if factor < bounds.lower {
-            return Ordering::Greater;
+            return Some(Ordering::Greater);
         }
         if bounds.upper < factor {
-            return Ordering::Less;
+            return Some(Ordering::Less);
         }
-        self.rounded_result::<E>().cmp(&factor)
+        None
+    }
+
+    /// The test of a step: how its result, rounded at an end, compares with a factor. `made` counts the tests, and this is one whether the
+    /// result is worked out or not.
+    pub fn compare<E: End>(self, factor: u64, known: Interval, made: &mut u64) -> Ordering
+        requires known { Known self.term factor known }
+        requires room { made.old ≤ 15 }
+        ensures compared { result ≡ nat_cmp (tested E.end self.term self.step) factor }
+        ensures counted { made.new ≡ made.old + 1 }
+    {
+        match self.sure_order(factor, known) {
+            Some(order) => {
+                *made += 1;
+                order
+            }
+            None => self.rounded_result::<E>(made).cmp(&factor),
+        }
     }
 }

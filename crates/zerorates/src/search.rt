@@ -1,10 +1,8 @@
 // The search for a zero rate of a term. It halves the steps 0 to 22,000 until one is left: the results of the tests fall as the step rises,
-// so each test rules out all steps on one side of the step that it tests.
-ghost use Rattle.std.specs.Prelude.{◌≡◌, ◌≤◌, ◌<◌};
-ghost use Rattle.std.specs.Ordering.{nat_cmp};
-ghost use Rattle.method.specs.Rounded.{tested};
+// so each test rules out all steps on one side of the step that it tests. The tests are counted where they are made, in `TermStep::compare`.
+ghost use Rattle.std.specs.Prelude.{◌≡◌, ◌≤◌, ◌<◌, ◌+◌};
 ghost use Rattle.searchmodel.specs.Bisection as Bisection;
-ghost use Rattle.searchmodel.specs.Bisection.{halved, after_tests};
+ghost use Rattle.searchmodel.specs.Bisection.{halved, after_tests, tests_of, tests_made};
 ghost use Rattle.zerorates.specs.inner.Results.{passed, passing};
 ghost use Rattle.zerorates.specs.inner.Known.{Known};
 ghost use Rattle.zerorates.specs.inner.Ranges.{LeftWithin};
@@ -23,6 +21,13 @@ pub struct Search {
     pub known: Interval,
     ghost within: { term ≤ 120 },
     ghost sure: { Known term factor known },
+}
+
+/// What a search answers: the steps that are left, and how many tests it made.
+#[derive(Clone, Copy)]
+pub struct Searched {
+    pub left: StepsLeft,
+    pub made: u64,
 }
 
 /// An end of a zero rate's bracket: the lower rate is the largest step that passes, the upper rate the smallest.
@@ -89,49 +94,38 @@ impl RateEnd for High {
 }
 
 impl Search {
-    // How the result of step i compares with the factor. For most steps that is known.
-    fn compare_step<E: End>(self, i: u64) -> Ordering
-        requires { i ≤ 22000 }
-        ensures { result ≡ nat_cmp (tested E.end self.term i) self.factor }
-    {
-        if i < self.known.lo {
-            return Ordering::Greater;
-        }
-        if self.known.hi <= i {
-            return Ordering::Less;
-        }
-        let step = TermStep {
-            term: self.term,
-            step: i,
-        };
-        step.compare::<E>(self.factor)
-    }
-
-    // What one test leaves. A single step is not tested.
-    fn halve<E: RateEnd>(self, left: StepsLeft) -> StepsLeft
-        requires { LeftWithin left }
-        ensures { result ≡ halved E.end (passed E.end self.term self.factor) left }
+    // What one test leaves, and `made` counts it: never more than 15 before it. A single step is not tested.
+    fn halve<E: RateEnd>(self, left: StepsLeft, made: &mut u64) -> StepsLeft
+        requires within { LeftWithin left }
+        requires room { made.old ≤ 15 }
+        ensures remain { result ≡ halved E.end (passed E.end self.term self.factor) left }
+        ensures counted { made.new ≡ made.old + tests_of left }
     {
         if left.last <= left.first {
             return left;
         }
-        let step = E::middle(left);
-        let compared = self.compare_step::<E>(step);
-        E::leaves(step, E::passes(compared), left)
+        let middle = TermStep {
+            term: self.term,
+            step: E::middle(left),
+        };
+        let compared = middle.compare::<E>(self.factor, self.known, made);
+        E::leaves(middle.step, E::passes(compared), left)
     }
 
-    /// The steps that are left for a rate after a number of tests: the lower rate, by the upper end of the factor, or the upper rate, by
-    /// the lower end.
-    pub fn steps_left<E: RateEnd>(self, tests: usize) -> StepsLeft
-        ensures { result ≡ after_tests E.end (passed E.end self.term self.factor) tests }
+    /// The steps that are left for a rate after a number of tests, and how many tests were made: of the lower rate, by the upper end of the
+    /// factor, or of the upper rate, by the lower end.
+    pub fn steps_left<E: RateEnd>(self, tests: usize) -> Searched
+        ensures remain { result.left ≡ after_tests E.end (passed E.end self.term self.factor) tests }
+        ensures counted { result.made ≡ tests_made E.end (passed E.end self.term self.factor) tests }
     {
         let mut left = StepsLeft {
             first: 0,
             last: LAST_STEP,
         };
+        let mut made = 0;
         for _ in 0..tests {
-            left = self.halve::<E>(left);
+            left = self.halve::<E>(left, &mut made);
         }
-        left
+        Searched { left, made }
     }
 }

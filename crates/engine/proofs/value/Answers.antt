@@ -5,8 +5,7 @@ use Rattle.std.proofs.lemmas.Result.{err_from_is_err_and}
 use Rattle.std.specs.Array.{IsFirstChunk}
 use Rattle.refusal.specs.declared.Refusal.TheVariants.{Buffers}
 use Rattle.working.proofs.Fronts.{unwritten}
-use Rattle.engine.proofs.Valued.{short-factors, short-rates, refused-file, reading-fits, accepted-file}
-use Rattle.engine.proofs.Guaranteed.{call-of-slice}
+use Rattle.engine.proofs.Valued.{call-of-slice, short-factors, short-rates, refused-file, reading-fits, accepted-file}
 use Rattle.engine.proofs.value.Goals.{In_ok-factors, In_ok-rates}
 use Rattle.engine.proofs.value.Goals as goal
 

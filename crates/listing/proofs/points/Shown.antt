@@ -25,7 +25,7 @@ use Rattle.theory.proofs.acceptance.Acceptance.{within-limits}
 use Rattle.theory.proofs.acceptance.Checks.{none-hold, hold-none, none-fails}
 use Rattle.theory.proofs.curve.CaseCurves.{curve-within}
 use Rattle.theory.proofs.money.MoneySizes.{factor-most, L-most, B-most, A-most, S1-most, S2-most, S3-most, S4-most, S5-most, S6-most, S-most}
-use Rattle.listing.specs.Shown.{FactorShown, MoneyShown, Shown}
+use Rattle.listing.specs.Shown.{FactorShown, MoneyShown, Shown, ShownAfterValuations}
 use Rattle.listing.proofs.points.Whole.{holds}
 use Rattle.listing.proofs.points.ByNumber as ByNumber
 use Rattle.listing.proofs.points.ByNumber.{no_bracket, none-shown, later-shown, factor-shown, money-shown}
@@ -88,3 +88,6 @@ unfolding factors_after valuation_refusal refusal
 shown-after file factors rates h =
     let checks = valuation_checks (length factors) (length rates) file in
     rw (none-fails checks h) (shown (case_of file) (within-limits file (hold-none _ (none-hold checks h).1)) (drop 240 factors))
+
+pub points_are_shown_after_valuations : ShownAfterValuations
+points_are_shown_after_valuations = record { shown = shown-after }

@@ -1,9 +1,11 @@
--- `save`: a refusal of the case, one for want of room, and the bytes. The check leaves each of these goals open without its answer.
+-- `save`: a refusal of the case, one for want of room, and the bytes; and what is promised of every call. The check leaves each of these goals
+-- open without its answer.
 use Rattle.std.proofs.Common.{◌≡◌}
 use Rattle.std.proofs.lemmas.Result.{err_from_is_err_and}
 use Rattle.refusal.specs.declared.Refusal.TheVariants.{Room}
 use Rattle.saving.specs.Said.{said}
 use Rattle.saving.proofs.Saves.{refused, room-refused, written}
+use Rattle.theory.proofs.saving.Promised.{save_call}
 use Rattle.saving.proofs.save.Goals as goal
 
 pub returns-in_err-file-clause-value : goal.returns-in_err-file-clause-value
@@ -56,3 +58,12 @@ returns-clause-buffer c =
     let file = c.in_ok-file.ensures in
     let fits = rw c.in_ok-left.ensures.ok_part at c.room_after.ensures in
     (written k a.out.now file.refusal file.bytes fits c.write_front.ensures).1
+
+pub returns-in_err-file-clause-call : goal.returns-in_err-file-clause-call
+returns-in_err-file-clause-call c = save_call (said c.args.case.now) c.args.out.now
+
+pub returns-in_err-left-clause-call : goal.returns-in_err-left-clause-call
+returns-in_err-left-clause-call c = save_call (said c.args.case.now) c.args.out.now
+
+pub returns-clause-call : goal.returns-clause-call
+returns-clause-call c = save_call (said c.args.case.now) c.args.out.now

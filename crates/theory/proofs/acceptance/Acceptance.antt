@@ -37,7 +37,7 @@ abbrev pub sixth : FileCase → List Check
 sixth k = (forwards_right (per_step k) k.days, Forward) ∷ []
 
 -- after the checks of the map and those of the fields: "then 2; then 6"
-abbrev last_checks : List ℕ → ℕ → Present → List Check
+abbrev pub last_checks : List ℕ → ℕ → Present → List Check
 last_checks file w p = (leb (length file) ((layout w p).end file 2), BytesFollow) ∷ sixth (case_of file)
 
 -- the number of a file is that of its refusal

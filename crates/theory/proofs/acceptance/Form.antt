@@ -1,24 +1,22 @@
 -- The two days fields: what holds of rates of 2 bytes and of rates of 4 bytes holds of every case whose form is known. So the days of such
 -- a case are in one of the two fields, and the other is absent.
-use mathlib.Core.Path.{◌≡◌, refl, ap, sym, ◌∙◌, subst}
+use mathlib.Core.Path.{◌≡◌, refl, ap, sym, subst}
 use mathlib.Core.Bool.{Bool, true, false, ◌||◌, cond}
 use mathlib.Core.List.{List, [], ◌++◌}
-use Prim.Native.Nat.{ℕ, ◌+◌, ◌*◌}
+use Prim.Native.Nat.{ℕ}
 use borrow.Author.Tests.{eqb-true}
 use lib.Dec.{T, eqb}
-use lib.ListN.{length}
 use lib.IntN.{ℤ}
 use Rattle.refusal.specs.declared.Refusal.TheVariants.{Shock}
 use Rattle.refusal.specs.declared.Refusal.TheVariants as Refusal
-use Rattle.model.specs.Case.{FileCase, known_form, units_per_step, per_step, with_days}
+use Rattle.model.specs.Case.{FileCase, known_form, with_days}
 use Rattle.model.specs.Fields.{Field, field, ◌then◌}
-use Rattle.model.specs.Layout.{day, days, shocks, people, Present, Parts, rate_bytes_in, stands, file_map, first_fields, layout, fields_of, case_from, parts_of, case_of}
-use Rattle.model.specs.Refusals.{ufr_end, days_at, day_count}
+use Rattle.model.specs.Layout.{days, shocks, people, Present, Parts, rate_bytes_in, stands, file_map, first_fields, layout, fields_of, case_from, parts_of, case_of}
+use Rattle.model.specs.Refusals.{ufr_end, days_at}
 use Rattle.model.specs.declared.case.Amounts.{Amounts}
 use Rattle.model.specs.declared.case.Shocks.{Shocks}
 use Rattle.model.specs.declared.case.People.{People}
 use Rattle.theory.proofs.acceptance.Checks.{Hold, hold-parts}
-use Rattle.theory.proofs.acceptance.Runs.{values_length}
 use Rattle.model.specs.inner.Positions.{rate_bytes, present, ufr_field, pension_field, bonds_field, amounts_field, pension_at, bonds_at, amounts_at, shocks_at, people_at, people_end}
 
 pub by_form : (Q : ℕ → Type 0) (w : ℕ) → known_form w ≡ true → Q 2 → Q 4 → Q w
@@ -28,10 +26,6 @@ by_form Q w known two four = go (eqb w 2) (eqb w 4) refl refl known
     go true b e f h = subst Q (sym (eqb-true w 2 e)) two
     go false true e f h = subst Q (sym (eqb-true w 4 f)) four
     go false false e f h = absurd (subst T (sym h) tt)
-
--- what is not of 4 bytes is of 2
-pub two-else : (w : ℕ) → known_form w ≡ true → (w ≡ 4 → ⊥) → w ≡ 2
-two-else w known n = by_form (λ v. (v ≡ 4 → ⊥) → v ≡ 2) w known (λ h. refl) (λ h. absurd (h refl)) n
 
 -- a map announces one of the two
 pub known_in : (map : ℕ) → known_form (rate_bytes_in map) ≡ true
@@ -61,12 +55,6 @@ days-read file = go (stands 7 (file_map file)) (present file)
         ≡ (case_from (cond b 4 2) ((layout (cond b 4 2) p).value file 2)).days
     go true p = refl
     go false p = refl
-
-pub step-read : (file : List ℕ) → per_step (case_of file) ≡ units_per_step (rate_bytes file) * day_count file
-unfolding per_step case_of day_count
-step-read file =
-    ap (λ n. units_per_step (rate_bytes file) * n)
-    (ap length (sym (days-read file)) ∙ values_length (day (rate_bytes file)) file (days_at file + 1) (day_count file))
 
 -- the fields after two-byte days
 abbrev pub later_fields : Present → Field (List ℕ × (List ℕ × (Amounts × (Shocks × People))))

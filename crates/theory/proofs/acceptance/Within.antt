@@ -17,7 +17,7 @@ use Rattle.model.specs.Constants.{default_ufr}
 use Rattle.model.specs.Numbers.{number, unsigned}
 use Rattle.model.specs.Case.{FileCase, known_form, units_per_step, per_step}
 use Rattle.model.specs.Limits.{Between, FlowsWithin, DayWithin, DaysWithin, forward, AmountsWithin, ShocksWithin, PeopleWithin, WithinLimits}
-use Rattle.model.specs.Fields.{within_z, number_of, counted}
+use Rattle.model.specs.Fields.{within_z, number_of, counted, several}
 use Rattle.model.specs.Layout.{day, days, rate, flow, amounts_from, amounts_in_order, amounts, no_amounts, shocks_from, shocks_in_order, shocks}
 use Rattle.model.specs.inner.Positions.{ufr_field}
 use Rattle.model.specs.Layout.{people_from, people_in_order, people, Present, Parts, layout, parts_of, Agrees}
@@ -31,13 +31,13 @@ use Rattle.theory.proofs.acceptance.Laws.{Limited, limited-as, field-limited, co
 
 -- ---- a test of an integer, both ways
 
-between-true : {a b z : ℤ} → within_z a b z ≡ true → Between a b z
+pub between-true : {a b z : ℤ} → within_z a b z ≡ true → Between a b z
 between-true {a} {b} {z} h = record {
   least = record { le = rw (first_so (le_z a z) (le_z z b) h) tt };
   most = record { le = rw (second_so (le_z a z) (le_z z b) h) tt };
 }
 
-between-test : {a b z : ℤ} → Between a b z → within_z a b z ≡ true
+pub between-test : {a b z : ℤ} → Between a b z → within_z a b z ≡ true
 between-test {a} {b} {z} h = rw (is_true (le_z a z) h.least.le, is_true (le_z z b) h.most.le)
   where
     is_true : (b : Bool) → T b → b ≡ true
@@ -98,9 +98,19 @@ rate-lawful w scale fits =
       read = λ file at z rest h e. rw (number_read file at w (unsigned w z) rest (signed z h).0 e) (signed z h).1;
     }
 
+-- n rates of two bytes, one after another
+pub rates-lawful : (n : ℕ)
+    → LawfulFixed (several n (rate 2 1)) (λ rates. (length rates ≡ n) × ((t : ℕ) → t < n → Between (neg_ℤ (pos 1000)) (pos 10000) (get_or rates t (pos 0))))
+rates-lawful n =
+    let W = Between (neg_ℤ (pos 1000)) (pos 10000) in
+    fixed-as
+    (λ rates h. (h.0, λ t l. each_at W (pos 0) rates h.1 t (omega (arith, h.0))))
+    (λ rates h. (h.0, at_each W (pos 0) rates (λ t l. h.1 t (omega (arith, h.0)))))
+    (several-lawful (rate-lawful 2 1 (lit< tt)) n)
+
 -- the days field whose rates have w bytes
 module _ (w : ℕ) (fits : 20000 * units_per_step w < 256 ^ w) where
-  day-lawful : LawfulFixed (day w) (DayWithin (units_per_step w))
+  pub day-lawful : LawfulFixed (day w) (DayWithin (units_per_step w))
   day-lawful =
       let W = Between (neg_ℤ (pos (1000 * units_per_step w))) (pos (10000 * units_per_step w)) in
       fixed-as

@@ -1,12 +1,13 @@
 -- Request Three of document 02, proved: after j tests at most 22,001 ÷ 2^j steps, rounded up, are left, the zero rate is among them, and
 -- after 15 it is the only one. Of n steps a test leaves at most n ÷ 2, rounded up, whichever way it goes (`halves`). The rate stays among them
 -- because the results fall as the step rises: the tests change at the rate and nowhere else (`Splits`).
--- Assumes nothing.
+-- And no search makes more tests than its budget, or than 15. Assumes nothing.
 use Prim.Native.Nat.{ℕ, zero, suc, ◌+◌, ◌-◌, ◌*◌, ◌^◌, ◌≤◌, ◌<◌}
 use mathlib.Core.Path.{◌≡◌, refl, sym, ◌∙◌, ap}
 use mathlib.Core.Bool.{Bool, true, false, cond}
 use native.Mathlib.Omega.{arith}
-use native.Mathlib.Nat.{le_trans, mul-le-mul_left, pow-suc, one-le-pow}
+use native.Mathlib.Nat.{le_trans, mul-le-mul_left, mul-le-mul_right, pow-suc, one-le-pow}
+use Rattle.std.proofs.Math.Pow.{pow_mono}
 use native.Mathlib.Decide.{dec_le}
 use borrow.Author.Tests.{le-leb, lt-leb, leb-true, leb-false}
 use lib.Dec.{leb, T, leb→le, le→leb, lit<, lit≤}
@@ -14,7 +15,8 @@ use Rattle.arith.specs.Rounding.{End, low, high}
 use Rattle.arith.proofs.Rounding.{divide-ceiling}
 use Rattle.method.specs.Rounded.{step_at, tested, lower_test, upper_test, rate_of}
 use Rattle.method.specs.Brackets.{largest, smallest}
-use Rattle.searchmodel.specs.Bisection.{middle, leaves, halved, after_tests, rate_test, steps_left, is_left, how_many, count_left, most_left, ShortSearch}
+use Rattle.searchmodel.specs.Bisection.{middle, leaves, halved, after_tests, tests_of, tests_made, rate_test, steps_left}
+use Rattle.searchmodel.specs.Bisection.{is_left, how_many, count_left, most_left, ShortSearch}
 use Rattle.searchmodel.specs.declared.StepsLeft.{StepsLeft}
 use Rattle.theory.proofs.general.Search.{largest-found, smallest-found, largest-splits, smallest-splits}
 use Rattle.theory.proofs.curve.RateTests.{tested-anti}
@@ -101,6 +103,42 @@ few-left j p k = rw (count-is p k.order k.most) (go (dec_le (p.last + 1 - p.firs
         let most : 2 ^ j * most_left j ≤ 2 ^ j * (p.last - p.first) = mul-le-mul_left (2 ^ j) (omega (arith, k.order)) in
         omega (arith, most, k.near, (divide-ceiling 22001 (2 ^ j) (one-le-pow j 2 (omega arith))).0)
 
+-- ---- how many tests are made
+
+one-test : (p : StepsLeft) → tests_of p ≤ 1
+one-test p = go (leb p.last p.first)
+  where
+    go : (ended : Bool) → cond ended 0 1 ≤ 1
+    go true = omega arith
+    go false = omega arith
+
+pub tests-within : (e : End) (test : ℕ → Bool) (j : ℕ) → tests_made e test j ≤ j
+unfolding tests_made
+tests-within e test zero = omega arith
+tests-within e test (suc j) = omega (arith, tests-within e test j, one-test (after_tests e test j))
+
+-- after 15 tests one step is left, which is not tested
+no-more : (e : End) (test : ℕ → Bool) (n : ℕ) → tests_of (after_tests e test (15 + n)) ≡ 0
+no-more e test n =
+    let p = after_tests e test (15 + n) in
+    let k = after-halves e test (15 + n) in
+    let d = p.last - p.first in
+    let near : 2 ^ 15 * d ≤ 22000 = le_trans (mul-le-mul_right d (pow_mono {i = 15} {j = 15 + n} (omega arith))) k.near in
+    let alone : p.last ≤ p.first = omega (arith, near) in
+    rw (le-leb p.last p.first alone) refl
+
+past-15 : (e : End) (test : ℕ → Bool) (n : ℕ) → tests_made e test (15 + n) ≤ 15
+unfolding tests_made
+past-15 e test zero = tests-within e test 15
+past-15 e test (suc n) = let is : 15 + suc n ≡ suc (15 + n) = omega arith in rw is (omega (arith, past-15 e test n, no-more e test n))
+
+pub tests-most : (e : End) (test : ℕ → Bool) (j : ℕ) → tests_made e test j ≤ 15
+tests-most e test j = go j (dec_le j 15)
+  where
+    go : (j : ℕ) → Dec (j ≤ 15) → tests_made e test j ≤ 15
+    go j (yes h) = le_trans (tests-within e test j) h
+    go j (no h) = let is : j ≡ 15 + (j - 15) = omega arith in rw is (past-15 e test (j - 15))
+
 -- ---- the rate is among them
 
 -- a test changes at step r and nowhere else: r is the last step that passes, or the first
@@ -185,4 +223,6 @@ module _ (factor : End → ℕ → ℕ) (t : ℕ) where
         left = λ j. record { step = found e; rate = rate-is e; among = is-left (found e) (steps_left factor e t j) (among j) };
         one = count-is p (halved 15).order (halved 15).most ∙ (let q : p.last + 1 - p.first ≡ 1 = omega (arith, alone) in q);
         found = rate-is e ∙ ap step_at (let q : found e ≡ p.first = omega (arith, alone, (among 15).least, (among 15).most) in q);
+        within = tests-within e (rate_test factor e t);
+        most = tests-most e (rate_test factor e t);
       }

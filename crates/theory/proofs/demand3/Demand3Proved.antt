@@ -8,7 +8,7 @@ use native.Mathlib.Omega.{arith}
 use lib.IntN.{pos, ◌+ℤ◌}
 use Rattle.arith.specs.Rounding.{End, low, high}
 use Rattle.arith.proofs.Ends.{from}
-use Rattle.model.specs.Constants.{unit, last_term}
+use Rattle.model.specs.Constants.{unit}
 use Rattle.method.specs.Fraction.{Fraction, ◌*ᶠ◌, whole}
 use Rattle.model.specs.Case.{FileCase}
 use Rattle.model.specs.Limits.{WithinLimits}
@@ -17,6 +17,7 @@ use Rattle.method.specs.Exact as Exact
 use Rattle.method.specs.Rounded as Rounded
 use Rattle.arith.specs.Brackets.{bracket, end_of}
 use Rattle.method.specs.Demand3.{Bounds, In, SquareIn, Given, Demand3}
+use Rattle.method.specs.Promises.{IsRounded}
 use Rattle.method.specs.inner.CurveWithin.{CurveWithin}
 use Rattle.theory.proofs.curve.Bracket.{Bounded}
 use Rattle.theory.proofs.general.Differences.{not-cut}
@@ -34,7 +35,7 @@ bounds {e = low} r h = record { real = r; order = omega (arith, h.is.le) }
 bounds {e = high} r h = record { real = r; order = omega (arith, h.is.le) }
 
 -- and one that counts it in units bounds the figure in units
-in-units : {e : End} {n : ℕ} {x : Fraction} → 0 < x.den → Bounded e unit n x → Bounds e n (whole unit *ᶠ x)
+pub in-units : {e : End} {n : ℕ} {x : Fraction} → 0 < x.den → Bounded e unit n x → Bounds e n (whole unit *ᶠ x)
 in-units r h = bounds (omega (arith, r)) record { is = from h.is (omega arith) }
 
 -- both ends of a bracket bound its figure, or the figure's square
@@ -51,13 +52,6 @@ square-in figure x² r h e = rw (end_is figure e) (bounds r (h e))
 P-uncut : (c : Curve) → CurveWithin c → (t : ℕ) → t ≤ 60 → pos (P c t) ≡ pos c.N +ℤ c.sum t
 unfolding P
 P-uncut c f t h = not-cut (pos c.N +ℤ c.sum t) (omega (arith, f.some, f.least t h))
-
--- "every figure, and the verdict, is that of its rounded working"
-pub record IsRounded (k : FileCase) (given : Given) : Type 0 where
-  pub figures : given.figures ≡ Rounded.figures k
-  pub verdict : given.verdict ≡ Rounded.verdict k
-  pub factor : (e : End) (t : ℕ) → 1 ≤ t → t ≤ last_term → given.factor e t ≡ Rounded.factor (curve k base) e t
-  pub rate : (e : End) (t : ℕ) → 1 ≤ t → t ≤ last_term → given.rate e t ≡ Rounded.zero_rate (curve k base) e t
 
 pub demand3 : (k : FileCase) → WithinLimits k → (given : Given) → IsRounded k given → Demand3 k given
 demand3 k w given is = record {

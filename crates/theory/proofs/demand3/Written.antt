@@ -10,10 +10,10 @@ use Rattle.method.specs.Buffers.{answered, factor_entries, rate_entries, entry_o
 use Rattle.model.specs.Case.{FileCase}
 use Rattle.method.specs.Curve.{base, curve}
 use Rattle.method.specs.Rounded as Rounded
+use Rattle.method.specs.Promises.{IsRounded}
 use Rattle.model.specs.declared.figures.Figures.{Figures}
 use Rattle.model.specs.declared.figures.Verdict.{Verdict}
 use Rattle.model.specs.declared.figures.Valuation.{Valuation}
-use Rattle.theory.proofs.demand3.Demand3Proved.{IsRounded}
 use Rattle.theory.proofs.general.Entries.{lower_in, upper_in, by-term}
 
 -- an answer with figures is of no refusal
@@ -22,11 +22,11 @@ no-refusal None k v e = refl
 no-refusal (Some r) k v e = cc
 
 -- the figures and the verdict of an answer that has them
-abbrev figures_or : Figures → Result Valuation Refusal → Figures
+abbrev pub figures_or : Figures → Result Valuation Refusal → Figures
 figures_or none (Err r) = none
 figures_or none (Ok v) = v.figures
 
-abbrev verdict_or : Verdict → Result Valuation Refusal → Verdict
+abbrev pub verdict_or : Verdict → Result Valuation Refusal → Verdict
 verdict_or none (Err r) = none
 verdict_or none (Ok v) = v.verdict
 

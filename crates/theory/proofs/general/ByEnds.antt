@@ -9,10 +9,6 @@ use Rattle.arith.specs.declared.bracket.Bracket.{Bracket}
 pub by-ends : (f g : End → ℕ) → ((e : End) → f e ≡ g e) → bracket f ≡ bracket g
 by-ends f g h = rw (h low, h high)
 
--- the bracket of two numbers that are known
-pub bracket-by : (a b : ℕ) (f : End → ℕ) → a ≡ f low → b ≡ f high → ◌≡◌ {A = Bracket} (record { lower = a; upper = b }) (bracket f)
-bracket-by a b f h k = rw (h, k)
-
 -- an end of a bracket that is known
 pub end_is : (x : Bracket) (f : End → ℕ) → x ≡ bracket f → (e : End) → end_of x e ≡ f e
 end_is x f p low = ap (λ (y : Bracket). y.lower) p

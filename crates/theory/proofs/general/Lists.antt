@@ -9,8 +9,8 @@ use native.Mathlib.Numerals.{add-one}
 use native.Mathlib.Omega.{arith}
 use borrow.Author.Tests.{leb-true}
 use lib.Dec.{leb}
-use lib.ListN.{length, get_or, take, drop, set, length-append, length-drop, get_or-append}
-use lib.Seq.{take-suc, length-take-le, get_or-drop, get_or_at, ext_get_or, drop-cons, drop-length, append_snoc, set_at}
+use lib.ListN.{length, get_or, drop, set, length-append, get_or-append}
+use lib.Seq.{get_or_at, ext_get_or, drop-cons, drop-length, append_snoc, set_at}
 use Rattle.std.proofs.lemmas.Bool.{and_from}
 use Rattle.std.specs.Cmp.{first_so, second_so}
 use Rattle.model.specs.Numbers.{every, table}
@@ -91,16 +91,6 @@ module _ {A : Type 0} where
       → set out i v ≡ table f (i + 1) ++ drop (i + 1) held
   unfolding table
   table_filled f held out i v h k e = one-filled held out (table f i) i v (length-table f i) h e ∙ rw (add-one, k)
-
-  -- the same of a run of a list, from a position on
-  pub run-filled : (xs held out : List A) (at i : ℕ) (v d : A) → at + i < length xs → i < length held → v ≡ get_or xs (at + i) d
-      → out ≡ take i (drop at xs) ++ drop i held → set out i v ≡ take (i + 1) (drop at xs) ++ drop (i + 1) held
-  run-filled xs held out at i v d l h k e =
-      let long : i < length (drop at xs) = rw length-drop (omega arith) in
-      one-filled held out (take i (drop at xs)) i v (length-take-le i (drop at xs) (omega arith)) h e
-      ∙ ap (λ (y : A). (take i (drop at xs) ++ (y ∷ [])) ++ drop (i + 1) held) (k ∙ sym (get_or-drop at xs i d))
-      ∙ ap (λ (front : List A). front ++ drop (i + 1) held) (sym (take-suc (drop at xs) i d long))
-      ∙ ap (λ (n : ℕ). take n (drop at xs) ++ drop (i + 1) held) (sym (add-one i))
 
   -- a list is the table of its entries
   pub table_of : (xs : List A) (n : ℕ) (d : A) → length xs ≡ n → table (λ i. get_or xs i d) n ≡ xs

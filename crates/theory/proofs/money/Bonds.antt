@@ -13,6 +13,7 @@ use Rattle.method.specs.Exact as Exact
 use Rattle.method.specs.Exact.{G, product_of}
 use Rattle.method.specs.Rounded as Rounded
 use Rattle.method.specs.Rounded.{scaled, figures_of, verdict_of}
+use Rattle.method.specs.Bonds.{adjusted_exact_b, adjusted_b}
 use Rattle.theory.proofs.curve.Changed.{ufr-P}
 use Rattle.theory.proofs.curve.Factor.{factor-to-20, rounded-factor-to-20}
 use Rattle.theory.proofs.money.Worth.{same-worth, same-exact-worth}
@@ -35,19 +36,12 @@ module _ (ufr : ℕ) (k : FileCase) (m : Move) where
   B-any-ufr e = ap (λ (p : ℕ → ℕ). Rounded.worth e (λ t. scaled e (curve k m).N (p t) t) 1 k.bonds) same-P
 
 -- ---- bond flows to term 20
--- B, the figures and the verdict with bond flows at the adjusted factors, as document 01 alone has them
-abbrev adjusted_exact_b : FileCase → Move → Fraction
-adjusted_exact_b k m = Exact.worth (Exact.factor (curve k m)) 1 k.bonds
-
-abbrev adjusted_b : FileCase → Move → End → ℕ
-adjusted_b k m e = Rounded.worth e (Rounded.factor (curve k m) e) 1 k.bonds
-
 module _ (k : FileCase) (short : length k.bonds ≤ 20) where
   pub exact-B-to-20 : (m : Move) → Exact.B k m ≡ adjusted_exact_b k m
   exact-B-to-20 m =
       same-exact-worth 20 (Exact.unadjusted (curve k m)) (Exact.factor (curve k m)) (λ t h. rw (factor-to-20 (curve k m) t h)) 1 k.bonds (omega arith)
 
-  B-at : (m : Move) (e : End) → Rounded.B k m e ≡ adjusted_b k m e
+  pub B-at : (m : Move) (e : End) → Rounded.B k m e ≡ adjusted_b k m e
   B-at m e =
       same-worth 20 e (Rounded.unadjusted (curve k m) e) (Rounded.factor (curve k m) e) (λ t l h. rw (rounded-factor-to-20 (curve k m) e t h)) 1 k.bonds
       (omega arith) (omega arith)

@@ -1,22 +1,12 @@
--- The promises of request Five once more, with each number written where it is used: the rounding as two bounds, and the valuation of every
--- accepted file with 120 months of 4.2 percent. Nothing else rests on this. It is here so that a promise that said less would not give it.
--- Assumes nothing.
+-- The rounding of a mean once more, with each number written where it is used, as two bounds. Nothing else rests on this. It is here so that
+-- a promise that said less would not give it. Assumes nothing.
 use Prim.Native.Nat.{ℕ, ◌+◌, ◌*◌, ◌≤◌, ◌<◌}
 use mathlib.Core.Path.{◌≡◌}
-use mathlib.Core.List.{List}
 use native.Mathlib.Omega.{arith}
-use borrow.Author.Tests.{le-leb}
 use lib.IntN.{ℤ, pos, negsuc, nat_abs, ◌+ℤ◌, ◌-ℤ◌, ◌*ℤ◌}
-use lib.ListN.{length}
-use Rattle.model.specs.Numbers.{Bytes}
-use Rattle.model.specs.Refusals.{refusal}
-use Rattle.method.specs.Buffers.{factors_after, rates_after, valuation_of}
-use Rattle.monthsmodel.specs.Months.{apart, Nearest, ufr_refusal, months_valuation, months_factors_after, months_rates_after, with_ufr_field}
-use Rattle.model.proofs.Computing.{pairs}
-use Rattle.monthsmodel.proofs.Computing.{all}
+use Rattle.monthsmodel.specs.Months.{apart, Nearest}
 use Rattle.theory.proofs.general.Differences.{Diff, again, diff-pos, diff-sum, diff-minus, diff-le}
 use Rattle.theory.proofs.months.Nearest.{diff-apart}
-use Rattle.theory.proofs.months.Valued.{as-if-field}
 
 -- x is z - 12,000 × q; one hundred more takes 12,000 away, and one less adds it
 not-above : (x y : ℤ) (a b : ℕ) → Diff x a b → Diff y a (b + 12000) → nat_abs x ≤ nat_abs y → (nat_abs y ≡ nat_abs x → ⊥) → a < b + 6000
@@ -49,24 +39,3 @@ plain-nearest z q a b c d h k n =
       not-below (z -ℤ pos 12000 *ℤ q) (z -ℤ pos 12000 *ℤ less) (a + 12000 * d) (b + 12000 * c) left below (n.nearest less),
       not-above (z -ℤ pos 12000 *ℤ q) (z -ℤ pos 12000 *ℤ more) (a + 12000 * d) (b + 12000 * c) left above (n.nearest more) no_tie,
     )
-
--- 120 months of 4.2 percent
-abbrev flat : List ℕ
-flat = pairs 120 0x10 0x68
-
-flat-found : (start : ℕ) → start ≤ 119 → ufr_refusal flat start ≡ 0
-unfolding all
-flat-found start l = rw (le-leb start 119 l)
-
-module _ (file : List ℕ) (b : Bytes file) (accepted : refusal file ≡ 0) (start : ℕ) (l : start ≤ 119) (factors : List ℕ) (rates : List ℤ) where
-  flat-answer : months_valuation file flat start (length factors) (length rates) ≡ valuation_of (length factors) (length rates) (with_ufr_field 4200 file)
-  unfolding all
-  flat-answer = (as-if-field file b accepted flat start (flat-found start l) factors rates).answer
-
-  flat-factors : months_factors_after file flat start factors rates ≡ factors_after (with_ufr_field 4200 file) factors rates
-  unfolding all
-  flat-factors = (as-if-field file b accepted flat start (flat-found start l) factors rates).factors_after
-
-  flat-rates : months_rates_after file flat start factors rates ≡ rates_after (with_ufr_field 4200 file) factors rates
-  unfolding all
-  flat-rates = (as-if-field file b accepted flat start (flat-found start l) factors rates).rates_after

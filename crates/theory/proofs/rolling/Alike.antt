@@ -16,32 +16,15 @@ use Rattle.model.specs.Layout.{day}
 use Rattle.model.specs.Refusals.{failing}
 use Rattle.method.specs.Buffers.{factor_entries, rate_entries, written, answered}
 use Rattle.rollingmodel.specs.Rolling.{slot, day_in, days_held, sums_of, rolling_right, add_refusal, drop_refusal, with_day_in, added, dropped, changed}
-use Rattle.rollingmodel.specs.Rolling.{add_day, drop_day, Change, add, drop_oldest, change}
+use Rattle.rollingmodel.specs.Rolling.{add_day, drop_day, Change, add, drop_oldest, change, changed_by}
 use Rattle.rollingmodel.specs.Rolling.{rolling_checks, rolling_valuation, rolling_factors_after, rolling_rates_after}
+use Rattle.rollingmodel.specs.Promises.{Alike, SameAnswers}
 use Rattle.rollingmodel.specs.declared.RollingWindow.{RollingWindow}
 use Rattle.theory.proofs.general.Lists.{table_same}
 use Rattle.theory.proofs.general.Ring.{slot-less}
 use Rattle.theory.proofs.acceptance.Checks.{none-hold}
-use Rattle.theory.proofs.rolling.Held.{held-count, free-slot, held-added, held-dropped}
+use Rattle.theory.proofs.rolling.Held.{held-count, free-slot, added-long, held-added, held-dropped}
 use Rattle.theory.proofs.rolling.Right.{day-whole, right-facts, facts-right}
-
--- the two hold the same days with the same sums, each from some slot of the ring on
-pub record Alike (w v : RollingWindow) : Type 0 where
-  pub start : w.start < 70
-  pub other_start : v.start < 70
-  pub days : days_held w ≡ days_held v
-  pub sums : (t : ℕ) → t < 60 → get_or w.sums t (pos 0) ≡ get_or v.sums t (pos 0)
-
--- no call tells one from the other
-pub record SameAnswers (w v : RollingWindow) : Type 0 where
-  pub right : rolling_right w ≡ rolling_right v
-  pub adding : (new : List ℤ) → add_refusal w new ≡ add_refusal v new
-  pub dropping : drop_refusal w ≡ drop_refusal v
-  pub valuation : (k : FileCase) (factors rates : ℕ) → rolling_valuation w k factors rates ≡ rolling_valuation v k factors rates
-  pub factors_after : (k : FileCase) (factors : List ℕ) (rates : List ℤ)
-      → rolling_factors_after w k factors rates ≡ rolling_factors_after v k factors rates
-  pub rates_after : (k : FileCase) (factors : List ℕ) (rates : List ℤ)
-      → rolling_rates_after w k factors rates ≡ rolling_rates_after v k factors rates
 
 -- ---- the same answers
 
@@ -127,13 +110,34 @@ module _ (w v : RollingWindow) (h : Alike w v) where
       go zero f = f refl
       go (suc r) f = h
 
-  pub change-alike : length w.rates ≡ 4200 → length v.rates ≡ 4200 → (c : Change) → Alike (change w c) (change v c)
+  change-alike : length w.rates ≡ 4200 → length v.rates ≡ 4200 → (c : Change) → Alike (change w c) (change v c)
   unfolding add_day drop_day
   change-alike long other_long (add new) =
       changed-alike (add_refusal w new) (add_refusal v new) (added w new) (added v new) ((alike-answers w v h).adding new)
       (added-alike new long other_long)
   change-alike long other_long drop_oldest =
       changed-alike (drop_refusal w) (drop_refusal v) (dropped w) (dropped v) (alike-answers w v h).dropping (λ e. dropped-alike)
+
+-- the window after a change has the rates of 70 days, as it had
+module _ (w : RollingWindow) (long : length w.rates ≡ 4200) where
+  kept-long : (r : ℕ) (next : RollingWindow) → (r ≡ 0 → length next.rates ≡ 4200) → length (changed r w next).window.rates ≡ 4200
+  kept-long zero next f = f refl
+  kept-long (suc r) next f = long
+
+  change-long : (c : Change) → length (change w c).rates ≡ 4200
+  unfolding add_day drop_day add_refusal dropped
+  change-long (add new) =
+      kept-long (add_refusal w new) (added w new)
+      (λ e. let passed = none-hold ((rolling_right w, Damaged) ∷ (ltb w.count 70, WindowFull) ∷ ((day 2).right new, Rate) ∷ []) e in
+      added-long w new long (day-whole new passed.1.1.0))
+  change-long drop_oldest = kept-long (drop_refusal w) (dropped w) (λ e. long)
+
+pub changes-alike : (cs : List Change) (w v : RollingWindow) → Alike w v → length w.rates ≡ 4200 → length v.rates ≡ 4200
+    → Alike (changed_by w cs) (changed_by v cs)
+unfolding changed_by
+changes-alike [] w v h long other_long = h
+changes-alike (c ∷ cs) w v h long other_long =
+    changes-alike cs (change w c) (change v c) (change-alike w v h long other_long c) (change-long w long c) (change-long v other_long c)
 
 -- ---- a slot that is not held
 

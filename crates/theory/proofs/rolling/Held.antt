@@ -48,9 +48,6 @@ module _ (w : RollingWindow) where
   unfolding days_held
   held-day i h = get_or-table (λ j. day_in w.rates (slot 70 w.start j)) w.count i [] h
 
-  pub held-long : length w.rates ≡ 4200 → (i : ℕ) → i < w.count → length (get_or (days_held w) i []) ≡ 60
-  held-long long i h = ap length (held-day i h) ∙ day-long w.rates (slot 70 w.start i) long (slot-less 70 w.start i (omega arith))
-
 -- ---- after a change
 
 module _ (w : RollingWindow) (new : List ℤ) (long : length w.rates ≡ 4200) where

@@ -19,11 +19,12 @@ use Rattle.refusal.specs.declared.Refusal.TheVariants.{Rate, WindowFull, WindowE
 use Rattle.model.specs.Refusals.{first_of}
 use Rattle.rollingmodel.specs.Rolling.{days_held, empty_window, add_refusal, drop_refusal, added, dropped, changed, add_day, drop_day}
 use Rattle.rollingmodel.specs.Rolling.{Change, add, drop_oldest, change, changed_by, queue, queued_by, HoldsAfter}
+use Rattle.rollingmodel.specs.Promises.{Right, Holds}
 use Rattle.rollingmodel.specs.declared.RollingWindow.{RollingWindow}
 use Rattle.theory.proofs.general.Ring.{slot-less}
 use Rattle.theory.proofs.acceptance.Runs.{right-more}
 use Rattle.theory.proofs.rolling.Held.{held-count, added-long, held-added, held-dropped}
-use Rattle.theory.proofs.rolling.Right.{day-whole, sums_at, Right, facts-right}
+use Rattle.theory.proofs.rolling.Right.{day-whole, sums_at, facts-right}
 
 -- ---- a right window stays right
 
@@ -54,12 +55,7 @@ dropped-right w r = record {
 
 -- ---- a window that is right and holds these days
 
-pub record Holds (w : RollingWindow) (days : List (List ℤ)) : Type 0 where
-  pub long : length w.rates ≡ 4200
-  pub right : Right w
-  pub held : days_held w ≡ days
-
-empty_holds : Holds empty_window []
+pub empty_holds : Holds empty_window []
 unfolding days_held table s
 empty_holds = record {
   long = length-replicate 4200 (pos 0);
@@ -72,7 +68,7 @@ module _ (w : RollingWindow) (days : List (List ℤ)) (h : Holds w days) where
   count-is = ap length (sym h.held) ∙ held-count w
 
   -- a day that finds room and is within the limits is the last of the days; any other leaves the window
-  add_holds : (new : List ℤ) → Holds (change w (add new)) (queue days (add new))
+  pub add_holds : (new : List ℤ) → Holds (change w (add new)) (queue days (add new))
   unfolding add_day add_refusal first_of
   add_holds new =
       let is : add_refusal w new ≡ refused (ltb w.count 70) ((day 2).right new) = rw (facts-right w h.right) in
@@ -94,7 +90,7 @@ module _ (w : RollingWindow) (days : List (List ℤ)) (h : Holds w days) where
             held = held-added w new h.long room (day-whole new f) ∙ ap (λ ds. ds ++ (new ∷ [])) h.held;
           }
 
-  drop-holds : Holds (change w drop_oldest) (queue days drop_oldest)
+  pub drop-holds : Holds (change w drop_oldest) (queue days drop_oldest)
   unfolding drop_day drop_refusal dropped first_of
   drop-holds =
       let is : drop_refusal w ≡ refused (ltb 0 w.count) = rw (facts-right w h.right) in

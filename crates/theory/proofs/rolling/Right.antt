@@ -1,5 +1,5 @@
 -- What a window has that 27 does not refuse, as facts and as a test.
-use Prim.Native.Nat.{ℕ, suc, ◌≤◌, ◌<◌}
+use Prim.Native.Nat.{ℕ, suc, ◌<◌}
 use mathlib.Core.Path.{◌≡◌, sym, ap, subst}
 use mathlib.Core.Bool.{Bool, true, ◌&&◌}
 use mathlib.Core.List.{List}
@@ -17,6 +17,7 @@ use Rattle.model.specs.Case.{s}
 use Rattle.model.specs.Fields.{right_all}
 use Rattle.model.specs.Layout.{daily_rate, day}
 use Rattle.rollingmodel.specs.Rolling.{days_held, sums_of, equal_z, rolling_right}
+use Rattle.rollingmodel.specs.Promises.{Right}
 use Rattle.rollingmodel.specs.declared.RollingWindow.{RollingWindow}
 use Rattle.theory.proofs.general.Lists.{every-at, every-all, get_or-table}
 
@@ -48,12 +49,6 @@ unfolding sums_of
 sums_at days t h = get_or-table (λ i. s days (suc i)) 60 t (pos 0) h
 
 -- ---- a window, both ways
-
-pub record Right (w : RollingWindow) : Type 0 where
-  pub count : w.count ≤ 70
-  pub start : w.start < 70
-  pub days : right_all (day 2) (days_held w) ≡ true
-  pub sums : (t : ℕ) → t < 60 → get_or w.sums t (pos 0) ≡ s (days_held w) (suc t)
 
 module _ (w : RollingWindow) where
   -- the stored sum of term t + 1 and that of the days held

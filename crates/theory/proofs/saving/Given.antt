@@ -1,7 +1,7 @@
 -- Every case within the limits can be handed in: its fields, its days one after another, and its flows give it. So what is said of a
 -- case that a host hands in is said of each such case.
 use mathlib.Core.Path.{◌≡◌, refl, ap, ap₂, ◌∙◌}
-use mathlib.Core.List.{List, [], ◌∷◌, ◌++◌}
+use mathlib.Core.List.{List, [], ◌∷◌}
 use Prim.Native.Nat.{ℕ, suc, ◌*◌, ◌/◌, ◌%◌, ◌<◌}
 use native.Mathlib.Omega.{arith}
 use borrow.Author.Tests.{eq-eqb}
@@ -11,15 +11,7 @@ use lib.IntN.{ℤ}
 use Rattle.model.specs.Case.{FileCase, with_days}
 use Rattle.model.specs.Limits.{WithinLimits}
 use Rattle.savingmodel.specs.Saving.{days_in, days_of, given}
-use Rattle.model.specs.declared.case.CaseFields.{CaseFields}
-
--- the days one after another, and the fields that are no lists
-abbrev pub rates_in : List (List ℤ) → List ℤ
-rates_in [] = []
-rates_in (day ∷ days) = day ++ rates_in days
-
-abbrev pub fields_in : FileCase → CaseFields
-fields_in k = record { rate_bytes = k.rate_bytes; ufr = k.ufr; amounts = k.amounts; shocks = k.shocks; people = k.people }
+use Rattle.savingmodel.specs.Promises.{rates_in, fields_in}
 
 -- each day has 60 rates
 abbrev Whole : List (List ℤ) → Type 0

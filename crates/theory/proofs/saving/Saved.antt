@@ -13,10 +13,10 @@ use Rattle.std.specs.Cmp.{first_so, second_so}
 use Rattle.std.specs.Prelude.{Option, None, Some}
 use Rattle.refusal.specs.Numbered.{number_in}
 use Rattle.refusal.specs.declared.Refusal.{Refusal}
-use Rattle.refusal.specs.declared.Refusal.TheVariants.{WrongFields, FlowCount, Flow, Ufr, Amount, Room}
+use Rattle.refusal.specs.declared.Refusal.TheVariants.{FlowCount, Flow, Ufr, Amount, Room}
 use Rattle.model.specs.Constants.{default_ufr}
 use Rattle.model.specs.Numbers.{bytes_of}
-use Rattle.model.specs.Case.{FileCase, known_form, per_step}
+use Rattle.model.specs.Case.{FileCase, per_step}
 use Rattle.model.specs.Limits.{WithinLimits}
 use Rattle.model.specs.Fields.{Check, Field, number_of, field, counted, optional}
 use Rattle.model.specs.Layout.{flow, amounts_from, amounts_in_order, amounts, no_amounts, shocks, people, Present, map_of, first_fields, layout}
@@ -27,7 +27,7 @@ use Rattle.model.specs.Refusals.{failing, refusal}
 use Rattle.savingmodel.specs.Saving.{all_zero, needed, shortest, case_checks, case_refusal, save_checks, save_refusal}
 use Rattle.theory.proofs.general.Lists.{◌also◌}
 use Rattle.theory.proofs.acceptance.Checks.{hold-append, hold-parts, none-hold, hold-none, none-fails, first-fails, holds-first, fails-first}
-use Rattle.theory.proofs.acceptance.Checks.{below-append, below-if, first_below}
+use Rattle.theory.proofs.acceptance.Checks.{below, below-append, below-if, first_below}
 use Rattle.theory.proofs.acceptance.Encoding.{length-bytes}
 use Rattle.theory.proofs.acceptance.Within.{forwards-true, forwards-test, PartsWithin, PartsLimited, layout-limited, parts-limits, limits-parts}
 use Rattle.theory.proofs.acceptance.Acceptance.{sixth, forwards-within, keeps-accepted}
@@ -60,10 +60,6 @@ agrees-needed k = record {
 -- ---- "a case outside the limits gets document 01's number"
 
 module _ (k : FileCase) where
-  -- "3" of the form, then the fields, then 6
-  abbrev form_check : List Check
-  form_check = (known_form k.rate_bytes, WrongFields) ∷ []
-
   abbrev field_checks : List Check
   field_checks = (layout k.rate_bytes (needed k)).limits (parts_of k)
 
@@ -178,20 +174,23 @@ saved-shortest file x =
 -- ---- "then 14 when the lent buffer is shorter than the bytes needed"
 
 -- no check of a case has the number 14
-under-fourteen : (k : FileCase) → case_refusal k < 14
-unfolding case_refusal case_checks
-under-fourteen k =
+pub case-below : (k : FileCase) → T (below 14 (case_checks k))
+unfolding case_checks
+case-below k =
     let w = k.rate_bytes in
     let p = needed k in
-    first_below 14 (case_checks k) (lit< tt)
-    (below-append 14 ((layout w p).limits (parts_of k)) (sixth k)
+    below-append 14 ((layout w p).limits (parts_of k)) (sixth k)
     (below-append 14 ((first_fields w p).limits (parts_of k).0) ((days_field 4 w).limits (days_if 4 k))
     (below-append 14 ((ufr_field p).limits k.ufr) _ (below-if 14 p.ufr _ tt)
     (below-append 14 ((days_field 2 w).limits (days_if 2 k)) _ (below-if 14 (eqb w 2) _ tt)
     (below-append 14 (pension_field.limits k.pension ++ (bonds_field p).limits k.bonds) _ (below-if 14 p.bonds _ tt)
     (below-append 14 ((amounts_field p).limits k.amounts) _ (below-if 14 p.amounts _ tt) tt))))
     (below-if 14 (eqb w 4) _ tt))
-    tt)
+    tt
+
+under-fourteen : (k : FileCase) → case_refusal k < 14
+unfolding case_refusal
+under-fourteen k = first_below 14 (case_checks k) (lit< tt) (case-below k)
 
 module _ (k : FileCase) (room : ℕ) where
   abbrev room_check : List Check

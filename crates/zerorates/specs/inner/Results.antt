@@ -1,6 +1,6 @@
 -- The two results of a step, which are rounded down and up, and what the searches of a term ask of them.
-use Rattle.std.specs.Prelude.{ℕ, ◌≤◌, Bool}
-use Rattle.std.specs.Ordering.{is_le, is_ge}
+use Rattle.std.specs.Prelude.{◌≡◌, ℕ, ◌≤◌, Bool}
+use Rattle.std.specs.Ordering.{is_le, is_ge, nat_cmp}
 use Rattle.std.specs.declared.cmp.Ordering.{Ordering}
 use Rattle.arith.specs.Rounding.{End, low, high}
 use Rattle.method.specs.Rounded.{tested}
@@ -21,3 +21,7 @@ passing high o = is_le o
 pub record Results (x : Bracket) (t i : ℕ) : Type 0 where
   pub lower : x.lower ≤ tested low t i
   pub upper : tested high t i ≤ x.upper
+
+-- both results of step i compare so with the factor
+pub record BothCompare (o : Ordering) (t i factor : ℕ) : Type 0 where
+  pub by : (e : End) → o ≡ nat_cmp (tested e t i) factor

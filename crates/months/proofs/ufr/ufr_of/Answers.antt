@@ -5,13 +5,17 @@ use Rattle.std.proofs.lemmas.Result.{err_from_is_err_and}
 use Rattle.model.specs.Fields.{right_all, within_z}
 use Rattle.monthsmodel.specs.Months.{month, hundreds, total, rounded_ufr}
 use Rattle.refusal.specs.declared.Refusal.TheVariants.{History}
+use Rattle.theory.proofs.months.Promised.{ufr_call}
 use Rattle.fields.proofs.DayRates.{between-true}
 use Rattle.months.proofs.Means.{Small, all, first, mean-is, rounded, right-more-month, total-more-month, wrong-month, other_length, start-past, month-past, ufr-past, ufr-found}
 use Rattle.months.proofs.Read.{month-read}
 use Rattle.months.proofs.ufr.ufr_of.Goals as goal
 
 pub returns-then-history-ne240 : goal.returns-then-history-ne240
-returns-then-history-ne240 c = other_length c.args.history.now c.args.start c.if-history-ne240.true
+returns-then-history-ne240 c = record {
+  value = other_length c.args.history.now c.args.start c.if-history-ne240.true;
+  call = ufr_call c.args.history.now c.args.start;
+}
 
 pub returns-in_err-ok_or : goal.returns-in_err-ok_or
 returns-in_err-ok_or c =
@@ -20,7 +24,10 @@ returns-in_err-ok_or c =
     let value = rw none at c.in_err-ok_or.ensures.value in
     let told : c.in_err-ok_or.field-0.0 ≡ History = cc in
     let past : c.args.start < 120 → ⊥ = λ l. let some = (rw none at c.new.ensures.right).1 (omega arith, omega (arith, l)) in cc in
-    rw (p.1, p.2, told) (start-past c.args.history.now c.args.start (omega (arith, past)))
+    rw (p.1, p.2, told) record {
+      value = start-past c.args.history.now c.args.start (omega (arith, past));
+      call = ufr_call c.args.history.now c.args.start;
+    }
 
 pub loop-bytes-init : goal.loop-bytes-init
 unfolding total
@@ -34,8 +41,11 @@ returns-then-not-is_rate c =
     let read = to_z-of_z w32 z (record { sfits = c.rate_of-month.type_inv }) in
     let wrong : month.right z ≡ false = rw read at (sym c.is_rate.ensures ∙ c.if-not-is_rate.true) in
     let place = (rw c.in_ok-ok_or.ensures.ok_part at c.new.ensures.right).0 refl in
-    month-past c.args.history.now c.args.start (omega arith) (omega (arith, place.1))
-    (wrong-month c.args.history.now c.loop-bytes.bytes-index few is wrong)
+    record {
+      value = month-past c.args.history.now c.args.start (omega arith) (omega (arith, place.1))
+          (wrong-month c.args.history.now c.loop-bytes.bytes-index few is wrong);
+      call = ufr_call c.args.history.now c.args.start;
+    }
 
 pub loop-bytes-preserved : goal.loop-bytes-preserved
 loop-bytes-preserved c =
@@ -71,7 +81,10 @@ returns-then-not-is_ufr c =
     let right : right_all month (first history 120) ≡ true = rw end at l.invariant.right in
     let past : within_z (pos 0) (pos 5000) ufr ≡ false = sym c.is_ufr.ensures ∙ c.if-not-is_ufr.true in
     let place = (rw c.in_ok-ok_or.ensures.ok_part at c.new.ensures.right).0 refl in
-    ufr-past history c.args.start (omega arith) (omega (arith, place.1)) right (rw is at past)
+    record {
+      value = ufr-past history c.args.start (omega arith) (omega (arith, place.1)) right (rw is at past);
+      call = ufr_call history c.args.start;
+    }
 
 pub returns : goal.returns
 returns c =
@@ -89,4 +102,7 @@ returns c =
     let right : right_all month (first history 120) ≡ true = rw end at l.invariant.right in
     let within : within_z (pos 0) (pos 5000) ufr ≡ true = sym c.is_ufr.ensures ∙ c.if-not-is_ufr.false in
     let place = (rw c.in_ok-ok_or.ensures.ok_part at c.new.ensures.right).0 refl in
-    ufr-found history c.args.start (omega arith) (omega (arith, place.1)) right ufr is (rw is at within)
+    record {
+      value = ufr-found history c.args.start (omega arith) (omega (arith, place.1)) right ufr is (rw is at within);
+      call = ufr_call history c.args.start;
+    }

@@ -16,15 +16,15 @@ guess_rate-guess-requires c =
     guess-within _ _ c.requires (omega arith) c.loop-t.invariant.step_most c.loop-t.invariant.before_most
 
 pub rate_at-requires : goal.rate_at-requires
-rate_at-requires c = first-most _ _ _ c.steps_left-lower.ensures
+rate_at-requires c = first-most _ _ _ c.steps_left.ensures.remain
 
 pub rate_at-requires-in-loop-t : goal.rate_at-requires-in-loop-t
-rate_at-requires-in-loop-t c = first-most _ _ _ c.steps_left-upper.ensures
+rate_at-requires-in-loop-t c = first-most _ _ _ c.steps_left-in-loop-t.ensures.remain
 
 pub loop-t-preserved : goal.loop-t-preserved
 loop-t-preserved c =
-    let lower = c.steps_left-lower.ensures in
-    let upper = c.steps_left-upper.ensures in
+    let lower = c.steps_left.ensures.remain in
+    let upper = c.steps_left-in-loop-t.ensures.remain in
     record {
       long = simp length-set c.loop-t.invariant.long;
       filled = table_filled _ _ _ _ _ (omega arith)

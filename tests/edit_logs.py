@@ -4,8 +4,9 @@ Command line: python3 tests/edit_logs.py [--kept] [--said FILE] [NAME | NAME/EDI
 
 `rt ci` and `rt must-fail` tell only the first line of a refusal. With --said, where FILE has what one of them said, that line is enough for
 an edit of which it shows all that the comment names. Any other edit is put into a copy of the crates, and what `rt check` says there is
-kept in target/must-fail/NAME/EDIT.log; with --kept, the logs that are there are looked at as they are. The copies stand among the temporary
-files: in the checkout `rt ci` would refuse them, as sources that no check reads. Those of a call that was killed are removed by the next.
+kept in target/must-fail/NAME/EDIT.log: of the functions that its comment names, or of the whole crate where it names a statement. With
+--kept, the logs that are there are looked at as they are. The copies stand among the temporary files: in the checkout `rt ci` would refuse
+them, as sources that no check reads. Those of a call that was killed are removed by the next.
 
 An edit that is refused for another reason, because a proof no longer fits it, guards nothing. Ends with 1 if a log is missing, or if a
 statement or a fact of a function that is named has no error in it.
@@ -77,13 +78,23 @@ def write(folder, texts):
             out.write(text)
 
 
+def said_by_check(folder, comment):
+    """What a check says of all that a comment names: of its functions and what they call, in half the time, where it names no statement."""
+    functions = sorted({function for _, function in facts(comment)})
+    if functions and not refusing(comment):
+        status, said = run_rt(folder, "check", *(word for function in functions for word in ("--only", function)))
+        if status != 2:  # with which rt says that it judged nothing
+            return said
+    return run_rt(folder, "check")[1]
+
+
 def make_log(tree, path):
     """Checks a crate of the tree with an edit, keeps what was said, and puts the crate's texts back."""
     crate, name = place(path)
     folder, texts = os.path.join(tree, "crates", crate), edited(path)
     originals = {file: read_text(os.path.join(folder, file)) for file in texts}
     write(folder, texts)
-    said = run_rt(folder, "check")[1]
+    said = said_by_check(folder, parts(read_text(path))[0])
     write(folder, originals)
     os.makedirs(os.path.join(LOGS, crate), exist_ok=True)
     write(os.path.join(LOGS, crate), {f"{name}.log": said})

@@ -2,7 +2,7 @@
 
     python3 tests/gate_times.py --checks [TREE]   measures: checks each crate of TREE (the repository) once, one at a time
 
-It prints processor seconds, user and system together, of `rt check NAME`, each crate after those that it depends on. TREE should be a
+It prints processor seconds, user and system together, of `rt check` in each crate, each after those that it depends on. TREE should be a
 fresh clone, without out/ in its crates: a crate that is already proved costs little. rt also begins with what a check of another
 checkout on this machine kept, so a whole measure is of a machine that has no other; the rows of such crates say so. A row ends with
 (edits + 1) x seconds, which is about what the crate costs the gate.
@@ -47,10 +47,10 @@ def run_check(tree, name):
     """One check: its processor seconds, whether the crate passed it, and what rt said."""
     before = children_seconds()
     try:
-        run = subprocess.run(["rt", "check", name], cwd=tree, env=os.environ | {"RT_JOBS": "1"}, stdin=subprocess.DEVNULL,
+        run = subprocess.run(["rt", "check"], cwd=os.path.join(tree, "crates", name), env=os.environ | {"RT_JOBS": "1"}, stdin=subprocess.DEVNULL,
                              stdout=subprocess.PIPE, stderr=subprocess.STDOUT, encoding="utf-8", errors="replace")
     except OSError as problem:
-        return 0, False, f"rt cannot be run: {problem.strerror}"
+        return 0, False, f"rt cannot be run in crates/{name}: {problem.strerror}"
     return children_seconds() - before, run.returncode == 0, run.stdout
 
 

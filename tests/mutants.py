@@ -29,7 +29,9 @@ Survivors that mean the same as the original are listed in tests/mutants_same.tx
 
 With --stated the theorems, the promises and the functions are left out, since each of these may refuse an edit only because its proof no
 longer fits (tests/stated.py). What survives there no number and no plain use of a promise guards: it is mended by one of these, or
-listed in tests/mutants_stated.txt, likewise, with the reason why none is wanted.
+listed in tests/mutants_stated.txt, likewise, with the reason why none is wanted. The stages are then the computed statements of the edited
+file's crate, that crate, the quick crates above it together, and each crate that takes long; sixteen mutants of a file are tried in one
+check, as copies, and what passes every stage has passed each where nothing was refused.
 
 The programs (ginghamowl, command, report, batch, answers, searches) and their tests (trials) are left out: no host calls them.
 """
@@ -81,7 +83,7 @@ PROGRAMS = {"ginghamowl", "command", "report", "batch", "answers", "searches", "
 # Crates with no function, by what they hold: computed statements beside definitions, theorems, and statements that take long to compute.
 # A refusal by one of them is counted apart.
 APART = {"definitions": DEFINED, "theory": ("theory",),
-         "long": ("twelvecases", "pinned", "accepted", "refusals", "rollingcases", "monthscases", "fourbytecases")}
+         "long": ("twelvecases", "pinned", "refusals", "rollingcases", "monthscases", "fourbytecases", "accepted")}
 LIBRARIES = ("core", "std")  # of the kit, for every crate; crates.txt names others
 TIMEOUT = 180  # seconds for one stage
 
@@ -295,6 +297,13 @@ class Worker:
         return Outcome(SURVIVES)
 
 
+@dataclass
+class Part:
+    """A stage of --stated: some crates, or only their computed statements."""
+    crates: set
+    computed: bool = False
+
+
 class StatedWorker:
     """A tree of definitions and statements alone, in which many mutants are tried in one check, each as copies of what it changes."""
 
@@ -306,24 +315,50 @@ class StatedWorker:
         self.texts = crate_texts(root)
 
     def try_group(self, mutants, keep):
-        """Mutants of one file, stage by stage."""
-        left, path = mutants, mutants[0].path
-        own = path.split("/")[1]
-        for crate in stages(own, self.prover.deps, naming(path, self.texts)):
-            if crate == own or any("/proofs/" in file for file in self.graph.of_stage(path, {crate}) if file.startswith(f"crates/{crate}/")):
-                refused = self.refused(left, {crate})
-                for mutant in [m for m in left if m.key in refused]:
-                    keep(mutant, refused[mutant.key])
-                left = [m for m in left if m.key not in refused]
+        """Mutants of one file, stage by stage. What no stage refuses goes through them once more, where nothing is refused beside it."""
+        left, parts = mutants, self.parts_of(mutants[0].path)
+        for stage, of in ((self.refused_once, parts), (self.refused, [part for part in parts if not part.computed])):
+            for part in of:
+                for batch in batches(left):
+                    refused = stage(batch, part)
+                    for mutant in batch:
+                        if mutant.key in refused:
+                            keep(mutant, refused[mutant.key])
+                            left = [m for m in left if m is not mutant]
         for mutant in left:
             keep(mutant, Outcome(SURVIVES))
 
-    def refused(self, mutants, crates):
+    def parts_of(self, path):
+        """The stages of a mutant of a file: the computed statements of its own crate, that crate, then all crates that are quick together,
+        since each check works out anew what the crates below have, and then each that takes long."""
+        own = path.split("/")[1]
+        above = [crate for crate in stages(own, self.prover.deps, naming(path, self.texts))[1:] if self.states(path, crate)]
+        quick = {crate for crate in above if crate not in APART["long"]}
+        found = [Part({own}, computed=True)] if self.graph.of_stage(path, {own}, computed=True) else []
+        return [*found, Part({own}), *([Part(quick)] if quick else []), *(Part({crate}) for crate in APART["long"] if crate in above)]
+
+    def states(self, path, crate):
+        """Whether a crate has statements above a file."""
+        return any(file.startswith(f"crates/{crate}/proofs/") for file in self.graph.of_stage(path, {crate}))
+
+    def refused_once(self, mutants, part):
+        """{key: outcome} of those that a stage refuses, each in the first check that tells. Of the others it says nothing for sure."""
+        found, queue = {}, batches(mutants)
+        while queue:
+            batch = queue.pop(0)
+            now = self.check(batch, part)
+            if now is None:
+                queue += [batch[:len(batch) // 2], batch[len(batch) // 2:]]
+            else:
+                found |= now
+        return found
+
+    def refused(self, mutants, part):
         """{key: outcome} of those that a stage refuses. The others have passed a check in which nothing was refused."""
         found, queue, unsure = {}, batches(mutants), []
         while queue:
             batch = queue.pop(0)
-            now = self.check(batch, crates)
+            now = self.check(batch, part)
             if now is None and len(batch) > 1:
                 queue += [batch[:len(batch) // 2], batch[len(batch) // 2:]]
             else:
@@ -333,17 +368,17 @@ class StatedWorker:
                 queue, unsure = batches(unsure), []
         return found
 
-    def check(self, batch, crates):
+    def check(self, batch, part):
         """{key: outcome} of those that one check of them all refuses; None where it does not tell."""
         texts, began = {}, time.monotonic()
         for number, mutant in enumerate(batch):
-            texts |= stated.copies(self.graph, mutant, number, crates)
+            texts |= stated.copies(self.graph, mutant, number, part.crates, part.computed)
         prover = self.prover.over(stated.deps_with_copies(self.prover.deps, texts))
         stated.put(self.tree, texts)
         shutil.rmtree(self.incremental, ignore_errors=True)
         copied(self.warm, self.incremental)
         try:
-            status, said = prover.check(self.tree, "all", self.incremental, TIMEOUT + 10 * len(batch))
+            status, said = prover.check(self.tree, "all", self.incremental, TIMEOUT + 10 * len(batch) * len(part.crates))
         finally:
             for crate in {path.split("/")[1] for path in texts}:
                 shutil.rmtree(os.path.join(self.tree, "crates", crate))
@@ -351,13 +386,13 @@ class StatedWorker:
         outcomes = {batch[n].key: outcome for n, outcome in told(said, self.tree).items()} if status == 1 else {}
         for outcome in outcomes.values():
             outcome.seconds = round(taken / len(batch), 1)
-        print(f"{where(batch[0].path)} in {min(crates)}: {len(outcomes)} of {len(batch)} refused (status {status}, {taken:.0f} s)", flush=True)
+        print(f"{where(batch[0].path)} in {min(part.crates)}: {len(outcomes)} of {len(batch)} refused (status {status}, {taken:.0f} s)", flush=True)
         if status == 0 or outcomes:
             return outcomes
         if len(batch) > 1:
             return None
         if status in (None, 3):
-            return {batch[0].key: Outcome(TIME, min(crates), "no verdict")}
+            return {batch[0].key: Outcome(TIME, min(part.crates), "no verdict")}
         raise RuntimeError(f"the prover failed on {batch[0].key} (status {status}): {said[-500:]}")
 
 

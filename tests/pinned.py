@@ -44,7 +44,7 @@ PINNED_HEAD = """\
 -- Numbers of case files and cases as computed statements about the definitions: what an edit of a definition is held against. What takes
 -- longer to compute is in the crates `pinned` and `accepted`.
 """ + WRITTEN + """\
-use Prim.Native.Nat.{ℕ}
+use Prim.Native.Nat.{ℕ, ◌+◌}
 use mathlib.Core.Path.{◌≡◌, refl}
 use mathlib.Core.Bool.{true, false}
 use mathlib.Core.List.{List, [], ◌∷◌, ◌++◌}
@@ -53,11 +53,12 @@ use lib.Dec.{lit<, lit≤}
 use lib.ListN.{replicate}
 use lib.IntN.{pos, neg_ℤ}
 use Rattle.arith.specs.Rounding.{low, high}
+use Rattle.model.specs.Numbers.{table}
 use Rattle.model.specs.Constants.{last_term}
 use Rattle.model.specs.Case.{FileCase, s}
 use Rattle.model.specs.Layout.{file_of}
 use Rattle.method.specs.Fraction.{◌//◌, ◌≐◌, whole}
-use Rattle.method.specs.Curve.{Curve, base, up, down, curve, P}
+use Rattle.method.specs.Curve.{Curve, base, up, down, curve, P, weight}
 use Rattle.method.specs.Exact as Exact
 use Rattle.method.specs.Rounded as Rounded
 use Rattle.method.specs.Buffers.{entry_of, factor_entries}
@@ -492,6 +493,11 @@ def case_statement(name):
     return computed(f"{name}-case", f"case_of {name}_file ≡ {name}_case")
 
 
+def weight_statement():
+    weights = long_list(reference.WEIGHTS.values(), 10, " " * 4)
+    return "-- each weight, terms 21 to 60, in thousandths\n" + computed("weights-by-term", f"table (λ i. weight (21 + i)) 40 ≡ {weights}")
+
+
 def bent_statements():
     case = examples.bent()
     rounded, exact = Rounded(case), ExactCurve(case)
@@ -506,12 +512,12 @@ def bent_statements():
     for t in (21, 60, 61):
         out.append(computed(f"bent-weighed-{t}", *both_ends(
             f"Rounded.weighed bent_curve {{e}} {t}", ends(lambda end: reference.weighed_growth(N, P, case.ufr, t, end)))))
-    for t in (1, 20, 21):
+    for t in (1, 20, 21, 22):
         out.append(computed(f"bent-factor-{t}", *both_ends(f"Rounded.factor bent_curve {{e}} {t}", rounded.factors[t])))
     out.append(computed("bent-entries-21", *both_ends("entry_of (factor_entries bent_case) {e} 21", rounded.factors[21])))
     for t in (1, 2):
         out.append(computed_fraction(f"bent-exact-factor-{t}", f"Exact.factor bent_curve {t}", exact.factor(t)))
-    for t in (61, 120):
+    for t in (60, 61, 120):
         out.append(computed_fraction(f"bent-exact-growth-{t}", f"Exact.growth bent_curve {t}", exact.adjusted_growth(t)))
     return out
 
@@ -702,7 +708,7 @@ def undecided_statements():
 
 
 def pinned():
-    sections = [PINNED_HEAD, *bent_statements()]
+    sections = [PINNED_HEAD, weight_statement(), *bent_statements()]
     for name, case in (("up", examples.up()), ("down", examples.down())):
         sections += fund_statements(name, case)
     sections += bond_statements() + both_fall_statements() + deepest_statements()

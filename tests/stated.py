@@ -168,10 +168,11 @@ class Graph:
             more = {other for other, below in self.imports.items() if below & more} - found
         return found
 
-    def of_stage(self, path, crates):
-        """What has to be checked anew for an edit of a file: what some crates have above it, and what that imports of what is above it."""
+    def of_stage(self, path, crates, computed=False):
+        """What has to be checked anew for an edit of a file: what some crates have above it, or only their computed statements, and what
+        that imports of what is above it."""
         changed = self.above(path)
-        found, more = set(), {other for other in changed if other.split("/")[1] in crates}
+        found, more = set(), {other for other in changed if other.split("/")[1] in crates and (not computed or ("/proofs/" in other and not plain(other)))}
         while more:
             found |= more
             more = {below for other in more for below in self.imports[other] if below in changed} - found
@@ -188,9 +189,9 @@ def renamed(text, modules, number):
     return MODULE.sub(copy, text)
 
 
-def copies(graph, mutant, number, crates):
+def copies(graph, mutant, number, crates, computed=False):
     """{path: text} of the copies that an edit needs: all that has to be checked anew, in crates of their own."""
-    changed = graph.of_stage(mutant.path, crates) | {mutant.path}
+    changed = graph.of_stage(mutant.path, crates, computed) | {mutant.path}
     modules, found, names = {module_of(path) for path in changed}, {}, {}
     for path in sorted(changed):
         crate, kind, inside = path.removeprefix("crates/").removesuffix(".antt").split("/", 2)

@@ -12,6 +12,7 @@ import tempfile
 import time
 import unittest
 from pathlib import Path
+from unittest import mock
 
 sys.path.insert(0, os.path.dirname(os.path.abspath(__file__)))
 import edit_logs
@@ -132,6 +133,20 @@ class Logs(unittest.TestCase):
                   "impl From<Result<u64, Refusal>> for HostUfr {\n    fn from() {\n    }\n}\n")
         self.assertEqual([path for _, path in functions_of(source, "m")],
                          ["m::first", "m::DaysField::read", "m::HostUfrFromResultU64Refusal::from"])
+
+    def said(self, comment, statuses):
+        """The words after `check` of each call of rt, and what is said at the end."""
+        calls = []
+        with mock.patch.object(edit_logs, "run_rt", lambda folder, *words: (calls.append(words[1:]), (statuses[len(calls) - 1], len(calls)))[1]):
+            said = edit_logs.said_by_check("crates/k", comment)
+        return calls, said
+
+    def test_what_is_checked(self):
+        one = "A slip: `returns` of f and `loop-i-init` of a::g no longer hold."
+        self.assertEqual(self.said(one, [1]), ([("--only", "a::g", "--only", "f")], 1))
+        self.assertEqual(self.said(one, [2, 1]), ([("--only", "a::g", "--only", "f"), ()], 2))  # rt knows no such function
+        self.assertEqual(self.said("A slip. Refused by row-one.", [1]), ([()], 1))
+        self.assertEqual(self.said("A slip: `returns` of f no longer holds. Refused by row-one.", [1]), ([()], 1))
 
     def test_a_statement(self):
         self.assertEqual(self.silent("A slip. Refused by c5-factor and c6-factor."), ["c6-factor"])

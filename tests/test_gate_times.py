@@ -22,12 +22,13 @@ low_1: # below high
 # Notes the calls. high works for some time, in a program of its own, and mid2 only waits.
 RT = """#!/bin/sh
 echo "$PWD $* $RT_JOBS" >> "$STAND_IN/calls"
-case $2 in
+name=$(basename "$PWD")
+case $name in
   high) sh -c 'turn=0; while [ $turn -lt 60000 ]; do turn=$((turn + 1)); done' ;;
   mid2) sleep 0.3 ;;
   program) echo 'rt: high: begins with what a check kept in /elsewhere/crates/high' ;;
 esac
-[ ! -e "$STAND_IN/$2" ] || { cat "$STAND_IN/$2"; exit 1; }
+[ ! -e "$STAND_IN/$name" ] || { cat "$STAND_IN/$name"; exit 1; }
 """
 
 
@@ -56,7 +57,8 @@ class Checks(InAFolder):
         super().setUp()
         self.write("bin/rt", RT).chmod(0o755)
         self.write("tree/crates.txt", CRATES)
-        for name in ("low_1/must-fail/a.edit", "low_1/must-fail/b.edit", "low_1/must-fail/notes.txt", "high/must-fail/c.edit"):
+        for name in ("low_1/must-fail/a.edit", "low_1/must-fail/b.edit", "low_1/must-fail/notes.txt", "high/must-fail/c.edit", "mid2/src/lib.rt",
+                     "program/src/lib.rt"):
             self.write(f"tree/crates/{name}", "")
         changes = mock.patch.dict(os.environ, PATH=f"{self.folder}/bin:{os.environ['PATH']}", STAND_IN=f"{self.folder}/bin", RT_JOBS="4")
         changes.start()
@@ -69,7 +71,7 @@ class Checks(InAFolder):
         self.assertEqual([row[:3] for row in rows], [["low_1", "edits", "2"], ["mid2", "edits", "0"], ["high", "edits", "1"],
                                                      ["program", "edits", "0"], ["all", "edits", "3"]])
         calls = (self.folder / "bin/calls").read_text().splitlines()
-        self.assertEqual(calls, [f"{self.folder}/tree check {name} 1" for name in ("low_1", "mid2", "high", "program")])
+        self.assertEqual(calls, [f"{self.folder}/tree/crates/{name} check 1" for name in ("low_1", "mid2", "high", "program")])
         low, mid, high, program, both = ([float(row[3]), float(row[5])] for row in rows)
         self.assertLess(max(low[0], mid[0], program[0]), high[0])  # although to wait for mid2 takes longer
         for (seconds, gate), count in zip((low, mid, high, program), (3, 1, 2, 1)):

@@ -115,6 +115,13 @@ class Tree(unittest.TestCase):
                                                            "crates/code/proofs/inner/Plain.antt"})
         self.assertEqual(graph.of_stage(room, {"code"}), set())
 
+    def test_computed_statements_alone(self):
+        graph, other = stated.Graph(self.tree), "crates/low/specs/Other.antt"
+        self.assertEqual(graph.of_stage(other, {"low"}, computed=True), {other, "crates/low/proofs/Worked.antt"})
+        self.assertEqual(graph.of_stage(other, {"code"}, computed=True),
+                         {other, "crates/code/specs/Shown.antt", "crates/code/proofs/Worked.antt"})
+        self.assertEqual(graph.of_stage("crates/code/specs/Shown.antt", {"low"}, computed=True), set())
+
     def test_copies_name_each_other_and_what_stays(self):
         graph = stated.Graph(self.tree)
         mutant = Mutant("crates/low/specs/inner/Room.antt", "room", "up", "1", 1, "2", 2, "abbrev pub room : ℕ\nroom = 2\n")
@@ -183,6 +190,48 @@ class Batches(unittest.TestCase):
 
     def test_a_check_that_does_not_tell_is_parted(self):
         self.assertEqual(self.tried(4, (2,), most=1), (["2"], [4, 2, 2, 1, 1, 1, 1]))
+
+
+class Stage:
+    """Refuses in a stage what `bad` has for it; those of `hidden` only where nothing else is refused in the same check."""
+
+    def __init__(self, bad, hidden):
+        self.bad, self.hidden, self.tried = bad, hidden, []
+        self.refused_once = lambda batch, part: mutants.StatedWorker.refused_once(self, batch, part)
+        self.refused = lambda batch, part: mutants.StatedWorker.refused(self, batch, part)
+
+    def parts_of(self, path):
+        return [mutants.Part({"model"}, computed=True), mutants.Part({"model"}), mutants.Part({"method", "pinned"})]
+
+    def check(self, batch, part):
+        name = min(part.crates)
+        self.tried.append((name, part.computed, "".join(sorted(batch))))
+        found = [m for m in batch if m in self.bad.get((name, part.computed), ())] or [m for m in batch if m in self.hidden]
+        return {m: mutants.Outcome(mutants.REFUSED, name) for m in found}
+
+
+class Named(Key):
+    path = "crates/model/specs/Case.antt"
+
+
+class Groups(unittest.TestCase):
+    def tried(self, names, bad, hidden=()):
+        worker, kept = Stage(bad, hidden), {}
+        mutants.StatedWorker.try_group(worker, [Named(n) for n in names], lambda mutant, outcome: kept.setdefault(str(mutant), outcome))
+        return {name: (outcome.verdict, outcome.crate) for name, outcome in kept.items()}, worker.tried
+
+    def test_each_stage_is_of_what_is_left(self):
+        kept, tried = self.tried("abcd", {("model", True): "a", ("model", False): "d", ("method", False): "b"})
+        self.assertEqual(kept, {"a": (mutants.REFUSED, "model"), "b": (mutants.REFUSED, "method"), "c": (mutants.SURVIVES, ""),
+                                "d": (mutants.REFUSED, "model")})
+        self.assertEqual(tried, [("model", True, "abcd"), ("model", False, "bcd"), ("method", False, "bc"), ("model", False, "c"),
+                                 ("method", False, "c")])
+
+    def test_a_refusal_that_others_hide(self):
+        kept, tried = self.tried("abcd", {("model", True): "a", ("model", False): "d", ("method", False): "c"}, hidden="b")
+        self.assertEqual(kept, {"a": (mutants.REFUSED, "model"), "b": (mutants.REFUSED, "model"), "c": (mutants.REFUSED, "method"),
+                                "d": (mutants.REFUSED, "model")})
+        self.assertEqual(tried, [("model", True, "abcd"), ("model", False, "bcd"), ("method", False, "bc"), ("model", False, "b")])
 
 
 if __name__ == "__main__":

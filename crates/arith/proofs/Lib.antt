@@ -5,3 +5,4 @@ pub mod Ends
 pub mod LongDivision
 pub mod Roots
 pub mod Worked
+pub mod Plain

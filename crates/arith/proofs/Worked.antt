@@ -1,8 +1,10 @@
 -- The rounded quotient and the rounded root at numbers, each computed. Assumes nothing.
-use Prim.Native.Nat.{◌+◌, ◌^◌}
+use Prim.Native.Nat.{ℕ, zero, suc, ◌+◌, ◌*◌, ◌^◌, ◌≤◌}
 use mathlib.Core.Path.{◌≡◌, refl}
+use lib.Dec.{lit≤}
+use native.Mathlib.Omega.{arith}
 use Rattle.arith.specs.Rounding.{low, high, divide}
-use Rattle.arith.specs.Root.{root}
+use Rattle.arith.specs.Root.{root, FloorRoot, CeilingRoot}
 
 -- 7 ÷ 2 lies between 3 and 4
 quotient-between : (divide low 7 2 ≡ 3) × (divide high 7 2 ≡ 4)
@@ -43,3 +45,38 @@ root-fraction = (refl, refl, refl, refl, refl, refl)
 root-large : (root low (10 ^ 60) 1 ≡ 10 ^ 30) × (root high (10 ^ 60 + 1) 1 ≡ 10 ^ 30 + 1)
 unfolding root
 root-large = (refl, refl)
+
+-- what a root is, rounded down: of a square, of one less than the next, and of a fraction
+floor-root : FloorRoot 9 1 3 × FloorRoot 15 1 3 × FloorRoot 18 2 3
+floor-root = (
+  record { reaches = lit≤ tt; last = lit≤ tt },
+  record { reaches = lit≤ tt; last = lit≤ tt },
+  record { reaches = lit≤ tt; last = lit≤ tt },
+)
+
+-- rounded up: of the same square, of one more, and of the same fraction
+ceiling-root : CeilingRoot 9 1 3 × CeilingRoot 10 1 4 × CeilingRoot 18 2 3
+ceiling-root = (
+  record { covers = lit≤ tt; first = nine },
+  record { covers = lit≤ tt; first = ten },
+  record { covers = lit≤ tt; first = eighteen },
+)
+  where
+    nine : (m : ℕ) → 9 ≤ m * m * 1 → 3 ≤ m
+    nine zero h = omega (arith, h)
+    nine (suc zero) h = omega (arith, h)
+    nine (suc (suc zero)) h = omega (arith, h)
+    nine (suc (suc (suc m))) h = omega arith
+
+    ten : (m : ℕ) → 10 ≤ m * m * 1 → 4 ≤ m
+    ten zero h = omega (arith, h)
+    ten (suc zero) h = omega (arith, h)
+    ten (suc (suc zero)) h = omega (arith, h)
+    ten (suc (suc (suc zero))) h = omega (arith, h)
+    ten (suc (suc (suc (suc m)))) h = omega arith
+
+    eighteen : (m : ℕ) → 18 ≤ m * m * 2 → 3 ≤ m
+    eighteen zero h = omega (arith, h)
+    eighteen (suc zero) h = omega (arith, h)
+    eighteen (suc (suc zero)) h = omega (arith, h)
+    eighteen (suc (suc (suc m))) h = omega arith

@@ -2,7 +2,7 @@
 -- longer to compute is in the crates `pinned` and `accepted`.
 -- tests/pinned.py wrote this file, from an implementation in Python that was written from the papers and, for request Six, from the
 -- readings that its first lines name (tests/reference.py): change that, not this. Assumes nothing.
-use Prim.Native.Nat.{ℕ}
+use Prim.Native.Nat.{ℕ, ◌+◌}
 use mathlib.Core.Path.{◌≡◌, refl}
 use mathlib.Core.Bool.{true, false}
 use mathlib.Core.List.{List, [], ◌∷◌, ◌++◌}
@@ -11,11 +11,12 @@ use lib.Dec.{lit<, lit≤}
 use lib.ListN.{replicate}
 use lib.IntN.{pos, neg_ℤ}
 use Rattle.arith.specs.Rounding.{low, high}
+use Rattle.model.specs.Numbers.{table}
 use Rattle.model.specs.Constants.{last_term}
 use Rattle.model.specs.Case.{FileCase, s}
 use Rattle.model.specs.Layout.{file_of}
 use Rattle.method.specs.Fraction.{◌//◌, ◌≐◌, whole}
-use Rattle.method.specs.Curve.{Curve, base, up, down, curve, P}
+use Rattle.method.specs.Curve.{Curve, base, up, down, curve, P, weight}
 use Rattle.method.specs.Exact as Exact
 use Rattle.method.specs.Rounded as Rounded
 use Rattle.method.specs.Buffers.{entry_of, factor_entries}
@@ -34,6 +35,15 @@ use Rattle.method.specs.Listing.{ascii, word}
 use Rattle.model.specs.declared.figures.Verdict.TheVariants.{Dekkingstekort, Reservetekort, VrijVermogen}
 use Rattle.model.proofs.Computing.{pairs}
 use Rattle.method.proofs.Computing.{all}
+
+-- each weight, terms 21 to 60, in thousandths
+weights-by-term : table (λ i. weight (21 + i)) 40 ≡ 86 ∷ 186 ∷ 274 ∷ 351 ∷ 420 ∷ 481 ∷ 536 ∷ 584 ∷ 628 ∷ 666
+    ∷ 701 ∷ 732 ∷ 760 ∷ 785 ∷ 808 ∷ 828 ∷ 846 ∷ 863 ∷ 878 ∷ 891
+    ∷ 903 ∷ 914 ∷ 923 ∷ 932 ∷ 940 ∷ 947 ∷ 954 ∷ 960 ∷ 965 ∷ 970
+    ∷ 974 ∷ 978 ∷ 982 ∷ 985 ∷ 988 ∷ 990 ∷ 993 ∷ 995 ∷ 997 ∷ 998
+    ∷ []
+unfolding all
+weights-by-term = refl
 
 -- A bent curve of three days: the rates rise, fall, rise and fall with the term, and the short ones are negative.
 abbrev pub bent_file : List ℕ
@@ -156,6 +166,11 @@ bent-factor-21 : (Rounded.factor bent_curve low 21 ≡ 917880681054)
 unfolding all
 bent-factor-21 = (refl, refl)
 
+bent-factor-22 : (Rounded.factor bent_curve low 22 ≡ 911673602049)
+    × (Rounded.factor bent_curve high 22 ≡ 911673602105)
+unfolding all
+bent-factor-22 = (refl, refl)
+
 bent-entries-21 : (entry_of (factor_entries bent_case) low 21 ≡ 917880681054)
     × (entry_of (factor_entries bent_case) high 21 ≡ 917880681093)
 unfolding all
@@ -168,6 +183,10 @@ bent-exact-factor-1 = (lit< tt, lit< tt, refl)
 bent-exact-factor-2 : Exact.factor bent_curve 2 ≐ 10000000000 // 9952656169
 unfolding all
 bent-exact-factor-2 = (lit< tt, lit< tt, refl)
+
+bent-exact-growth-60 : Exact.growth bent_curve 60 ≐ 30713346097476053847218470034110652168611231357108743377869639218509336914967625919076309097026639755663878472405455288614483111103506753210297463153753496229783172139600966375938218476717854714151164605066782290088108277390727636388973868501076221257472601159886439478341099679218763255238924426002759155393675408410954968944992113 // 29443955915858441408310787055741492216376982753922872943594719727089142180986111033948522287094960293452691672086962716923209740679009018954325117657484859555609098431489986126159371082124350153975210765808899712755294734385774295605855261793320761336565691563791894600205077400426599915922276414215911050870918599416374886400000000
+unfolding all
+bent-exact-growth-60 = (lit< tt, lit< tt, refl)
 
 bent-exact-growth-61 : Exact.growth bent_curve 61 ≐ 104321 // 100000
 unfolding all

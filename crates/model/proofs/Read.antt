@@ -5,8 +5,8 @@ use mathlib.Core.List.{List, [], ◌∷◌, ◌++◌}
 use lib.ListN.{replicate}
 use lib.IntN.{pos, neg_ℤ}
 use Rattle.refusal.specs.declared.Refusal.TheVariants.{FlowCount, Flow}
-use Rattle.model.specs.Numbers.{number, twos_complement}
-use Rattle.model.specs.Case.{all_except_currency}
+use Rattle.model.specs.Numbers.{number, twos_complement, unsigned}
+use Rattle.model.specs.Case.{all_except_currency, s}
 use Rattle.model.specs.Fields.{number_of, counted}
 use Rattle.model.specs.Layout.{case_of}
 use Rattle.model.specs.Refusals.{first_of}
@@ -20,9 +20,19 @@ c3-number : twos_complement 2 (number (0xfe ∷ 0x0c ∷ []) 0 2) ≡ neg_ℤ (p
 unfolding all
 c3-number = refl
 
+-- and back: 65,036 is 0xfe0c
+c3-unsigned : unsigned 2 (neg_ℤ (pos 500)) ≡ 65036
+unfolding all
+c3-unsigned = refl
+
 low-days : (case_of low_file).days ≡ replicate 60 (neg_ℤ (pos 500)) ∷ []
 unfolding all
 low-days = refl
+
+-- a rate that a day does not have counts as 0; each day of a case has sixty
+past-the-day : s ((pos 7 ∷ []) ∷ []) 2 ≡ pos 0
+unfolding all
+past-the-day = refl
 
 default-ufr : (case_of low_file).ufr ≡ 4200
 unfolding all

@@ -252,6 +252,16 @@ module _ (file : List ℕ) (c : FiguresCall file) where
       let g = figures_given v (case_of file) in
       (money-held (case_of file) g (c.demand3 v e), undecided-near (case_of file) g (c.demand3 v e))
 
+  factors-alone : (v : Valuation) → answered (failing (checks file)) (case_of file) ≡ Ok v → (t : ℕ) → 0 < t → t < 121
+      → Held 1000000000000 (Rounded.factor (curve (case_of file) base) low t) (Rounded.factor (curve (case_of file) base) high t)
+      (Exact.factor (curve (case_of file) base) t)
+  factors-alone v e = factor-held (case_of file) (figures_given v (case_of file)) (c.demand3 v e)
+
+  rates-alone : (v : Valuation) → answered (failing (checks file)) (case_of file) ≡ Ok v → (t : ℕ) → 0 < t → t < 121
+      → Compounds (Rounded.zero_rate (curve (case_of file) base) low t) (Rounded.zero_rate (curve (case_of file) base) high t) t
+      (Exact.product (curve (case_of file) base) t)
+  rates-alone v e = rate-held (case_of file) (figures_given v (case_of file)) (c.demand3 v e)
+
 -- ---- what is promised of every call: with no premise on the buffers, and after every refusal
 
 every-call : EveryCall → (file factors : List ℕ) (rates : List ℤ) → ((i : ℕ) → get_or file i 0 < 256) → Call file factors rates

@@ -19,7 +19,7 @@ use Rattle.model.specs.Refusals.{failing, refusal}
 use Rattle.method.specs.Buffers.{factors_after, rates_after, valuation_of, valuation_checks, refusal_number}
 use Rattle.method.specs.Promises.{CaseValued}
 use Rattle.monthsmodel.specs.Months.{months_of, oldest_first, total, hundreds, Nearest, rounded_ufr, history_checks, ufr_refusal, ufr_found, ufr_answer}
-use Rattle.monthsmodel.specs.Months.{months_checks, months_refusal, months_valuation, months_factors_after, months_rates_after}
+use Rattle.monthsmodel.specs.Months.{months_checks, months_refusal, months_case, months_valuation, months_factors_after, months_rates_after}
 use Rattle.monthsmodel.specs.Months.{with_ufr_field, ValuedWithField}
 use Rattle.monthsmodel.specs.Promises.{RoundedToHundred, SumFromAnyMonth, HistoryAccepted, HistoryAcceptedExactly, UfrFound, UfrFoundOfAll}
 use Rattle.monthsmodel.specs.Promises.{OwnNumbersFirst, FileWithFieldAccepted, MonthsValuedWithField, MonthsAcceptedExactly, MonthsKeepDemand3}
@@ -147,12 +147,16 @@ accepted-months p file b history start factors rates e =
     let a = (p.exactly file b history start factors rates).0 e in
     (omega (arith, a.factors_enough), omega (arith, a.rates_enough), a.keeps, a.ring.long, omega (arith, a.ring.place))
 
+-- the case that is valued: that of the file, with the UFR found
+case-valued : (file history : List ℕ) → months_case file history ≡ with_ufr (ufr_found history) (case_of file)
+case-valued file history = refl
+
 months-demand3 : MonthsKeepDemand3 → (file history : List ℕ) (start : ℕ) (factors : List ℕ) (rates : List ℤ) (v : Valuation)
     → months_valuation file history start (length factors) (length rates) ≡ Ok v
-    → WidthsKept (with_ufr (ufr_found history) (case_of file)) v (months_factors_after file history start factors rates)
+    → WidthsKept (months_case file history) v (months_factors_after file history start factors rates)
     (months_rates_after file history start factors rates)
 months-demand3 p file history start factors rates v e =
-    widths-kept (with_ufr (ufr_found history) (case_of file)) v (months_factors_after file history start factors rates)
+    widths-kept (months_case file history) v (months_factors_after file history start factors rates)
     (months_rates_after file history start factors rates) (p.kept file history start factors rates v e)
 
 -- a refusal, whatever it is
@@ -185,7 +189,7 @@ module _ (file history : List ℕ) (start : ℕ) (factors : List ℕ) (rates : L
   valued-months : 240 ≤ length factors → 240 ≤ length rates → Keeps file → HistoryAccepted history start
       → (refusal_number (months_valuation file history start (length factors) (length rates)) ≡ 0)
       × FoundFacts history start
-      × CaseValued (with_ufr (ufr_found history) (case_of file)) (months_valuation file history start (length factors) (length rates))
+      × CaseValued (months_case file history) (months_valuation file history start (length factors) (length rates))
       factors (months_factors_after file history start factors rates) rates (months_rates_after file history start factors rates)
   valued-months long other_long k h =
       let e = c.exactly.1 record { factors_enough = long; rates_enough = other_long; keeps = k; ring = h } in

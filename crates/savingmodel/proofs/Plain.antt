@@ -1,6 +1,7 @@
 -- Each promise of specs/Promises.antt used once in plain numbers, at its largest and its smallest. Nothing else rests on this: a promise that
 -- said less would not give it. Assumes nothing.
-use Rattle.std.proofs.Common.{ℕ, ◌≡◌, ◌≤◌, ◌<◌, ◌+◌, List, length, take, drop, Some, Ok, Err, refl, ap, subst, ◌∙◌, arith}
+use Rattle.std.proofs.Common.{ℕ, ◌≡◌, ◌≤◌, ◌<◌, ◌+◌, List, [], ◌∷◌, length, take, drop, Some, Ok, Err, refl, subst, ◌∙◌, arith}
+use lib.IntN.{pos}
 use Rattle.refusal.specs.Numbered.{refused_by}
 use Rattle.refusal.specs.declared.Refusal.{Refusal}
 use Rattle.refusal.specs.declared.Refusal.TheVariants.{Ufr, Room}
@@ -8,11 +9,12 @@ use Rattle.model.specs.Case.{FileCase}
 use Rattle.model.specs.Layout.{Keeps, case_of}
 use Rattle.model.specs.Limits.{WithinLimits}
 use Rattle.model.specs.Refusals.{failing, refusal}
+use Rattle.model.specs.declared.case.CaseFields.{CaseFields}
 use Rattle.savingmodel.specs.Saving.{given, shortest, case_checks, case_refusal, save_checks, save_refusal, save_answer, saved_after}
 use Rattle.savingmodel.specs.Promises.{SavedBytesGiveTheCase, SameBytesExactlyWhenEqual, NoFileOfTheCaseIsShorter}
 use Rattle.savingmodel.specs.Promises.{CaseRefusedExactlyOutsideLimits, OwnRefusalFirst, FourteenExactlyForWantOfRoom}
 use Rattle.savingmodel.specs.Promises.{RefusedSaveChangesNothing, SavedWhereThereIsRoom, EveryCaseCanBeHandedIn, SavedFilesAreShort}
-use Rattle.savingmodel.specs.Promises.{rates_in, fields_in, EverySaveCall}
+use Rattle.savingmodel.specs.Promises.{rates_in, EverySaveCall}
 
 -- every case within the limits is read back, field by field
 saved-and-read : SavedBytesGiveTheCase → (k : FileCase) → WithinLimits k → (refusal (shortest k) ≡ 0) × ((case_of (shortest k)).ufr ≡ k.ufr)
@@ -61,19 +63,26 @@ kept-by-definition k held r h = rw h
 -- a buffer that is just long enough
 saved-just-fits : SavedWhereThereIsRoom → (k : FileCase) (held : List ℕ) → WithinLimits k → length held ≡ length (shortest k)
     → (save_answer k (length held) ≡ Ok (length (shortest k))) × (take (length (shortest k)) (saved_after k held) ≡ shortest k)
+    × (drop (length (shortest k)) (saved_after k held) ≡ drop (length (shortest k)) held)
 saved-just-fits p k held w h =
-    (p.answer k (length held) w (omega (arith, h)), p.front k held w (omega (arith, h)))
+    (p.answer k (length held) w (omega (arith, h)), p.front k held w (omega (arith, h)), p.later k held w (omega (arith, h)))
 
 -- the last byte of a buffer that is one byte too long
 last-byte-kept : SavedWhereThereIsRoom → (k : FileCase) (held : List ℕ) → WithinLimits k → length held ≡ length (shortest k) + 1
     → drop (length (shortest k)) (saved_after k held) ≡ drop (length (shortest k)) held
 last-byte-kept p k held w h = p.later k held w (omega (arith, h))
 
--- the days in order, and every field
+-- one day after another, and each day's rates in order
+rates-in-order : rates_in ((pos 1 ∷ pos 2 ∷ []) ∷ (pos 3 ∷ []) ∷ []) ≡ pos 1 ∷ pos 2 ∷ pos 3 ∷ []
+rates-in-order = refl
+
+-- the fields that are no lists, each in its place, the days in order, and both lists of flows
+abbrev fields_beside_lists : FileCase → CaseFields
+fields_beside_lists k = record { rate_bytes = k.rate_bytes; ufr = k.ufr; amounts = k.amounts; shocks = k.shocks; people = k.people }
+
 handed-in : EveryCaseCanBeHandedIn → (k : FileCase) → WithinLimits k
-    → ((given (fields_in k) (rates_in k.days) k.pension k.bonds).days ≡ k.days)
-    × ((given (fields_in k) (rates_in k.days) k.pension k.bonds).amounts ≡ k.amounts)
-handed-in p k w = (ap (λ (j : FileCase). j.days) (p.handed_in k w), ap (λ (j : FileCase). j.amounts) (p.handed_in k w))
+    → given (fields_beside_lists k) (rates_in k.days) k.pension k.bonds ≡ k
+handed-in p k w = p.handed_in k w
 
 -- a buffer of 17,623 bytes is long enough
 saved-in-the-longest : SavedFilesAreShort → (k : FileCase) → WithinLimits k → length (shortest k) ≤ 17623

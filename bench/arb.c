@@ -11,7 +11,7 @@ enum { BITS = 64 };
 static void set_mean(arb_t mean, const struct fund *fund, int64_t shift, int t)
 {
     arb_set_ui(mean, p_of(fund, shift, t));
-    arb_div_ui(mean, mean, STEPS * fund->n, BITS);
+    arb_div_ui(mean, mean, n_of(fund), BITS);
 }
 
 /* (N / P(t))^t: a factor up to term 20, where the growths multiply to (1 + R(t))^t, and that of a bond at every term. */

@@ -1,4 +1,5 @@
-/* Times the engine beside plain C, C with the filter, GMP and Arb.
+/* Times the engine beside plain C, C with the filter, C with the ratio, GMP and Arb; compiled with BEFORE, also
+ * beside the engine of another commit, which is linked with ginghamowl_value under the name before_value.
  *
  *   bench time FILE..         checks each file, then prints the table
  *   bench check FILE..        only checks
@@ -7,11 +8,12 @@
  *   bench count WORK FILE R   does the work R times and prints nothing, for callgrind
  *   bench stack WORK FILE     prints the bytes of stack that the work touches
  *
- * WORK is engine, plain or filter (a valuation), checks (the engine's checks of the file), saving (its case, saved by the engine),
- * or of a rolling window with the file's days: adding (the last of them), dropping (the first), rolling (its valuation with the
- * case) or window (only refusal 27's check of it, by a valuation without buffers); of a history of months, whose UFR is 4,200: ufr
- * (finding it) or months (a valuation of the file with it). A file with four-byte days goes only with count and stack, and only with
- * engine, checks, ufr and months: plain C, GMP and Arb read two-byte days, and a window holds them.
+ * WORK is engine, before, plain, filter or ratio (a valuation), checks (the engine's checks of the file), saving (its
+ * case, saved by the engine), or of a rolling window with the file's days: adding (the last of them), dropping (the
+ * first), rolling (its valuation with the case) or window (only refusal 27's check of it, by a valuation without
+ * buffers); of a history of months, whose UFR is 4,200: ufr (finding it) or months (a valuation of the file with it). A
+ * file with four-byte days does not go with parts, nor with saving and the works of a window, whose days have two
+ * bytes.
  *
  * No time is asserted. The exit status is 1 where any result differs. */
 #define _XOPEN_SOURCE 700 /* clock_gettime and makecontext */
@@ -110,15 +112,9 @@ static void load(const char *path)
 static void require_two_byte_days(void)
 {
     if (has_four_byte_days()) {
-        fprintf(stderr, "%s: has four-byte days, which only the engine reads\n", loaded.name);
+        fprintf(stderr, "%s: has four-byte days, and a rolling window holds two-byte days\n", loaded.name);
         exit(2);
     }
-}
-
-static void load_two_byte_days(const char *path)
-{
-    load(path);
-    require_two_byte_days();
 }
 
 /* ---------------------------------------------------------------- what is timed */
@@ -132,6 +128,17 @@ static void engine(const struct input *input)
                                         GINGHAMOWL_ENTRIES);
 }
 
+#ifdef BEFORE
+ginghamowl_valuation before_value(const uint8_t *file, size_t file_length, uint64_t *factors, size_t factors_length,
+                                  int64_t *rates, size_t rates_length);
+
+static void engine_before(const struct input *input)
+{
+    latest.valuation = before_value(input->bytes, input->length, latest.factors, GINGHAMOWL_ENTRIES, latest.rates,
+                                    GINGHAMOWL_ENTRIES);
+}
+#endif
+
 static void plain(const struct input *input)
 {
     latest.valuation = plain_value(input->bytes, latest.factors, latest.rates);
@@ -139,7 +146,12 @@ static void plain(const struct input *input)
 
 static void filter(const struct input *input)
 {
-    latest.valuation = filter_value(input->bytes, latest.factors, latest.rates);
+    latest.valuation = filter_value(&plain_years, input->bytes, latest.factors, latest.rates);
+}
+
+static void ratio(const struct input *input)
+{
+    latest.valuation = filter_value(&ratio_years, input->bytes, latest.factors, latest.rates);
 }
 
 static void gmp(const struct input *input) { gmp_run(input->bytes); }
@@ -207,15 +219,18 @@ static void engine_months(const struct input *input)
 
 static void plain_reading(const struct input *input) { read_fund(input->bytes, &latest_fund); }
 
-static void plain_curves(const struct input *input)
+static void curves(const struct years *years, const struct input *input)
 {
     uint64_t bond_factors[BOND_ENTRIES];
     plain_reading(input);
     for (int curve = DOWN; curve >= BASE; curve--) {
-        plain_factors(&latest_fund, shift_of(&latest_fund, curve), latest.factors);
-        plain_bond_factors(&latest_fund, shift_of(&latest_fund, curve), latest.factors, bond_factors);
+        plain_factors(years, &latest_fund, shift_of(&latest_fund, curve), latest.factors);
+        plain_bond_factors(years, &latest_fund, shift_of(&latest_fund, curve), latest.factors, bond_factors);
     }
 }
+
+static void plain_curves(const struct input *input) { curves(&plain_years, input); }
+static void ratio_curves(const struct input *input) { curves(&ratio_years, input); }
 
 static void plain_curves_and_rates(const struct input *input)
 {
@@ -226,7 +241,13 @@ static void plain_curves_and_rates(const struct input *input)
 static void filter_curves_and_rates(const struct input *input)
 {
     plain_curves(input);
-    filter_rates(latest.factors, latest.rates);
+    filter_rates(&plain_years, latest.factors, latest.rates);
+}
+
+static void ratio_curves_and_rates(const struct input *input)
+{
+    ratio_curves(input);
+    filter_rates(&ratio_years, latest.factors, latest.rates);
 }
 
 struct work {
@@ -235,17 +256,38 @@ struct work {
     const char *remark;
 };
 
-enum { PLAIN = 1, FILTER = 2, PROGRAMS = 5, PARTS = 15 };
+/* The programs, first those with a whole valuation. */
+enum {
+    ENGINE,
+#ifdef BEFORE
+    ENGINE_BEFORE,
+#endif
+    PLAIN, FILTER, RATIO, GMP, ARB, PROGRAMS
+};
 static const struct work programs[PROGRAMS] = {
-    {"engine", engine, "whole valuation, with the checks of the file; proved"},
-    {"plain C", plain, "whole valuation, without the checks of the file"},
-    {"C with the filter", filter, "whole valuation, without the checks of the file"},
-    {"GMP", gmp, "only the exact factors of 3 curves"},
-    {"Arb", arb, "only the factors of 3 curves and the zero rates"}};
+    [ENGINE] = {"engine", engine, "whole valuation, with the checks of the file; proved"},
+#ifdef BEFORE
+    [ENGINE_BEFORE] = {"engine before", engine_before, "the same, by the archive of another commit"},
+#endif
+    [PLAIN] = {"plain C", plain, "whole valuation, without the checks of the file"},
+    [FILTER] = {"C with the filter", filter, "whole valuation, without the checks of the file"},
+    [RATIO] = {"C with the ratio", ratio, "whole valuation, without the checks of the file"},
+    [GMP] = {"GMP", gmp, "only the exact factors of 3 curves"},
+    [ARB] = {"Arb", arb, "only the factors of 3 curves and the zero rates"}};
+/* The programs in whose time the times of all are told. */
+static const int yardsticks[] = {
+    PLAIN,
+#ifdef BEFORE
+    ENGINE_BEFORE,
+#endif
+};
+
+enum { PARTS = 18 };
 static const struct work parts[PARTS] = {
     {"engine: whole valuation", engine, ""},
     {"plain C: whole valuation", plain, ""},
     {"C with the filter: whole valuation", filter, ""},
+    {"C with the ratio: whole valuation", ratio, ""},
     {"engine: the checks of the file alone", engine_checks, ""},
     {"engine: saving the case", engine_saving, ""},
     {"engine: adding a day to a window", engine_adding, ""},
@@ -257,16 +299,21 @@ static const struct work parts[PARTS] = {
     {"plain C: reading", plain_reading, ""},
     {"plain C: reading, 3 curves", plain_curves, ""},
     {"plain C: reading, 3 curves, zero rates", plain_curves_and_rates, ""},
-    {"C with the filter: reading, 3 curves, zero rates", filter_curves_and_rates, ""}};
+    {"C with the filter: reading, 3 curves, zero rates", filter_curves_and_rates, ""},
+    {"C with the ratio: reading, 3 curves", ratio_curves, ""},
+    {"C with the ratio: reading, 3 curves, zero rates", ratio_curves_and_rates, ""}};
 
 /* The works that are counted, by name. */
 static const struct work *work_named(const char *name)
 {
     static const struct work counted[] = {
-        {"engine", engine, ""},            {"plain", plain, ""},            {"filter", filter, ""},
-        {"checks", engine_checks, ""},     {"saving", engine_saving, ""},   {"adding", engine_adding, ""},
-        {"dropping", engine_dropping, ""}, {"rolling", engine_rolling, ""}, {"window", engine_window, ""},
-        {"ufr", engine_ufr, ""},           {"months", engine_months, ""}};
+#ifdef BEFORE
+        {"before", engine_before, ""},
+#endif
+        {"engine", engine, ""},        {"plain", plain, ""},              {"filter", filter, ""},
+        {"ratio", ratio, ""},          {"checks", engine_checks, ""},     {"saving", engine_saving, ""},
+        {"adding", engine_adding, ""}, {"dropping", engine_dropping, ""}, {"rolling", engine_rolling, ""},
+        {"window", engine_window, ""}, {"ufr", engine_ufr, ""},           {"months", engine_months, ""}};
 
     for (size_t i = 0; i < sizeof counted / sizeof *counted; i++)
         if (strcmp(counted[i].name, name) == 0)
@@ -279,8 +326,9 @@ static const struct work *work_named(const char *name)
 static const struct work *work_on_loaded(const char *name)
 {
     const struct work *work = work_named(name);
-    bool reads_either = work->once == engine || work->once == engine_checks || work->once == engine_ufr || work->once == engine_months;
-    if (!reads_either)
+    bool takes_held = work->once == engine_saving || work->once == engine_adding || work->once == engine_dropping ||
+                      work->once == engine_rolling || work->once == engine_window;
+    if (takes_held)
         require_two_byte_days();
     return work;
 }
@@ -329,12 +377,13 @@ static bool check(const struct input *input)
         return false;
     read_fund(input->bytes, &fund);
     memcpy(brackets[BASE].factors, ours.factors, sizeof ours.factors);
-    plain_factors(&fund, shift_of(&fund, UP), brackets[UP].factors);
-    plain_factors(&fund, shift_of(&fund, DOWN), brackets[DOWN].factors);
+    plain_factors(&plain_years, &fund, shift_of(&fund, UP), brackets[UP].factors);
+    plain_factors(&plain_years, &fund, shift_of(&fund, DOWN), brackets[DOWN].factors);
     for (int curve = BASE; curve < CURVES; curve++)
-        plain_bond_factors(&fund, shift_of(&fund, curve), brackets[curve].factors, brackets[curve].bonds);
-    bool same = equal(&programs[PLAIN], &ours, input);
-    same &= equal(&programs[FILTER], &ours, input);
+        plain_bond_factors(&plain_years, &fund, shift_of(&fund, curve), brackets[curve].factors, brackets[curve].bonds);
+    bool same = true;
+    for (int p = ENGINE + 1; p <= RATIO; p++)
+        same &= equal(&programs[p], &ours, input);
     same &= demand(gmp_meets(input->bytes, brackets), "GMP", "an exact factor is outside its bracket", input);
     same &= demand(arb_meets(input->bytes, brackets, ours.rates), "Arb", "a ball misses its bracket", input);
     return same;
@@ -401,9 +450,12 @@ static void print_programs(const struct input *input)
     double medians[PROGRAMS];
     take_medians(programs, PROGRAMS, input, medians);
     printf("%s\n", short_name(input));
-    for (int p = 0; p < PROGRAMS; p++)
-        printf("  %-17s %8.1f per second %7.3f x plain C's time   %s\n", programs[p].name, 1 / medians[p],
-               medians[p] / medians[PLAIN], programs[p].remark);
+    for (int p = 0; p < PROGRAMS; p++) {
+        printf("  %-17s %8.1f per second", programs[p].name, 1 / medians[p]);
+        for (size_t y = 0; y < sizeof yardsticks / sizeof *yardsticks; y++)
+            printf(" %7.3f x %s's time", medians[p] / medians[yardsticks[y]], programs[yardsticks[y]].name);
+        printf("   %s\n", programs[p].remark);
+    }
 }
 
 static void print_parts(const struct input *input)
@@ -443,18 +495,26 @@ static size_t depth_of(void (*call)(void))
 
 /* ---------------------------------------------------------------- commands */
 
+static void print_agreement(int count)
+{
+    printf("%d files: ", count);
+    for (int p = ENGINE; p <= RATIO; p++)
+        printf("%s%s", p == ENGINE ? "" : p == RATIO ? " and " : ", ", programs[p].name);
+    printf(" equal; GMP and Arb meet every bracket\n");
+}
+
 static int check_all(int count, char **paths, bool times)
 {
     bool all_same = true;
     for (int i = 0; i < count; i++) {
-        load_two_byte_days(paths[i]);
+        load(paths[i]);
         bool same = check(&loaded);
         all_same = all_same && same;
         if (same && times)
             print_programs(&loaded);
     }
     if (all_same)
-        printf("%d files: engine, plain C and C with the filter equal; GMP and Arb meet every bracket\n", count);
+        print_agreement(count);
     return all_same ? 0 : 1;
 }
 
@@ -462,7 +522,7 @@ static int check_all(int count, char **paths, bool times)
 static void print_open(int count, char **paths)
 {
     for (int i = 0; i < count; i++) {
-        load_two_byte_days(paths[i]);
+        load(paths[i]);
         filter_left_open = 0;
         filter(&loaded);
         printf("%s: %" PRIu64 " of at most %d\n", short_name(&loaded), filter_left_open, 15 * GINGHAMOWL_ENTRIES);
@@ -481,7 +541,8 @@ int main(int argc, char **argv)
     if (argc >= 3 && (strcmp(argv[1], "time") == 0 || strcmp(argv[1], "check") == 0))
         return check_all(argc - 2, argv + 2, argv[1][0] == 't');
     if (argc == 3 && strcmp(argv[1], "parts") == 0) {
-        load_two_byte_days(argv[2]);
+        load(argv[2]);
+        require_two_byte_days();
         print_parts(&loaded);
         return 0;
     }

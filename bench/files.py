@@ -3,7 +3,8 @@
 small, typical and large are timed; four_* are the same with rates in four bytes; n_*, m_* and k_* show how the work grows with the
 days, the pension flows and the bond flows, the other two counts standing still; curve_* have the counts of n_35, and show how it
 depends on the curve: of one all zero rates are the UFR, of the other they fall from 9 percent towards it; check_* are only checked:
-funds from the tests' generator, and check_low, whose bonds have the largest factors that the limits allow, on the down curve."""
+funds from the tests' generator, and check_low, whose bonds have the largest factors that the limits allow, on the down curve;
+check_four_* are likewise, with rates in four bytes, and check_four_high has the largest products that the limits allow."""
 
 import random
 import sys
@@ -51,8 +52,13 @@ def cases():
     rng = random.Random(2)
     for i in range(20):
         yield f"check_{i}", files.extreme_case(rng) if i % 2 else examples.random_case(rng)
+    for i in range(20):
+        yield f"check_four_{i}", files.extreme_case(rng, rate_bytes=4) if i % 2 else examples.random_case(rng, rate_bytes=4)
     low = fund(70, 120, 60)
-    yield "check_low", replace(low, days=examples.flat(-1_000) * 70, shocks=low.shocks | {"down_shift": 1_000})
+    low = replace(low, days=examples.flat(-1_000) * 70, shocks=low.shocks | {"down_shift": 1_000})
+    yield "check_low", low
+    yield "check_four_low", files.rewritten_case(low)
+    yield "check_four_high", files.largest_products(4)[-1]
 
 
 def main(directory):

@@ -2,14 +2,14 @@
  *
  * Everything but the zero rates is plain.c's, with what it assumes and leaves out. The zero rates are searched in the engine's
  * way: each search halves, as in plain.c, and each test has the same outcome. Before the two searches of a term a step is
- * guessed, and bounds of 10^12 x^t at two steps near it decide most tests. Bounds at the tested step decide most of the
- * others. Only the tests that are left open take t divisions; bounds take one, and at most 24 multiplications. Nothing is
+ * guessed, and bounds of 10^12 x^t at two or three steps near it decide most tests. Bounds at the tested step decide most of the
+ * others. Only the tests that are left open take t years; bounds take one division, and at most 24 multiplications. The
+ * caller says how years are taken: C with the filter takes those of plain.c, C with the ratio those of ratio.c. Nothing is
  * proved of it. */
 #include "bench.h"
 
 uint64_t filter_left_open;
 
-static const uint64_t ONE = 1000000000000; /* factors count 10^-12 */
 static const uint64_t UNIT = 1 << 30;      /* powers of x count 2^-30 */
 static const uint64_t FIVES = 244140625;   /* 5^12: 10^12 / 2^30 is 5^12 / 2^18 */
 static const uint64_t GAP = 1000;          /* an upper result is at most this much above its lower result */
@@ -54,25 +54,25 @@ static int64_t step_left_open(uint64_t divisor)
 }
 
 /* Whether the lower result is at least the upper factor. */
-static bool lower_reaches(uint64_t divisor, int t, uint64_t upper_factor)
+static bool lower_reaches(const struct years *years, uint64_t divisor, int t, uint64_t upper_factor)
 {
     ginghamowl_bracket at = bounds_of(divisor, t);
     if (at.lower >= upper_factor + GAP)
         return true;
     if (at.upper < upper_factor)
         return false;
-    return discounted_down(step_left_open(divisor), t) >= upper_factor;
+    return years->discounted_down(step_left_open(divisor), t) >= upper_factor;
 }
 
 /* Whether the upper result is above the lower factor. */
-static bool upper_reaches(uint64_t divisor, int t, uint64_t lower_factor)
+static bool upper_reaches(const struct years *years, uint64_t divisor, int t, uint64_t lower_factor)
 {
     ginghamowl_bracket at = bounds_of(divisor, t);
     if (at.lower > lower_factor)
         return true;
     if (at.upper + GAP <= lower_factor)
         return false;
-    return discounted_up(step_left_open(divisor), t) > lower_factor;
+    return years->discounted_up(step_left_open(divisor), t) > lower_factor;
 }
 
 /* ---------------------------------------------------------------- known steps */
@@ -93,24 +93,38 @@ static uint64_t guess_of(int t, uint64_t divisor, uint64_t factor_before, uint64
     return mean > LAST - 2 ? LAST - 2 : mean;
 }
 
-/* What the bounds at the guess and at the second step after it decide in both searches. Bounds that leave the test of either
- * end of the factor open decide nothing. */
+/* What the bounds at one step decide in both searches. Bounds that leave the test of either end of the factor open decide
+ * nothing. */
+static struct interval known_at(uint64_t divisor, int t, ginghamowl_bracket factor)
+{
+    ginghamowl_bracket at = bounds_of(divisor, t);
+    return (struct interval){at.lower >= factor.upper + GAP ? divisor + 1 : FIRST,
+                             at.upper + GAP <= factor.lower ? divisor : LAST + 1};
+}
+
+/* The step after the guess is asked first. Mostly it reaches the factor, and then the step after it is asked, or it does not,
+ * and then the guess itself. */
 static struct interval known_near(uint64_t guess, int t, ginghamowl_bracket factor)
 {
-    ginghamowl_bracket at = bounds_of(guess, t), after = bounds_of(guess + 2, t);
-    return (struct interval){at.lower >= factor.upper + GAP ? guess + 1 : FIRST,
-                             after.upper + GAP <= factor.lower ? guess + 2 : LAST + 1};
+    struct interval known = known_at(guess + 1, t, factor);
+    if (known.low == FIRST)
+        known.low = known_at(guess, t, factor).low;
+    if (known.high == LAST + 1)
+        known.high = known_at(guess + 2, t, factor).high;
+    return known;
 }
 
 /* ---------------------------------------------------------------- zero rates */
 
+typedef bool test(const struct years *years, uint64_t divisor, int t, uint64_t factor);
+
 /* The divisor of the first step that does not reach the factor, by halving. A test that is known needs no bounds. */
-static uint64_t search(bool reaches(uint64_t, int, uint64_t), int t, uint64_t factor, struct interval known)
+static uint64_t search(test reaches, const struct years *years, int t, uint64_t factor, struct interval known)
 {
     struct interval left = {FIRST, LAST + 1};
     while (left.low < left.high) {
         uint64_t middle = (left.low + left.high) / 2;
-        if (middle < known.low || (middle < known.high && reaches(middle, t, factor)))
+        if (middle < known.low || (middle < known.high && reaches(years, middle, t, factor)))
             left.low = middle + 1;
         else
             left.high = middle;
@@ -118,24 +132,24 @@ static uint64_t search(bool reaches(uint64_t, int, uint64_t), int t, uint64_t fa
     return left.low;
 }
 
-void filter_rates(const uint64_t *factors, int64_t *rates)
+void filter_rates(const struct years *years, const uint64_t *factors, int64_t *rates)
 {
     uint64_t divisor = FIRST, factor_before = ONE;
     for (int t = 1; t <= LAST_TERM; t++) {
-        ginghamowl_bracket factor = {factors[GINGHAMOWL_LOWER(t)], factors[GINGHAMOWL_UPPER(t)]};
+        ginghamowl_bracket factor = ends_of(factors, t);
         struct interval known = known_near(guess_of(t, divisor, factor_before, factor.lower), t, factor);
-        divisor = search(lower_reaches, t, factor.upper, known) - 1;
+        divisor = search(lower_reaches, years, t, factor.upper, known) - 1;
         rates[GINGHAMOWL_LOWER(t)] = (int64_t)divisor - STEPS;
-        rates[GINGHAMOWL_UPPER(t)] = (int64_t)search(upper_reaches, t, factor.lower, known) - STEPS;
+        rates[GINGHAMOWL_UPPER(t)] = (int64_t)search(upper_reaches, years, t, factor.lower, known) - STEPS;
         factor_before = factor.upper;
     }
 }
 
-ginghamowl_valuation filter_value(const uint8_t *file, uint64_t *factors, int64_t *rates)
+ginghamowl_valuation filter_value(const struct years *years, const uint8_t *file, uint64_t *factors, int64_t *rates)
 {
     struct fund fund;
     read_fund(file, &fund);
-    plain_factors(&fund, 0, factors);
-    filter_rates(factors, rates);
-    return plain_money(&fund, factors);
+    plain_factors(years, &fund, 0, factors);
+    filter_rates(years, factors, rates);
+    return plain_money(years, &fund, factors);
 }

@@ -9,7 +9,7 @@
 /* 1 + R(t) = P(t) / N, in lowest terms. */
 static void set_mean(mpq_t mean, const struct fund *fund, int64_t shift, int t)
 {
-    mpq_set_ui(mean, p_of(fund, shift, t), STEPS * fund->n);
+    mpq_set_ui(mean, p_of(fund, shift, t), n_of(fund));
     mpq_canonicalize(mean);
 }
 

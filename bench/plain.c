@@ -1,16 +1,13 @@
 /* The rounded working of document 01 in plain C: what one would write without proofs, for speed.
  *
- * It assumes that the file is accepted and has two-byte days. The benchmark only times such files, so the checks of the
+ * It assumes that the file is accepted. The benchmark only times such files, so the checks of the
  * thirteen refusals are left out; this favours plain C. Nothing is proved of it. That no product below
  * overflows follows from document 01's limits, and is stated where it is not plain to see. */
 #include "bench.h"
 
 #include <math.h>
 
-__extension__ typedef unsigned __int128 wide;
-
-static const uint64_t ONE = 1000000000000; /* factors and growths count 10^-12 */
-static const uint64_t CENT = 10000000000;  /* euros times a factor, over this, are cents */
+static const uint64_t CENT = 10000000000; /* euros times a factor, over this, are cents */
 
 const uint64_t weights[LAST_MARKET_TERM + 1] = {
     [21] = 86,  186, 274, 351, 420, 481, 536, 584, 628, 666, 701, 732, 760, 785, 808, 828, 846, 863, 878, 891,
@@ -32,14 +29,15 @@ static void numbers(const uint8_t **at, uint64_t *out, uint64_t count, int bytes
         out[i] = number(at, bytes);
 }
 
-static void read_days(const uint8_t **at, struct fund *fund)
+static void read_days(const uint8_t **at, struct fund *fund, bool four_bytes)
 {
-    fund->n = number(at, 1);
+    uint64_t n = number(at, 1);
+    fund->per_step = four_bytes ? 100 * n : n;
     for (int t = 0; t <= LAST_MARKET_TERM; t++)
         fund->sum[t] = 0;
-    for (uint64_t day = 0; day < fund->n; day++)
+    for (uint64_t day = 0; day < n; day++)
         for (int t = 1; t <= LAST_MARKET_TERM; t++)
-            fund->sum[t] += (int16_t)number(at, 2);
+            fund->sum[t] += four_bytes ? (int32_t)number(at, 4) : (int16_t)number(at, 2);
 }
 
 void read_fund(const uint8_t *file, struct fund *fund)
@@ -47,7 +45,8 @@ void read_fund(const uint8_t *file, struct fund *fund)
     const uint8_t *at = file;
     uint64_t map = number(&at, 2);
     fund->ufr = map & 1 ? number(&at, 2) : 4200;
-    read_days(&at, fund);
+    if (map & 2)
+        read_days(&at, fund, false);
     fund->m = number(&at, 1);
     numbers(&at, fund->pension, fund->m, 4);
     fund->k = map & 8 ? number(&at, 1) : 0;
@@ -58,88 +57,50 @@ void read_fund(const uint8_t *file, struct fund *fund)
     fund->heads = number(&at, 4);
     fund->pension_age = number(&at, 2);
     fund->mean_age = number(&at, 2);
+    if (map & 128)
+        read_days(&at, fund, true);
 }
 
-/* ---------------------------------------------------------------- factors */
+/* ---------------------------------------------------------------- years */
 
 static uint64_t ceiling(uint64_t a, uint64_t b) { return (a + b - 1) / b; }
 static uint64_t wide_floor(wide a, wide b) { return (uint64_t)(a / b); }
 static uint64_t wide_ceiling(wide a, wide b) { return (uint64_t)((a + b - 1) / b); }
 
-/* t times x N / P(t). A factor is at most 0.98^-20, below 1.5, and N at most 7,000,000: 64 bits hold the product. */
-static ginghamowl_bracket early_factor(uint64_t n, uint64_t p, int t)
+/* x times a / b, once. x is at most `most`: where 64 bits hold the product of that, they hold the products of both ends. */
+static ginghamowl_bracket year(ginghamowl_bracket x, uint64_t a, uint64_t b, uint64_t most)
 {
-    ginghamowl_bracket factor = {ONE, ONE};
-    for (int i = 0; i < t; i++) {
-        factor.lower = factor.lower * n / p;
-        factor.upper = ceiling(factor.upper * n, p);
-    }
-    return factor;
+    if ((wide)most * a + b <= UINT64_MAX)
+        return (ginghamowl_bracket){x.lower * a / b, ceiling(x.upper * a, b)};
+    return (ginghamowl_bracket){wide_floor((wide)x.lower * a, b), wide_ceiling((wide)x.upper * a, b)};
 }
 
-/* The growth of year t, weighed with the UFR. Refusal 6 keeps growths below 1.2, and P(t) is below 8,000,000. */
-static ginghamowl_bracket weighed_growth(uint64_t n, uint64_t p, uint64_t before, int t, uint64_t ufr_growth)
+static ginghamowl_bracket divided_growth(uint64_t a, uint64_t b, int count, uint64_t most)
 {
-    uint64_t lower = ONE, upper = ONE, weight = weights[t];
-    for (int i = 1; i < t; i++) {
-        lower = lower * p / before;
-        upper = ceiling(upper * p, before);
-    }
-    lower = lower * p / n;
-    upper = ceiling(upper * p, n);
-    return (ginghamowl_bracket){((1000 - weight) * lower + weight * ufr_growth) / 1000,
-                                ceiling((1000 - weight) * upper + weight * ufr_growth, 1000)};
+    ginghamowl_bracket growth = {ONE, ONE};
+    for (int i = 0; i < count; i++)
+        growth = year(growth, a, b, most);
+    return growth;
 }
 
-/* The factor of a bond past term 20: t times x N / P(t), as up to 20. It may reach 0.98^-60, about 3.4, and 64 bits do not hold
- * 7,000,000 times that. Where P(t) is at least N the factors do not rise, and 64 bits hold the product at every term. */
-static ginghamowl_bracket late_bond_factor(uint64_t n, uint64_t p, int t)
+/* The old factor over the growth, crosswise. Both count 10^-12, so 64 bits never hold the product. */
+static ginghamowl_bracket next_factor(ginghamowl_bracket factor, ginghamowl_bracket growth)
 {
-    if (p >= n)
-        return early_factor(n, p, t);
-    ginghamowl_bracket factor = {ONE, ONE};
-    for (int i = 0; i < t; i++) {
-        factor.lower = wide_floor((wide)factor.lower * n, p);
-        factor.upper = wide_ceiling((wide)factor.upper * n, p);
-    }
-    return factor;
+    return (ginghamowl_bracket){wide_floor((wide)factor.lower * ONE, growth.upper),
+                                wide_ceiling((wide)factor.upper * ONE, growth.lower)};
 }
 
-void plain_factors(const struct fund *fund, int64_t shift, uint64_t factors[GINGHAMOWL_ENTRIES])
-{
-    uint64_t n = STEPS * fund->n, ufr_growth = ONE + fund->ufr * 10000000;
-    ginghamowl_bracket factor = {ONE, ONE};
-    for (int t = 1; t <= LAST_TERM; t++) {
-        if (t <= LAST_UNWEIGHED_TERM) {
-            factor = early_factor(n, p_of(fund, shift, t), t);
-        } else {
-            ginghamowl_bracket growth = {ufr_growth, ufr_growth};
-            if (t <= LAST_MARKET_TERM)
-                growth = weighed_growth(n, p_of(fund, shift, t), p_of(fund, shift, t - 1), t, ufr_growth);
-            factor.lower = wide_floor((wide)factor.lower * ONE, growth.upper);
-            factor.upper = wide_ceiling((wide)factor.upper * ONE, growth.lower);
-        }
-        factors[GINGHAMOWL_LOWER(t)] = factor.lower;
-        factors[GINGHAMOWL_UPPER(t)] = factor.upper;
-    }
-}
+static uint64_t ufr_growth(uint64_t ufr) { return ONE + ufr * 10000000; }
 
-/* Document 02, Four: bonds are off the adjusted curve. Up to term 20 the adjusted factors are theirs too. */
-void plain_bond_factors(const struct fund *fund, int64_t shift, const uint64_t *factors, uint64_t bond_factors[BOND_ENTRIES])
+static void divided_past_market(uint64_t ufr, uint64_t *factors)
 {
-    for (int t = 1; t <= (int)fund->k; t++) {
-        ginghamowl_bracket factor = {factors[GINGHAMOWL_LOWER(t)], factors[GINGHAMOWL_UPPER(t)]};
-        if (t > LAST_UNWEIGHED_TERM)
-            factor = late_bond_factor(STEPS * fund->n, p_of(fund, shift, t), t);
-        bond_factors[GINGHAMOWL_LOWER(t)] = factor.lower;
-        bond_factors[GINGHAMOWL_UPPER(t)] = factor.upper;
-    }
+    ginghamowl_bracket growth = {ufr_growth(ufr), ufr_growth(ufr)};
+    for (int t = LAST_MARKET_TERM + 1; t <= LAST_TERM; t++)
+        set_ends(factors, t, next_factor(ends_of(factors, t - 1), growth));
 }
-
-/* ---------------------------------------------------------------- zero rates */
 
 /* Results are at most 0.98^-120 x 10^12, below 1.2 x 10^13, so 64 bits hold them 100,000 times. */
-uint64_t discounted_down(int64_t z, int t)
+static uint64_t discounted_down(int64_t z, int t)
 {
     uint64_t result = ONE, divisor = (uint64_t)(STEPS + z);
     for (int i = 0; i < t; i++)
@@ -147,13 +108,58 @@ uint64_t discounted_down(int64_t z, int t)
     return result;
 }
 
-uint64_t discounted_up(int64_t z, int t)
+static uint64_t discounted_up(int64_t z, int t)
 {
     uint64_t result = ONE, divisor = (uint64_t)(STEPS + z);
     for (int i = 0; i < t; i++)
         result = ceiling(result * STEPS, divisor);
     return result;
 }
+
+const struct years plain_years = {divided_growth, divided_past_market, discounted_down, discounted_up};
+
+/* ---------------------------------------------------------------- factors */
+
+/* t times x N / P(t): a factor up to term 20, and that of a bond at every term. P(t) is at least 0.98 x N, so it is below
+ * 1.5 up to term 20 and below 3.4 up to 60; where P(t) is at least N, factors do not rise. Of two-byte rates N is at most
+ * 7,000,000: 64 bits hold 1.5 x 10^12 times that, but not 3.4 x 10^12 times. Of four-byte rates N is 100 times as large. */
+static ginghamowl_bracket unadjusted_factor(const struct years *years, const struct fund *fund, int64_t shift, int t)
+{
+    uint64_t n = n_of(fund), p = p_of(fund, shift, t);
+    uint64_t most = p >= n ? ONE : t <= LAST_UNWEIGHED_TERM ? 15 * ONE / 10 : 34 * ONE / 10;
+    return years->growth(n, p, t, most);
+}
+
+/* The growth of year t, weighed with the UFR. Refusal 6 keeps growths below 1.2. Of two-byte rates P(t) is below
+ * 8,000,000, and 64 bits hold 1.2 x 10^12 times that; of four-byte rates it is 100 times as large. The last year is over N,
+ * and alone: every program in C divides there, since a ratio that serves one year saves nothing. */
+static ginghamowl_bracket weighed_growth(const struct years *years, const struct fund *fund, int64_t shift, int t)
+{
+    uint64_t p = p_of(fund, shift, t), before = p_of(fund, shift, t - 1), most = 12 * ONE / 10;
+    uint64_t weight = weights[t], of_ufr = weight * ufr_growth(fund->ufr);
+    ginghamowl_bracket growth = year(years->growth(p, before, t - 1, most), p, n_of(fund), most);
+    return (ginghamowl_bracket){((1000 - weight) * growth.lower + of_ufr) / 1000,
+                                ceiling((1000 - weight) * growth.upper + of_ufr, 1000)};
+}
+
+void plain_factors(const struct years *years, const struct fund *fund, int64_t shift, uint64_t factors[GINGHAMOWL_ENTRIES])
+{
+    for (int t = 1; t <= LAST_UNWEIGHED_TERM; t++)
+        set_ends(factors, t, unadjusted_factor(years, fund, shift, t));
+    for (int t = LAST_UNWEIGHED_TERM + 1; t <= LAST_MARKET_TERM; t++)
+        set_ends(factors, t, next_factor(ends_of(factors, t - 1), weighed_growth(years, fund, shift, t)));
+    years->past_market(fund->ufr, factors);
+}
+
+/* Bonds are valued off the adjusted curve. Up to term 20 the adjusted factors are theirs too. */
+void plain_bond_factors(const struct years *years, const struct fund *fund, int64_t shift, const uint64_t *factors,
+                        uint64_t bond_factors[BOND_ENTRIES])
+{
+    for (int t = 1; t <= (int)fund->k; t++)
+        set_ends(bond_factors, t, t <= LAST_UNWEIGHED_TERM ? ends_of(factors, t) : unadjusted_factor(years, fund, shift, t));
+}
+
+/* ---------------------------------------------------------------- zero rates */
 
 /* The largest z whose lower result is at least the upper factor, by halving. */
 static int64_t lower_rate(uint64_t upper_factor, int t)
@@ -204,10 +210,10 @@ static ginghamowl_bracket worth(const uint64_t *flows, uint64_t count, const uin
     return sum;
 }
 
-static ginghamowl_bracket bonds_worth(const struct fund *fund, int64_t shift, const uint64_t *factors)
+static ginghamowl_bracket bonds_worth(const struct years *years, const struct fund *fund, int64_t shift, const uint64_t *factors)
 {
     uint64_t bond_factors[BOND_ENTRIES];
-    plain_bond_factors(fund, shift, factors, bond_factors);
+    plain_bond_factors(years, fund, shift, factors, bond_factors);
     return worth(fund->bonds, fund->k, bond_factors);
 }
 
@@ -218,14 +224,15 @@ static uint64_t largest(int64_t a, int64_t b)
 }
 
 /* The larger fall of B - L; differences pair a lower with an upper end. */
-static ginghamowl_bracket interest_loss(const struct fund *fund, ginghamowl_bracket l, ginghamowl_bracket b)
+static ginghamowl_bracket interest_loss(const struct years *years, const struct fund *fund, ginghamowl_bracket l,
+                                        ginghamowl_bracket b)
 {
     int64_t lower[CURVES], upper[CURVES];
     for (int curve = UP; curve <= DOWN; curve++) {
         uint64_t factors[GINGHAMOWL_ENTRIES];
-        plain_factors(fund, shift_of(fund, curve), factors);
+        plain_factors(years, fund, shift_of(fund, curve), factors);
         ginghamowl_bracket shifted_l = worth(fund->pension, fund->m, factors);
-        ginghamowl_bracket shifted_b = bonds_worth(fund, shift_of(fund, curve), factors);
+        ginghamowl_bracket shifted_b = bonds_worth(years, fund, shift_of(fund, curve), factors);
         lower[curve] = (int64_t)(b.lower - l.upper - (shifted_b.upper - shifted_l.lower));
         upper[curve] = (int64_t)(b.upper - l.lower - (shifted_b.lower - shifted_l.upper));
     }
@@ -301,18 +308,18 @@ static void market_losses(const struct fund *fund, ginghamowl_figures *f)
     f->s5 = quotient((wide)amount[CREDIT] * (shock[DURATION] * shock[SPREAD] * shock[SPREAD_RISE]), 10000000);
 }
 
-ginghamowl_valuation plain_money(const struct fund *fund, const uint64_t *factors)
+ginghamowl_valuation plain_money(const struct years *years, const struct fund *fund, const uint64_t *factors)
 {
     ginghamowl_valuation v = {.refusal = GINGHAMOWL_ACCEPTED};
     ginghamowl_figures *f = &v.figures;
     f->l = worth(fund->pension, fund->m, factors);
-    f->b = bonds_worth(fund, 0, factors);
+    f->b = bonds_worth(years, fund, 0, factors);
     f->a = f->b;
     for (int i = 0; i < AMOUNTS; i++) {
         f->a.lower += i == CURRENCY ? 0 : 100 * fund->amount[i];
         f->a.upper += i == CURRENCY ? 0 : 100 * fund->amount[i];
     }
-    f->s1 = interest_loss(fund, f->l, f->b);
+    f->s1 = interest_loss(years, fund, f->l, f->b);
     market_losses(fund, f);
     f->s6 = mortality_loss(fund, f->l);
     f->s = root_buffer(f, fund->shock[CORRELATION]);
@@ -324,7 +331,7 @@ ginghamowl_valuation plain_value(const uint8_t *file, uint64_t *factors, int64_t
 {
     struct fund fund;
     read_fund(file, &fund);
-    plain_factors(&fund, 0, factors);
+    plain_factors(&plain_years, &fund, 0, factors);
     plain_rates(factors, rates);
-    return plain_money(&fund, factors);
+    return plain_money(&plain_years, &fund, factors);
 }

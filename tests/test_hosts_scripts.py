@@ -375,10 +375,22 @@ class Bench(InACopy):
 
     def test_wrong_calls(self):
         self.installed()
-        for wrong in (["--instal"], [""], ["--install", "--install"]):
+        archive = self.root / "other.a"
+        archive.touch()
+        for wrong in (["--instal"], [""], ["--install", "--install"], ["--before"], ["--install", "--before"], ["--before", ""],
+                      ["--before", archive, "--before", archive], ["--before", archive, archive]):
             run = self.call("bench/run", *wrong)
-            self.assertEqual((run.returncode, run.stderr), (2, "usage: bench/run [--install]\n"))
+            self.assertEqual((run.returncode, run.stderr), (2, "usage: bench/run [--install] [--before ARCHIVE]\n"))
         self.assertFalse((self.stand_in / "asked").exists())
+
+    def test_the_archive_of_another_commit(self):
+        self.installed("valgrind")
+        run = self.call("bench/run", "--install", "--before", "no.a")
+        self.assertEqual((run.returncode, run.stderr), (2, "bench/run: there is no archive no.a\n"))
+        self.assertFalse((self.stand_in / "asked").exists())
+        (self.root / "other.a").touch()
+        for both in (["--install", "--before", "other.a"], ["--before", "other.a", "--install"]):
+            self.assertEqual(self.call("bench/run", *both).returncode, 7)
 
 
 if __name__ == "__main__":

@@ -4,5 +4,6 @@ pub mod Root
 pub mod Ends
 pub mod LongDivision
 pub mod Roots
+pub mod Units
 pub mod Worked
 pub mod Plain

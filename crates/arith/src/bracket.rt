@@ -6,6 +6,7 @@ ghost use Rattle.arith.specs.Brackets.{bracket, end_of};
 ghost use Rattle.arith.specs.inner.Range.{TimesWithin, BothIn, Pairwise, Crosswise, UpTo};
 
 use super::end::{End, High, Low};
+use super::ratio::Ratio;
 use super::scale::{Long, Quotient, Short};
 
 /// Both ends are included. Hosts are given brackets as C lays structs out.
@@ -54,6 +55,17 @@ impl Bracket {
         Bracket {
             lower: n * self.lower,
             upper: n * self.upper,
+        }
+    }
+
+    /// Times a ratio.
+    pub fn scaled_by(self, ratio: &Ratio) -> Bracket
+        requires { UpTo (2 ^ 46 - 1) self }
+        ensures { result ≡ bracket (λ e. divide e (end_of self e * ratio.now.dividend) ratio.now.divisor) }
+    {
+        Bracket {
+            lower: Low::times(self.lower, ratio),
+            upper: High::times(self.upper, ratio),
         }
     }
 

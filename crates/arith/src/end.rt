@@ -9,6 +9,7 @@ ghost use Rattle.arith.specs.Root.{root};
 ghost use Rattle.arith.specs.Brackets.{end_of};
 
 use super::bracket::Bracket;
+use super::ratio::{Ratio, UNITS};
 
 /// An end of a bracket. A lower number rounds down at every step, an upper one up.
 pub trait End {
@@ -22,6 +23,11 @@ pub trait End {
     fn divide(a: u64, b: u64) -> u64
         requires { (0 < b) × (a + b ≤ 2 ^ 64) }
         ensures { result ≡ divide end a b };
+
+    /// x times a ratio, with two products and no division.
+    fn times(x: u64, ratio: &Ratio) -> u64
+        requires { x < 2 ^ 46 }
+        ensures { result ≡ divide end (x * ratio.now.dividend) ratio.now.divisor };
 
     /// The root of n ÷ d.
     fn root(n: u128, d: u64) -> u64
@@ -47,6 +53,11 @@ impl End for Low {
         a / b
     }
 
+    // With one unit more the ratio is no longer too small: a product that is whole is not missed.
+    fn times(x: u64, ratio: &Ratio) -> u64 {
+        (x as u128 * (ratio.units + 1) / UNITS) as u64
+    }
+
     fn root(n: u128, d: u64) -> u64 {
         (n / d as u128).isqrt() as u64
     }
@@ -61,6 +72,11 @@ impl End for High {
 
     fn divide(a: u64, b: u64) -> u64 {
         (a + (b - 1)) / b
+    }
+
+    // The units as they are make the ratio too small, or right: a product that is whole is not passed.
+    fn times(x: u64, ratio: &Ratio) -> u64 {
+        ((x as u128 * ratio.units + (UNITS - 1)) / UNITS) as u64
     }
 
     // One more than rounded down, where that is not exact.

@@ -2,11 +2,10 @@
 use Prim.Native.Nat.{ℕ, zero, suc, ◌+◌, ◌*◌, ◌-◌, ◌^◌, ◌≤◌, ◌<◌}
 use mathlib.Core.Path.{◌≡◌, refl, ◌∙◌}
 use native.Mathlib.Omega.{arith}
-use native.Mathlib.Nat.{mul-le-mul, mul-le-mul_left, mul-le-mul_right, le_of_mul-le-mul_right}
-use lib.Dec.{lit<}
-use Rattle.arith.specs.inner.Range.{Small, InRange, TimesWithin, BothIn}
+use native.Mathlib.Nat.{mul-le-mul_right}
+use Rattle.arith.specs.inner.Range.{TimesWithin, UpTo}
 use Rattle.arith.specs.Rounding.{End, low, high, divide}
-use Rattle.arith.proofs.Rounding.{divide-floor, divide-ceiling, divide-le, le-divide}
+use Rattle.arith.proofs.Rounding.{divide-floor, le-divide}
 use Rattle.model.specs.Constants.{unit}
 use Rattle.method.specs.Rounded.{scaled}
 use Rattle.arith.specs.Brackets.{bracket, end_of}
@@ -35,23 +34,6 @@ last-year-within x n p q j w k =
     let y = w.years in
     times-within x (λ e. scaled e p q j) p n k w.some w.most w.ratio (scaled-ends p q j y.some) (y.years j (omega arith))
 
--- the product of the short way, where a is below 2^23 and x below 2^41
-pub short-way : (x a b : ℕ) → 0 < b → b ≤ 2 ^ 40 → a < 2 ^ 23 → x < 2 ^ 41 → Small x a b
-short-way x a b some most ha hx = record {
-  some = some;
-  fits = omega (arith, mul-le-mul {n₁ = x} {m₁ = a} {n₂ = 2 ^ 41 - 1} {m₂ = 2 ^ 23 - 1} (omega arith) (omega arith));
-}
-
--- and of the long way
-pub long-way : (x a b : ℕ) → 0 < b → b ≤ 2 ^ 40 → a ≤ 2 * b → x < 2 ^ 42 → InRange x a b
-long-way x a b some most ratio hx = record {
-  left = hx;
-  right = omega arith;
-  some = some;
-  most = omega arith;
-  fits = omega (arith, mul-le-mul_left x ratio, mul-le-mul_right b (let k : x ≤ 2 ^ 42 = omega arith in k));
-}
-
 -- a bracket taken once × a ÷ b, by what it was
 pub taken : (x r : Bracket) (f : End → ℕ) (a b : ℕ) → x ≡ bracket f → r ≡ bracket (λ e. divide e (end_of x e * a) b) → r ≡ bracket (λ e. divide e (f e * a) b)
 taken x r f a b k l = l ∙ by-ends (λ e. divide e (end_of x e * a) b) (λ e. divide e (f e * a) b) (λ e. rw (end_is x f k e))
@@ -71,54 +53,15 @@ after-years e a b i (suc j) = let k : i + suc j ≡ suc i + j = omega arith in r
 pub all-taken : (e : End) (a b j : ℕ) → scaled_from e a b unit j ≡ scaled e a b j
 all-taken e a b j = let k : 0 + j ≡ j = omega arith in rw (← scaled-none e a b) (rw k at (after-years e a b 0 j))
 
--- Where shares of at most a half are added in all years together, no result reaches 2^41. The share of a year, with a whole number of
--- units for its rounding, is g at most.
-module _ (a b j : ℕ) (some : 0 < b) (years : 0 < j) (few : j ≤ 60) (short : 2 * j * a ≤ (2 * j + 1) * b) where
-  g : ℕ
-  g = divide high (219 * 10 ^ 10) (2 * j)
-
-  g-ceiling : (219 * 10 ^ 10 ≤ g * (2 * j)) × (g * (2 * j) < 219 * 10 ^ 10 + 2 * j)
-  unfolding g
-  g-ceiling = divide-ceiling (219 * 10 ^ 10) (2 * j) (omega arith)
-
-  below : (i x : ℕ) → i ≤ j → x ≤ unit + i * g → x ≤ 219 * 10 ^ 10
-  below i x h k = omega (arith, mul-le-mul_right g h, g-ceiling.1)
-
-  linear : (i : ℕ) → i ≤ j → scaled high a b i ≤ unit + i * g
-  unfolding scaled
-  linear zero h = omega arith
-  linear (suc i) h =
-      let x : ℕ = scaled high a b i in
-      let ih : x ≤ unit + i * g = linear i (omega arith) in
-      let next : x * a ≤ (x + g) * b =
-      le_of_mul-le-mul_right {m = x * a} {n = (x + g) * b} {k = 2 * j}
-      (omega (arith, mul-le-mul_left x short, mul-le-mul_right b (below i x (omega arith) ih), mul-le-mul_right b g-ceiling.0)) (omega arith) in
-      omega (arith, divide-le high (x * a) b (x + g) some next, ih)
-
-  all_short : (i : ℕ) → i ≤ j → scaled high a b i < 2 ^ 41
-  all_short i h = omega (arith, below i (scaled high a b i) h (linear i h))
-
-short-at : (a b j i : ℕ) → 0 < b → j ≤ 60 → 2 * j * a ≤ (2 * j + 1) * b → i ≤ j → scaled high a b i < 2 ^ 41
-short-at a b zero zero some few short h = rw (scaled-none high a b) (lit< tt)
-short-at a b zero (suc i) some few short h = absurd (let z : ⊥ = omega arith in z)
-short-at a b (suc j) i some few short h = all_short a b (suc j) some (omega arith) few short i h
-
--- from 10^12, in both ways
+-- from 10^12
 abbrev one : Bracket
 one = record { lower = unit; upper = unit }
 
-pub long-within : (a b j : ℕ) → ScaledWithin a b j → YearsWithin InRange a b one j
-long-within a b j w = record {
+pub years-within : (a b j : ℕ) → ScaledWithin a b j → YearsWithin a b one j
+years-within a b j w = record {
   some = w.some;
   order = omega arith;
-  years = λ i h. rw (all-taken high a b i) (long-way (scaled high a b i) a b w.some w.most w.ratio (w.years i (omega arith)));
-}
-
-pub short-within : (a b j : ℕ) → ScaledWithin a b j → a < 2 ^ 23 → 2 * j * a ≤ (2 * j + 1) * b → YearsWithin Small a b one j
-short-within a b j w few short = record {
-  some = w.some;
-  order = omega arith;
-  years = λ i h. rw (all-taken high a b i) (short-way (scaled high a b i) a b w.some w.most few (short-at a b j i w.some w.few short (omega arith)));
+  years = λ i h. rw (all-taken high a b i) (omega (arith, w.years i (omega arith)));
 }
 
 pub all-years : (a b j : ℕ) (r : Bracket) → r ≡ bracket (λ e. scaled_from e a b (end_of one e) j) → r ≡ bracket (λ e. scaled e a b j)
@@ -132,14 +75,13 @@ pub none_taken : (a b : ℕ) (x : Bracket) (j : ℕ) → j ≡ 0 → x ≡ brack
 unfolding scaled_from
 none_taken a b x j h = rw h
 
-module _ {Takes : ℕ → ℕ → ℕ → Type 0} (smaller : (x y a b : ℕ) → x ≤ y → Takes y a b → Takes x a b)
-    (a b : ℕ) (x : Bracket) (j : ℕ) (w : YearsWithin Takes a b x j) (some : 0 < j) where
-  upper-takes : Takes x.upper a b
+module _ (a b : ℕ) (x : Bracket) (j : ℕ) (w : YearsWithin a b x j) (some : 0 < j) where
+  upper-most : x.upper < 2 ^ 46
   unfolding scaled_from
-  upper-takes = w.years 0 some
+  upper-most = w.years 0 some
 
-  pub both-in : BothIn Takes x a b
-  both-in = record { lower = smaller x.lower x.upper a b w.order upper-takes; upper = upper-takes }
+  pub both-in : UpTo (2 ^ 46 - 1) x
+  both-in = record { lower = omega (arith, w.order, upper-most); upper = omega (arith, upper-most) }
 
   -- one year is taken, and the others are left
   module _ (r : Bracket) (is : r ≡ bracket (λ e. divide e (end_of x e * a) b)) where
@@ -154,7 +96,7 @@ module _ {Takes : ℕ → ℕ → ℕ → Type 0} (smaller : (x y a b : ℕ) →
         le-divide high (x.upper * a) b (divide low (x.lower * a) b) w.some
         (omega (arith, divide-floor (x.lower * a) b w.some, mul-le-mul_right a w.order))
 
-    pub year-less : YearsWithin Takes a b r (j - 1)
+    pub year-less : YearsWithin a b r (j - 1)
     unfolding scaled_from
     year-less = record {
       some = w.some;

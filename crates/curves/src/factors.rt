@@ -14,6 +14,7 @@ use super::sums::CurveSums;
 use super::weights::weight_of;
 use super::years::over_years;
 use arith::bracket::Bracket;
+use arith::ratio::Ratio;
 use arith::scale::Long;
 use heldcase::Case;
 
@@ -47,17 +48,17 @@ impl CurveSums {
     }
 
     // The factor of term t. Up to term 20 it is the unadjusted one, which follows from P(t) alone; from 21 on it is `before`, the factor of
-    // term t - 1, divided by the growth of term t. From 61 on that is the UFR growth, whose units are reduced by 10^7 to steps, so that
-    // the products are short.
-    fn next_factor(&self, before: Bracket, t: usize) -> Bracket
-        requires { NextWithin self.now before t }
+    // term t - 1, divided by the growth of term t. From 61 on that is the UFR growth, whose
+    // inverse is `late`: that multiplies.
+    fn next_factor(&self, before: Bracket, late: &Ratio, t: usize) -> Bracket
+        requires { NextWithin self.now late.now before t }
         ensures { result ≡ bracket (λ e. Rounded.factor (curve_of self.now) e t) }
     {
         if t <= Case::LAST_UNWEIGHED_TERM {
             return over_years(self.n, self.sums[t], t);
         }
         if Case::LAST_MARKET_TERM < t {
-            return before.scaled_either_way(Case::STEPS_PER_ONE, Case::STEPS_PER_ONE + self.ufr);
+            return before.scaled_by(late);
         }
         before.over::<Long>(self.weighed_growth(t), Case::UNIT)
     }
@@ -67,11 +68,13 @@ impl CurveSums {
         requires { FactorsWithin self.now }
         ensures { result ≡ brackets (Rounded.factor (curve_of self.now)) 120 }
     {
+        // What a factor from term 61 on is of the one before it: 10^12 over the UFR growth, both divided by the 10^7 units of a step.
+        let late = Ratio::of(Case::STEPS_PER_ONE, Case::STEPS_PER_ONE + self.ufr);
         let mut factor = Bracket::exactly(Case::UNIT);
         let mut out = [factor; 120];
         // t is not only an index: the working asks for the term.
         for t in 0..Case::LAST_TERM {
-            factor = self.next_factor(factor, t + 1);
+            factor = self.next_factor(factor, &late, t + 1);
             out[t] = factor;
         }
         out

@@ -1,5 +1,6 @@
 // Generic functions, and functions of traits, at types of their own and through their bounds. What they give is worked out by hand.
 use arith::end::{End, High, Low};
+use arith::ratio::Ratio;
 use arith::scale::{Long, Quotient, Short};
 use curves::three::Three;
 use fields::cursor::Cursor;
@@ -11,13 +12,17 @@ use heldcase::flows::Flows;
 use refusal::Refusal;
 use rings::Place;
 
-// 10 ÷ 3 in three ways, 10^24 ÷ 3 × 10^12, which the short way does not take, and the roots of 19 ÷ 2 and of 9.
-fn rounded<E: End>() -> [u64; 6] {
+// 10 ÷ 3 in four ways, 10^24 ÷ 3 × 10^12, which the short way does not take, three times a third, whose units are rounded down,
+// 7 × 10^13, near the largest number that a ratio takes, times 10^9 ÷ 777,777,777, and the roots of 19 ÷ 2 and of 9.
+fn rounded<E: End>() -> [u64; 9] {
     [
         E::divide(10, 3),
         Short::quotient::<E>(5, 2, 3),
         Long::quotient::<E>(5, 2, 3),
+        E::times(5, &Ratio::of(2, 3)),
         Long::quotient::<E>(1_000_000_000_000, 1_000_000_000_000, 3_000_000_000_000),
+        E::times(3, &Ratio::of(1, 3)),
+        E::times(70_000_000_000_000, &Ratio::of(1_000_000_000, 777_777_777)),
         E::root(19, 2),
         E::root(18, 2),
     ]
@@ -25,8 +30,14 @@ fn rounded<E: End>() -> [u64; 6] {
 
 #[test]
 fn an_end_rounds_its_own_way(rt: HostRuntime) {
-    assert_eq!(rt; rounded::<Low>(), [3, 3, 3, 333_333_333_333, 3, 3]);
-    assert_eq!(rt; rounded::<High>(), [4, 4, 4, 333_333_333_334, 4, 3]);
+    assert_eq!(rt;
+        rounded::<Low>(),
+        [3, 3, 3, 3, 333_333_333_333, 1, 90_000_000_090_000, 3, 3]
+    );
+    assert_eq!(rt;
+        rounded::<High>(),
+        [4, 4, 4, 4, 333_333_333_334, 1, 90_000_000_090_001, 4, 3]
+    );
 }
 
 fn rate_in<F: RateForm>(bytes: &[u8]) -> Option<i32> {

@@ -9,7 +9,6 @@ use Rattle.std.specs.declared.cmp.Ordering.TheVariants.{Less, Greater}
 use Rattle.std.proofs.lemmas.Bool.Decides.{nat_tests}
 use native.Mathlib.Omega.{arith}
 use native.Mathlib.Numerals.{add-one}
-use Rattle.arith.specs.inner.Range.{Small}
 use Rattle.arith.specs.Rounding.{End, low, high, divide}
 use Rattle.model.specs.Constants.{unit, steps_per_one}
 use Rattle.model.specs.Numbers.{every}
@@ -30,8 +29,8 @@ pub tested-none : (e : End) (i : ℕ) → tested e 0 i ≡ unit
 unfolding scaled
 tested-none e i = refl
 
-pub test_fits : (e : End) (x t i k : ℕ) → StepWithin t i → k ≤ t → x ≡ tested e k i → Small x 100000 (98000 + i)
-test_fits e x t i k w h q = record { some = omega arith; fits = omega (arith, tested-small e k i (omega (arith, w.term)), w.step) }
+pub test_fits : (e : End) (x t i k : ℕ) → StepWithin t i → k ≤ t → x ≡ tested e k i → x < 2 ^ 46
+test_fits e x t i k w h q = omega (arith, tested-small e k i (omega (arith, w.term)))
 
 pub test-more : (e : End) (x r k i : ℕ) → x ≡ tested e k i → r ≡ divide e (x * 100000) (98000 + i) → r ≡ tested e (k + 1) i
 unfolding scaled

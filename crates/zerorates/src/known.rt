@@ -1,7 +1,7 @@
-// Steps whose tests are known before a search. Bounds of the results of two steps, one on each side of a guess of the rate, decide
-// the tests of all steps beyond them, because the results fall as the step rises. A wrong guess costs time only: then no step is known.
+// Steps whose tests are known before a search. Bounds of the results of two steps that lie on either side of the factor decide the tests of
+// all steps beyond them, because the results fall as the step rises. A wrong guess of the rate costs time only: then fewer steps are known.
 ghost use Rattle.std.specs.Prelude.{◌≤◌};
-ghost use Rattle.zerorates.specs.inner.Known.{AboveUntil, BelowFrom, Known};
+ghost use Rattle.zerorates.specs.inner.Known.{Known};
 ghost use Rattle.zerorates.specs.inner.Ranges.{GuessWithin};
 
 use super::results::FIRST_DIVISOR;
@@ -20,6 +20,14 @@ pub struct Interval {
 // The last of the steps, which are counted from 0.
 pub const LAST_STEP: u64 = 22_000;
 
+impl Interval {
+    // No test is known.
+    const NOTHING: Interval = Interval {
+        lo: 0,
+        hi: LAST_STEP + 1,
+    };
+}
+
 // The last step that is guessed, so that two steps follow it.
 pub const LAST_GUESS: u64 = 21_998;
 
@@ -36,51 +44,55 @@ pub fn guess_rate(t: usize, step: u64, before: u64, factor: u64) -> u64
 }
 
 impl TermStep {
-    // The number of steps whose results are sure to be above both ends of the factor: the steps up to this one, or none.
-    fn surely_above(self, factor: Bracket) -> u64
-        ensures lower { AboveUntil self.term factor.lower result }
-        ensures upper { AboveUntil self.term factor.upper result }
+    // What is known from this step: that the results of the steps up to it are above both ends of the factor, or those of the steps from it
+    // on below both, or nothing.
+    fn known(self, factor: Bracket) -> Interval
+        ensures lower { Known self.term factor.lower result }
+        ensures upper { Known self.term factor.upper result }
     {
         let bounds = self.result_bounds();
         if factor.lower < bounds.lower && factor.upper < bounds.lower {
-            self.step + 1
-        } else {
-            0
+            return Interval {
+                lo: self.step + 1,
+                ..Interval::NOTHING
+            };
         }
-    }
-
-    // The first of the steps whose results are sure to be below both ends of the factor: this one, or none. The mirror of `surely_above`,
-    // but another bound, other comparisons and another answer: a function for both would share nothing but its first line.
-    fn surely_below(self, factor: Bracket) -> u64
-        ensures lower { BelowFrom self.term factor.lower result }
-        ensures upper { BelowFrom self.term factor.upper result }
-    {
-        let bounds = self.result_bounds();
         if bounds.upper < factor.lower && bounds.upper < factor.upper {
-            self.step
-        } else {
-            LAST_STEP + 1
+            return Interval {
+                hi: self.step,
+                ..Interval::NOTHING
+            };
         }
+        Interval::NOTHING
     }
 }
 
-// What is known from step `guess` and from the second step after it, at both ends of the factor.
+// What is known near a guess, at both ends of the factor. The step after the guess is asked first. Mostly its results are above the factor,
+// and then the step after it is asked, or below, and then the guess itself; where they are neither, both are.
 pub fn known_near(t: usize, guess: u64, factor: Bracket) -> Interval
     requires term { t ≤ 120 }
     requires guess { guess ≤ 21998 }
     ensures lower { Known t factor.lower result }
     ensures upper { Known t factor.upper result }
 {
-    let first = TermStep {
+    let before = TermStep {
         term: t,
         step: guess,
     };
-    let second = TermStep {
+    let middle = TermStep {
+        term: t,
+        step: guess + 1,
+    };
+    let after = TermStep {
         term: t,
         step: guess + 2,
     };
-    Interval {
-        lo: first.surely_above(factor),
-        hi: second.surely_below(factor),
+    let mut known = middle.known(factor);
+    if known.lo == 0 {
+        known.lo = before.known(factor).lo;
     }
+    if known.hi == LAST_STEP + 1 {
+        known.hi = after.known(factor).hi;
+    }
+    known
 }

@@ -10,7 +10,8 @@ use super::known::Interval;
 use super::step::TermStep;
 use arith::bracket::Bracket;
 use arith::end::End;
-use arith::scale::{Quotient, Short};
+use arith::ratio::Ratio;
+use arith::scale::Short;
 use heldcase::Case;
 use std::cmp::Ordering;
 
@@ -28,9 +29,10 @@ impl TermStep {
         ensures counted { made.new ≡ made.old + 1 }
     {
         *made += 1;
+        let year = Ratio::of(Case::STEPS_PER_ONE, FIRST_DIVISOR + self.step);
         let mut x = Case::UNIT;
         for _ in 0..self.term {
-            x = Short::quotient::<E>(x, Case::STEPS_PER_ONE, FIRST_DIVISOR + self.step);
+            x = E::times(x, &year);
         }
         x
     }
@@ -52,6 +54,17 @@ impl TermStep {
         requires { Known self.term factor known }
         ensures { IfSome result (λ o. BothCompare o self.term self.step factor) }
     {
+        // Mostly every test is known. That is asked first, since it is the same at each step of a search, and on which side of `lo` the
+        // step lies is as good as chance: the compiler makes of the latter a choice of two values, where a branch would be foreseen
+        // wrongly half of the times.
+        if known.hi <= known.lo {
+            let above = self.step < known.lo;
+            return Some(if above {
+                Ordering::Greater
+            } else {
+                Ordering::Less
+            });
+        }
         if self.step < known.lo {
             return Some(Ordering::Greater);
         }

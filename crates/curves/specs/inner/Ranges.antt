@@ -1,8 +1,10 @@
--- What the functions of `curves` ask of their numbers, so that nothing on the way passes 64 bits.
-use Rattle.std.specs.Prelude.{ℕ, ◌*◌, ◌-◌, ◌^◌, ◌≤◌, ◌<◌, ◌≡◌, slice_index}
+-- What the functions of `curves` ask of their numbers, so that nothing on the way overflows.
+use Rattle.std.specs.Prelude.{ℕ, ◌+◌, ◌*◌, ◌-◌, ◌^◌, ◌≤◌, ◌<◌, ◌≡◌, slice_index}
 use Rattle.arith.specs.Rounding.{high}
 use Rattle.heldcase.specs.declared.Case.{Case}
 use Rattle.arith.specs.declared.bracket.Bracket.{Bracket}
+use Rattle.arith.specs.declared.ratio.Ratio.{Ratio}
+use Rattle.model.specs.Constants.{steps_per_one}
 use Rattle.method.specs.Rounded as Rounded
 use Rattle.method.specs.Rounded.{scaled}
 use Rattle.arith.specs.Brackets.{bracket}
@@ -23,15 +25,15 @@ pub record ShiftWithin (k : Case) (more less : ℕ) : Type 0 where
 pub record ScaledWithin (a b j : ℕ) : Type 0 where
   pub few : j ≤ 60
   pub some : 0 < b
-  pub most : b ≤ 2 ^ 40
+  pub most : b ≤ 2 ^ 34
   pub ratio : a ≤ 2 * b
   pub years : (i : ℕ) → i ≤ j → scaled high a b i < 2 ^ 42
 
 -- of a bracket, j times × p ÷ q: each result on the way can be taken once more
-pub record YearsWithin (Takes : ℕ → ℕ → ℕ → Type 0) (p q : ℕ) (x : Bracket) (j : ℕ) : Type 0 where
+pub record YearsWithin (p q : ℕ) (x : Bracket) (j : ℕ) : Type 0 where
   pub some : 0 < q
   pub order : x.lower ≤ x.upper
-  pub years : (i : ℕ) → i < j → Takes (scaled_from high p q x.upper i) p q
+  pub years : (i : ℕ) → i < j → scaled_from high p q x.upper i < 2 ^ 46
 
 -- of the growth of term j + 1, where p is P(j + 1) and q is P(j)
 pub record GrowthWithin (n p q j : ℕ) : Type 0 where
@@ -52,8 +54,10 @@ pub record FactorsWithin (c : CurveSums) : Type 0 where
   pub within : CurveWithin (curve_of c)
   pub most : c.n ≤ 700000000
 
--- of the factor of term t, that f is the one before it
-pub record NextWithin (c : CurveSums) (f : Bracket) (t : ℕ) : Type 0 where
+-- of the factor of term t, that f is the one before it; the ratio is what a factor from term 61 on is of the one before it
+pub record NextWithin (c : CurveSums) (late : Ratio) (f : Bracket) (t : ℕ) : Type 0 where
   pub curve : FactorsWithin c
+  pub dividend : late.dividend ≡ steps_per_one
+  pub divisor : late.divisor ≡ steps_per_one + c.ufr
   pub some : 1 ≤ t
   pub before : f ≡ bracket (λ e. Rounded.factor (curve_of c) e (t - 1))

@@ -2,4 +2,4 @@
 use Rattle.curves.proofs.years.+take_years.Given as goal
 
 abbrev pub decreases-take_years : goal.decreases-take_years
-decreases-take_years g l = l.j
+decreases-take_years l = l.j

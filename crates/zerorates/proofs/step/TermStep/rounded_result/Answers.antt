@@ -7,8 +7,8 @@ use Rattle.zerorates.proofs.step.TermStep.rounded_result.Goals as goal
 pub loop-init : goal.loop-init
 loop-init g c = sym (tested-none _ _)
 
-pub quotient-x-requires : goal.quotient-x-requires
-quotient-x-requires g c = test_fits _ _ _ _ _ c.args.self.within c.loop.auto.counter-end c.loop.invariant
+pub times-x-requires : goal.times-x-requires
+times-x-requires g c = test_fits _ _ _ _ _ c.args.self.within c.loop.auto.counter-end c.loop.invariant
 
 pub loop-preserved : goal.loop-preserved
-loop-preserved g c = test-more _ _ _ _ _ c.loop.invariant c.quotient-x.ensures
+loop-preserved g c = test-more _ _ _ _ _ c.loop.invariant (rw (c.of-year.ensures.0, c.of-year.ensures.1) at c.times-x.ensures)

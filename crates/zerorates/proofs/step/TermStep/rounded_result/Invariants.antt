@@ -4,4 +4,4 @@ use Rattle.method.specs.Rounded.{tested}
 use Rattle.zerorates.proofs.step.TermStep.rounded_result.Given as goal
 
 abbrev pub invariant-loop : goal.invariant-loop
-invariant-loop g l = l.x ≡ tested g.E.End.end l.counter l.self.step
+invariant-loop g l = l.x ≡ tested g.E.End.end l.counter l.fn.self.step

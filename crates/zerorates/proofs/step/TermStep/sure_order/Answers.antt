@@ -3,6 +3,12 @@ use Rattle.std.proofs.Common.{arith}
 use Rattle.zerorates.proofs.Tested.{both-above, both-below}
 use Rattle.zerorates.proofs.step.TermStep.sure_order.Goals as goal
 
+pub returns-then-above : goal.returns-then-above
+returns-then-above c = both-above (c.requires.above _ c.if-above.true)
+
+pub returns-else-above : goal.returns-else-above
+returns-else-above c = both-below (c.requires.below _ (omega (arith, c.if-known.true, c.if-above.false)) (omega (arith, c.args.self.within.step)))
+
 pub returns-then-self-known : goal.returns-then-self-known
 returns-then-self-known c = both-above (c.requires.above _ c.if-self-known.true)
 

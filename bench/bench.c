@@ -347,7 +347,7 @@ static bool same_valuation(const ginghamowl_valuation *a, const ginghamowl_valua
            memcmp(&a->figures, &b->figures, sizeof a->figures) == 0;
 }
 
-static bool demand(bool holds, const char *program, const char *what, const struct input *input)
+static bool require(bool holds, const char *program, const char *what, const struct input *input)
 {
     if (!holds)
         printf("DIFFERENCE: %s: %s: %s\n", input->name, program, what);
@@ -359,9 +359,9 @@ static bool equal(const struct work *program, const struct result *ours, const s
 {
     memset(&latest, 0, sizeof latest);
     program->once(input);
-    bool same = demand(memcmp(ours->factors, latest.factors, sizeof ours->factors) == 0, program->name, "factors", input);
-    same &= demand(memcmp(ours->rates, latest.rates, sizeof ours->rates) == 0, program->name, "zero rates", input);
-    same &= demand(same_valuation(&ours->valuation, &latest.valuation), program->name, "figures or verdict", input);
+    bool same = require(memcmp(ours->factors, latest.factors, sizeof ours->factors) == 0, program->name, "factors", input);
+    same &= require(memcmp(ours->rates, latest.rates, sizeof ours->rates) == 0, program->name, "zero rates", input);
+    same &= require(same_valuation(&ours->valuation, &latest.valuation), program->name, "figures or verdict", input);
     return same;
 }
 
@@ -373,7 +373,7 @@ static bool check(const struct input *input)
     struct fund fund;
     engine(input);
     struct result ours = latest;
-    if (!demand(ours.valuation.refusal == GINGHAMOWL_ACCEPTED, "engine", "refuses the file", input))
+    if (!require(ours.valuation.refusal == GINGHAMOWL_ACCEPTED, "engine", "refuses the file", input))
         return false;
     read_fund(input->bytes, &fund);
     memcpy(brackets[BASE].factors, ours.factors, sizeof ours.factors);
@@ -384,8 +384,8 @@ static bool check(const struct input *input)
     bool same = true;
     for (int p = ENGINE + 1; p <= RATIO; p++)
         same &= equal(&programs[p], &ours, input);
-    same &= demand(gmp_meets(input->bytes, brackets), "GMP", "an exact factor is outside its bracket", input);
-    same &= demand(arb_meets(input->bytes, brackets, ours.rates), "Arb", "a ball misses its bracket", input);
+    same &= require(gmp_meets(input->bytes, brackets), "GMP", "an exact factor is outside its bracket", input);
+    same &= require(arb_meets(input->bytes, brackets, ours.rates), "Arb", "a ball misses its bracket", input);
     return same;
 }
 

@@ -1,5 +1,4 @@
-/* What the programs of the benchmark share. "Document 01" is "The UFR curve and the solvency verdict of one fund"; "Document 02"
- * has the requests that came later. */
+/* What the programs of the benchmark share. METHOD is docs/METHOD.md, cited with the name of a section. */
 #ifndef BENCH_H
 #define BENCH_H
 
@@ -42,7 +41,7 @@ static inline int64_t shift_of(const struct fund *fund, int curve)
 /* What a rate of 1 on every day adds to a sum of rates. */
 static inline uint64_t n_of(const struct fund *fund) { return STEPS * fund->per_step; }
 
-/* N + s(t), with the shift added on every day: P(t) of document 01. P(t) / N is 1 plus the mean rate. */
+/* N + s(t), with the shift added on every day: P(t) (METHOD, The rounded working). P(t) / N is 1 plus the mean rate. */
 static inline uint64_t p_of(const struct fund *fund, int64_t shift, int t)
 {
     return (uint64_t)((int64_t)n_of(fund) + fund->sum[t] + (int64_t)fund->per_step * shift);
@@ -65,7 +64,7 @@ extern const uint64_t weights[LAST_MARKET_TERM + 1]; /* in thousandths, of terms
 /* How years by one fraction are taken, each of them rounded: plain.c divides in each, ratio.c multiplies by a ratio that
  * it makes once. All else of the rounded working is the same for both. */
 struct years {
-    /* 10^12, taken times a / b so many times. No result is above `most`, which tells how long the products get. */
+    /* 10^12, taken times a / b this many times. No result is above `most`, which tells how long the products get. */
     ginghamowl_bracket (*growth)(uint64_t a, uint64_t b, int count, uint64_t most);
     void (*past_market)(uint64_t ufr, uint64_t *factors); /* the factors of terms 61 to 120, from that of term 60 */
     uint64_t (*discounted_down)(int64_t z, int t); /* the lower result of a test of step z: 10^12, discounted t times */

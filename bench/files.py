@@ -11,11 +11,10 @@ import sys
 from dataclasses import replace
 from pathlib import Path
 
-sys.path.insert(0, str(Path(__file__).resolve().parent.parent / "tests"))
+sys.path.insert(0, str(Path(__file__).resolve().parent.parent))
 
-import examples  # noqa: E402
-import files  # noqa: E402
-from reference import AMOUNTS, SHOCKS, Case, Refusal, encode, read  # noqa: E402
+from tests.inputs import examples, files  # noqa: E402
+from tests.reference.reference import AMOUNTS, SHOCKS, Case, Refusal, encode, read  # noqa: E402
 
 
 def day(rng):

@@ -1,4 +1,4 @@
-/* The rounded working of document 01 in plain C, with a filter before the tests of the zero rates.
+/* METHOD, The rounded working, in plain C, with a filter before the tests of the zero rates.
  *
  * Everything but the zero rates is plain.c's, with what it assumes and leaves out. The zero rates are searched in the engine's
  * way: each search halves, as in plain.c, and each test has the same outcome. Before the two searches of a term a step is

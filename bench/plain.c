@@ -1,8 +1,8 @@
-/* The rounded working of document 01 in plain C: what one would write without proofs, for speed.
+/* METHOD, The rounded working, in plain C: what one would write without proofs, for speed.
  *
  * It assumes that the file is accepted. The benchmark only times such files, so the checks of the
  * thirteen refusals are left out; this favours plain C. Nothing is proved of it. That no product below
- * overflows follows from document 01's limits, and is stated where it is not plain to see. */
+ * overflows follows from the limits (METHOD, The case file), and is told where it is not plain to see. */
 #include "bench.h"
 
 #include <math.h>

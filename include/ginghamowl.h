@@ -1,11 +1,12 @@
 /* Ginghamowl: the valuation of one pension fund from one case file, every figure proved.
  *
- * "Document 01" is "The UFR curve and the solvency verdict of one fund". It says what a case file
- * is, what each figure means and what each refusal is. "Document 02" has the requests that came
- * later: ginghamowl_save and its refusal 14 are its request One, the rolling window of days and its
- * refusals 15, 16 and 27 its request Two, the UFR from a history of months and its refusals 17, 18 and
- * 19 its request Five, zero rates in four bytes its request Six. The functions below are those of the
- * crate `host` (crates/host/src/lib.rt), and their contracts there are proved against both.
+ * This header is the engine's whole interface for C and C++. It says what each function takes and
+ * answers, with units, limits and refusals. What the numbers mean is in docs/METHOD.md of the
+ * repository, cited here as METHOD with the name of a section: a case file (METHOD, The case file), a
+ * figure (METHOD, The exact working), a refusal (METHOD, Refusals), saving (METHOD, Saving a case), a
+ * rolling window (METHOD, A rolling window of days), a history (METHOD, The UFR from a history of months)
+ * and zero rates in four bytes (METHOD, Rates in four bytes). The functions below are those of the crate
+ * `host` (crates/host/src/lib.rt), and their contracts there are proved.
  *
  * LENT MEMORY, the same for every function:
  *
@@ -59,7 +60,7 @@ enum {
     GINGHAMOWL_FILE_BYTES = 17623,   /* the longest accepted file; one byte more decides a refusal, and
                                         every saved case fits (crates/promises: accepted_files_are_short,
                                         first_bytes_decide, saved_files_are_short) */
-    GINGHAMOWL_LISTING_BYTES = 512,  /* a listing always fits into so many bytes: it has at most 463
+    GINGHAMOWL_LISTING_BYTES = 512,  /* a listing always fits into this many bytes: it has at most 463
                                         (crates/promises: listings_are_short) */
     GINGHAMOWL_WINDOW_DAYS = 70,     /* the slots of a rolling window, and the most days that it holds */
     GINGHAMOWL_WINDOW_RATES = 4200,  /* the rates of all its slots */
@@ -74,10 +75,10 @@ enum {
 
 /* ---------------------------------------------------------------- refusals */
 
-/* Document 01's numbers, and 14 to 19 and 27 of document 02; no refusal has the numbers 20 to 26.
+/* The numbers of METHOD, Refusals; no refusal has the numbers 20 to 26.
  * 1 to 12, 18 and 19 are errors of the office that made the file, the case, the day or the months; the
  * others, and 3 for a case that is handed in, are errors of the host. The first that applies is given.
- * For a file the order is document 01's: 13; the map (1, then 3); each field in bit order; then 2; then 6.
+ * For a file the order is 13; the map (1, then 3); each field in bit order; then 2; then 6.
  * For a case that is saved, for a rolling window and for a history of months, the functions below have
  * it. */
 /* hosts/words writes: refusals */
@@ -347,8 +348,8 @@ ginghamowl_part ginghamowl_rates_part(const uint8_t *file, size_t file_length);
 ginghamowl_point ginghamowl_window_point(uint64_t point, const uint64_t *factors, size_t factors_length,
                                          ginghamowl_figures figures);
 
-/* Writes document 01's listing, lines that end in '\n' and no closing 0, to the front of `out`, and
- * returns how many bytes it wrote; later bytes keep their content. Where `out` is too short nothing
+/* Writes the listing (METHOD, Buffers, window, listing), lines that end in '\n' and no closing 0, to the
+ * front of `out`, and returns how many bytes it wrote; later bytes keep their content. Where `out` is too short nothing
  * is written and 0 is returned; GINGHAMOWL_LISTING_BYTES always suffice.
  *
  * A valuation that no call returned has a meaning too: with a `refusal` other than 0 it lists as

@@ -153,8 +153,8 @@ judge() { # NAME LOG CRATE..
 
 # Says which crates have been proved, as long as the process runs, and where rt waits for another run of its own.
 show_progress() { # NAME LOG COUNT PID
-  told=0 # so many lines
-  passed=0 # so many crates
+  told=0 # this many lines
+  passed=0 # this many crates
   while kill -0 "$4" 2> /dev/null; do
     show_new "$1" "$2" "$3"
     sleep 0.2 || :

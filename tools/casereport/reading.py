@@ -15,7 +15,7 @@ LARGEST_TEXT, LARGEST_FILE = 16_000_000, 1 << 30  # bytes; more is no case, and 
 
 
 def contents(name: str, is_text: bool, most: int) -> tuple[bytes, str]:
-    """All of a text, or so many bytes of another file, and the SHA-256 of all of it."""
+    """All of a text, or this many bytes of another file, and the SHA-256 of all of it."""
     if name == "-" and sys.stdin is None:  # the number 0 may be of another file by now
         raise NoAnswer("cannot be read: standard input is closed")
     front, digest, length = bytearray(), hashlib.sha256(), 0

@@ -1,4 +1,4 @@
-"""What ./value writes: the listings of document 01, or all that is known of each file as JSON or CSV."""
+"""What ./value writes: the listings, or all that is known of each file as JSON or CSV."""
 
 import csv
 import io

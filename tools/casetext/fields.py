@@ -1,4 +1,4 @@
-"""What a case holds: the fields of the file with their limits, as document 01 has them, and document 02 for four-byte rates."""
+"""What a case holds: the fields of the file with their limits (METHOD, The case file, and Rates in four bytes)."""
 
 from dataclasses import dataclass, field
 from datetime import date

@@ -1,6 +1,6 @@
-"""The bytes of a case file: reading them in document 01's order of checks, and writing them.
+"""The bytes of a case file: reading them in the order of the refusals (METHOD, Refusals), and writing them.
 
-The days stand in one of two fields: with rates of two bytes behind the UFR, or with rates of four behind the people.
+The days are in one of two fields: with rates of two bytes after the UFR, or with rates of four after the people.
 """
 
 from dataclasses import dataclass
@@ -11,7 +11,7 @@ from .units import COUNT, MONEY, Number, shown
 
 
 class Fault(Exception):
-    """The first rule that a file breaks: document 01's number, the byte, and what is wrong."""
+    """The first rule that a file breaks: the number of the refusal, the byte, and what is wrong."""
 
     def __init__(self, number: int, byte: int, sentence: str) -> None:
         super().__init__(f"refused, {number}, at byte {byte}: {sentence}")
@@ -27,7 +27,7 @@ class Part:
 
 
 class Reader:
-    """Reads a file from its front, in document 01's order of checks, and notes each part that was read."""
+    """Reads a file from its front, in the order of the refusals, and notes each part that was read."""
 
     def __init__(self, data: bytes) -> None:
         self.data, self.at = data, 0
@@ -158,7 +158,7 @@ def read(data: bytes) -> Case:
 
 
 def refusal(data: bytes) -> int:
-    """Document 01's number for a file, 1 to 12; 0 where it is accepted."""
+    """The number of a file's refusal, 1 to 12; 0 where it is accepted."""
     try:
         read(data)
     except Fault as fault:

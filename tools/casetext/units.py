@@ -82,7 +82,7 @@ FRACTION_WORDS = "fraction", "fractions", "fractie", "fracties"
 
 RATE = Kind("steps", (Unit(PERCENT_WORDS, 1_000, True), Unit(BP_WORDS, 10), Unit(("steps", "step"), 1)),
             Unit(FRACTION_WORDS, 100_000, True, True))
-# No text has steps here: document 02 also calls a hundredth of a step a step, so that they could be read in two ways.
+# No text has steps here: of four-byte rates a hundredth of a step is called a step too, so that they could be read in two ways.
 FINE_RATE = Kind("hundredths of a step", (Unit(PERCENT_WORDS, 100_000, True), Unit(BP_WORDS, 1_000)),
                  Unit(FRACTION_WORDS, 10_000_000, True, True))
 SHARE = Kind("thousandths", (Unit(PERCENT_WORDS, 10, True), Unit(("thousandths", "thousandth"), 1)))

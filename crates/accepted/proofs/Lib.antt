@@ -1,2 +1,2 @@
--- Files that are accepted, and the cases that they hold. tests/pinned.py writes them.
+-- Files that are accepted, and the cases that they hold. tests/writers writes them.
 pub mod Accepted

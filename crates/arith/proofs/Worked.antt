@@ -21,7 +21,7 @@ quotient-whole : (divide low 6 2 ≡ 3) × (divide high 6 2 ≡ 3) × (divide lo
 unfolding divide
 quotient-whole = (refl, refl, refl, refl)
 
--- the root of 3,700,000,000 (case C9 of the paper), as the fraction 3,700,000,000,000 ÷ 1000
+-- the root of 3,700,000,000 (the hand-worked case C9), as the fraction 3,700,000,000,000 ÷ 1000
 root-c9 : (root low 3700000000000 1000 ≡ 60827) × (root high 3700000000000 1000 ≡ 60828)
 unfolding root
 root-c9 = (refl, refl)

@@ -1,4 +1,4 @@
--- A read in place: what stood at the front of a buffer, and what was read behind it, are the new front.
+-- A read in place: what was at the front of a buffer, and what was read after it, are the new front.
 use Rattle.std.proofs.Common.{◌≡◌, ℕ, ◌+◌, ◌≤◌, List, ◌++◌, Option, length, take, drop, subst, sym, ap, ◌∙◌, le_refl, drop_at, length-take-le}
 use Rattle.std.proofs.lemmas.Slice.{take-put_mid_below}
 use Rattle.std.specs.Io.KnownBytes.{Consumes}
@@ -6,7 +6,7 @@ use Rattle.std.proofs.KnownBytes.{Consumes-trans}
 use Rattle.std.proofs.Math.Seq.{take-add, take-append-le}
 use borrow.Rule.Slice.PartMut.{put_mid, post_of}
 
--- the new front: n bytes of ys were put behind the first `done` of xs
+-- the new front: n bytes of ys were put after the first `done` of xs
 front-grows : (done room n : ℕ) (xs ys : List ℕ) → done ≤ length xs → n ≤ length ys
     → take (done + n) (put_mid done room xs ys) ≡ take done xs ++ take n ys
 front-grows done room n xs ys within fits =

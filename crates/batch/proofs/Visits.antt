@@ -3,7 +3,7 @@ use Rattle.std.proofs.Common.{◌≡◌, ℕ, inr, List, Option, Some, None, len
 use Rattle.batch.specs.Input.{LengthGiven, FileGiven}
 use Rattle.batch.specs.Files.{NextFile, NoFile}
 
--- a length and what there is of the file behind it
+-- a length and what there is of the file after it
 pub next-file : (before middle after : Option (List ℕ)) (wanted count : ℕ) (held buf : List ℕ) → LengthGiven before middle (Some wanted)
     → FileGiven wanted middle after held buf (Some count) → NextFile before (take count buf) after
 next-file before middle after wanted count held buf told given =

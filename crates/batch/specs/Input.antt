@@ -1,15 +1,15 @@
--- What reading many files from one input gives. What stands in the standard input nobody knows beforehand: these say how large an answer
+-- What reading many files from one input gives. The input is unknown: these say how large an answer
 -- is, what a lent buffer keeps, and what a reader whose bytes are known has lost. Assumes nothing.
 use Rattle.std.specs.Prelude.{ℕ, ◌^◌, ◌≤◌, ◌<◌, ◌≡◌, List, Option, None, Some, IfSome, length, take}
 use Rattle.std.specs.Io.KnownBytes.{Consumes, Keeps, IsAtEnd}
 use Rattle.model.specs.Numbers.{number}
 
--- the reader has lost so many bytes, which stand at the front of a buffer
+-- the reader has lost this many bytes, which are at the front of a buffer
 pub record LosesFront (before after : Option (List ℕ)) (buf : List ℕ) (count : ℕ) : Type 0 where
   pub within : count ≤ length buf
   pub lost : Consumes before after (take count buf)
 
--- the reader has lost so many bytes
+-- the reader has lost this many bytes
 abbrev pub LosesCount : Option (List ℕ) → Option (List ℕ) → ℕ → Type 0
 LosesCount before after count = (bytes : List ℕ) × (length bytes ≡ count) × Consumes before after bytes
 

@@ -1,4 +1,4 @@
-// What the programs share: an input read until a buffer is full, and many files in one input, each behind its length in four bytes, the
+// What the programs share: an input read until a buffer is full, and many files in one input, each after its length in four bytes, the
 // highest first.
 #![tactic(auto)]
 
@@ -15,7 +15,7 @@ use std::io::Read;
 // What for_each has room for.
 const MOST_BYTES: usize = 100_000;
 
-/// A read that failed, also one that a signal interrupts, and how many bytes had come before it. The bytes themselves stand in the buffer
+/// A read that failed, also one that a signal interrupts, and how many bytes had come before it. The bytes themselves are in the buffer
 /// of the caller.
 #[derive(Drop)]
 pub struct Cut {
@@ -66,7 +66,7 @@ pub fn next_length<R: Read>(input: &mut R) -> Result<Option<usize>, Cut>
 }
 
 /// Reads the next `wanted` bytes to the front of `buf`, and answers how many there were; none, and nothing is read, where `buf` is
-/// shorter. What `buf` holds between that count and `wanted` is not said: a read may leave anything there. `wanted` stands beside `buf`,
+/// shorter. What `buf` holds between that count and `wanted` is not said: a read may leave anything there. `wanted` is given beside `buf`,
 /// since the caller has one buffer for files of any length, and a file that is too long for it is no error.
 pub fn read_file<R: Read>(
     input: &mut R,

@@ -12,7 +12,7 @@ use clap::{Arg, ArgAction, Command, Error};
 use std::alloc::{AllocError, Global};
 use version::VERSION;
 
-// How the answers are written. The byte stands between the cells of CSV.
+// How the answers are written. The byte is what separates the cells of CSV.
 #[derive(Clone, Copy)]
 pub enum Form {
     Text,

@@ -6,7 +6,7 @@ ghost use Rattle.curves.specs.inner.Ranges.{ShiftWithin};
 use heldcase::Case;
 
 /// `n` is N; `sums` has P(0) to P(60), which are N times 1 + the mean rate, so that no mean is rounded. `ufr` is in rate steps. That the
-/// factors of a curve fit stands in clauses: a ghost field would ask it of `shifted` too, which asks less.
+/// factors of a curve fit is said in clauses: a ghost field would ask it of `shifted` too, which asks less.
 #[derive(Clone, Copy)]
 pub struct CurveSums {
     pub n: u64,

@@ -1,4 +1,4 @@
-// The weights of the UFR growth: the fixed weights of the DNB note of 2012 on the adjusted curve (source document 001), a term each.
+// The weights of the UFR growth, a term each: the table of fixed weights of DNB's note of 2012 (METHOD, Sources).
 ghost use Rattle.std.specs.Prelude.{◌≡◌, ◌≤◌};
 ghost use Rattle.method.specs.Curve.{weight};
 

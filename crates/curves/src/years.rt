@@ -1,4 +1,4 @@
-// A growth over years: 1, taken so many times × p ÷ q, at both ends.
+// A growth over years: 1, once × p ÷ q a year, at both ends.
 ghost use Rattle.std.specs.Prelude.{◌≡◌};
 ghost use Rattle.arith.specs.Brackets.{bracket, end_of};
 ghost use Rattle.method.specs.Rounded.{scaled};

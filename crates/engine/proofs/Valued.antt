@@ -22,7 +22,7 @@ use Rattle.model.specs.declared.figures.Valuation.{Valuation}
 use Rattle.heldcase.specs.Held.{held}
 use Rattle.heldcase.specs.declared.Case.{Case}
 use Rattle.theory.proofs.acceptance.Acceptance.{refusal-number, within-limits}
-use Rattle.theory.proofs.demand3.Calls.{own-refusal, call, figures-call}
+use Rattle.theory.proofs.containment.Calls.{own-refusal, call, figures-call}
 use Rattle.reader.proofs.Exactly.{slice-bytes}
 use Rattle.refusal.specs.declared.Refusal.{Refusal}
 use Rattle.refusal.specs.declared.Refusal.TheVariants.{Buffers}

@@ -1,4 +1,4 @@
--- Of a number below 65,536 the bits 8 to 15 do not stand exactly where it is below 256.
+-- Of a number below 65,536 the bits 8 to 15 are clear exactly where it is below 256.
 use mathlib.Core.Path.{◌≡◌, refl, sym, ◌∙◌}
 use mathlib.Core.Bool.{Bool, true, false, not}
 use Prim.Native.Nat.{ℕ, ◌+◌, ◌/◌, ◌%◌, ◌^◌, ◌≤◌, ◌<◌}

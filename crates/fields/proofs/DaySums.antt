@@ -109,7 +109,7 @@ rates-part w file start m at n l =
     ap (twos_complement w) (number-part file start m (at + w * i) w inside ∙ ap (λ j. number file j w) there))
     ∙ sym (values-table (daily_rate w) file (start + at) n)
 
--- so many whole days have so many bytes
+-- how many bytes whole days have
 pub day-size : (w : ℕ) → known_form w ≡ true → 0 < w * 60
 day-size w known = by_form (λ v. 0 < v * 60) w known (omega arith) (omega arith)
 
@@ -153,7 +153,7 @@ pub no-sums : sums_of [] ≡ replicate 60 (pos 0)
 unfolding table s
 no-sums = refl
 
--- the days of a part of a file that has so many whole days
+-- the days of a part of a file that has whole days
 pub days-whole : (w n : ℕ) (file : List ℕ) (at : ℕ) (part : List ℕ) → length part / (w * 60) ≡ n → part ≡ take (w * 60 * n) (drop at file)
     → value_all (day w) part 0 (length part / (w * 60)) ≡ value_all (day w) file at n
 days-whole w n file at part long e =

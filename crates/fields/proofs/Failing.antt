@@ -19,7 +19,7 @@ pub check-failed : (b : Bool) (n : Refusal) {x : Refusal} → Some x ≡ failing
 check-failed true n h = cc
 check-failed false n h = refl
 
--- a check that fails, and those behind it
+-- a check that fails, and those after it
 pub refused-at : {x : Refusal} (b : Bool) {c : Bool} (n : Refusal) (behind : List Check) → Some x ≡ failing ((b, n) ∷ []) → b ≡ c
     → Some x ≡ failing ((c, n) ∷ behind)
 refused-at true n behind h k = cc

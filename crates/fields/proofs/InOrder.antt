@@ -1,4 +1,4 @@
--- One field is read behind another.
+-- One field is read after another.
 use Rattle.std.proofs.Common.{◌≡◌, ◌∙◌, ℕ, Bool, true, false, ap, refl, sym, subst}
 use Rattle.std.specs.Prelude.{List, None, Some, Ok}
 use Rattle.std.specs.Borrow.{Bor}

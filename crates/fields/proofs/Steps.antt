@@ -1,4 +1,4 @@
--- A step of a reading or of a check behind others.
+-- A step of a reading or of a check after others.
 use Rattle.std.proofs.Common.{◌≡◌, ◌∙◌, ◌++◌, ap, sym}
 use Rattle.std.specs.Prelude.{List, Option, Some, None, Result, Ok, Err, IsErr, IsErrAnd}
 use Rattle.model.specs.Fields.{Check}
@@ -19,7 +19,7 @@ go cs ds h k = k ∙ sym (holds-first cs ds h)
 pub stop : (e : Refusal) (cs ds : List Check) → Some e ≡ failing cs → Some e ≡ failing (cs ++ ds)
 stop e cs ds h = sym (fails-first cs ds e (sym h))
 
--- a step whose answer is that of its last part, behind checks that hold
+-- a step whose answer is that of its last part, after checks that hold
 pub behind-checks : {A M : Type 0} (x : A) (cs ds : List Check) → failing cs ≡ None → M → (r : Result A Refusal) → Checked ds (λ v. v ≡ x) r
     → Checked (cs ++ ds) (λ v. (v ≡ x) × M) r
 behind-checks x cs ds h m (Ok v) k = (sym (go cs ds h (sym k.0)), (k.1, m))

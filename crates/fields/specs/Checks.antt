@@ -10,7 +10,7 @@ abbrev pub Checked : {A : Type 0} → List Check → (A → Type 0) → Result A
 Checked checks Q (Ok v) = (failing checks ≡ None) × Q v
 Checked checks Q (Err e) = Some e ≡ failing checks
 
--- a count byte, the count, and the rest of the length of so many values
+-- a count byte, the count, and the rest of the length of as many values
 abbrev pub count_checks : ℕ → Refusal → ℕ → List ℕ → ℕ → List Check
 count_checks most c size file at =
     (reaches file (at + 1), EndsEarly)

@@ -5,7 +5,7 @@ use Rattle.fields.specs.Sums.{Sums}
 use Rattle.fields.specs.Reading.{IsPart}
 use Rattle.fields.specs.declared.sums.FileDays.{FileDays}
 
--- their sums, and their bytes, which stand behind the count
+-- their sums, and their bytes, which follow the count
 pub record IsDays (w : ℕ) (file : Bor (List ℕ)) (at : ℕ) (v : FileDays) (ds : List (List ℤ)) : Type 0 where
   pub sums : Sums w ds v.summed.per_step v.summed.sums
   pub place : v.rates_at ≡ at + 1

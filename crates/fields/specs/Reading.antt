@@ -17,7 +17,7 @@ pub record IsPart (file part : Bor (List ℕ)) (at count : ℕ) : Type 0 where
   pub place : part.ref_ptr ≡ (file.ref_ptr.0, at + file.ref_ptr.1)
   pub whole : length part.now ≡ count
 
--- a field is read: its checks, then its value as Q says that it is held, and the cursor is behind it
+-- a field is read: its checks, then its value as Q says that it is held, and the cursor is after it
 abbrev pub Reads : {A B : Type 0} → Field A → (B → A → Type 0) → Cursor → Cursor → Result B Refusal → Type 0
 Reads f Q old new result =
     Checked (f.checks old.file.now old.at) (λ v. Q v (f.value old.file.now old.at) × Moved old new (f.end old.file.now old.at)) result

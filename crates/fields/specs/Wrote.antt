@@ -4,7 +4,7 @@ use Rattle.std.proofs.lemmas.List.Edits.{sets}
 use Rattle.model.specs.Fields.{number_of, bytes_all}
 use Rattle.fields.specs.declared.writer.Writer.{Writer}
 
--- a text stands behind what was written before, and every other byte is as before
+-- a text follows what was written before, and every other byte is as before
 pub record Wrote (before : Writer) (text : List ℕ) (after : Writer) : Type 0 where
   pub same : after.out.ghost_name ≡ before.out.ghost_name
   pub long : length after.out.now ≡ length before.out.now

@@ -25,7 +25,7 @@ impl<'a> Cursor<'a> {
         Cursor { file, at: 0 }
     }
 
-    // The next bytes, if the file has so many.
+    // The next bytes, if the file has this many.
     pub fn take(&mut self, count: usize) -> Result<&'a [u8], Refusal>
         ensures { Checked ((reaches self.old.file.now (self.old.at + count), EndsEarly) ∷ [])
             (λ part. IsPart self.old.file part self.old.at count × Moved self.old self.new (self.old.at + count)) result }
@@ -57,7 +57,7 @@ impl<'a> Cursor<'a> {
         Ok(big_endian_all::<W, N>(self.take(W * N)?))
     }
 
-    // A count byte of 1 to `most`, and the bytes of so many values: their number, and these bytes.
+    // A count byte of 1 to `most`, and the bytes of as many values: their number, and these bytes.
     pub fn counted(
         &mut self,
         most: usize,

@@ -79,7 +79,7 @@ fn write_days<F: RateForm>(held: &[[i32; 60]], out: &mut Writer<'_>)
     }
 }
 
-// Of a file the sums are kept, and the bytes; `None` stands for a field that is not there.
+// Of a file the sums are kept, and the bytes; `None` is a field that is not there.
 #[derive(Drop)]
 pub struct Days<F>(pub F);
 

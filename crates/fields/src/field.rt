@@ -27,7 +27,7 @@ pub trait Field<'a> {
 
     ghost told: { Self → FieldOf Self.Value };
 
-    // What a file gives, where it stands in a file, holds a value.
+    // What a file gives, where it is in a file, holds a value.
     ghost is_read: { Self → Bor (List ℕ) → ℕ → Self.Read → Self.Value → Type 0 };
 
     ghost said: { Self.Given → Self.Value };

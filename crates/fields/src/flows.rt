@@ -1,4 +1,4 @@
-// Flows of pensions or bonds, in whole euros: a count of one byte, 1 to `MOST`, and then so many flows, 0 to 100,000,000 each.
+// Flows of pensions or bonds, in whole euros: a count of one byte, 1 to `MOST`, and then as many flows, 0 to 100,000,000 each.
 #![tactic(auto, using(crate::proofs::Lengths::lengths, crate::proofs::Digits::all_right))]
 
 ghost use Rattle.std.specs.Prelude.{◌≡◌, ◌≤◌, ◌*◌, ◌/◌, [], ◌∷◌, length};

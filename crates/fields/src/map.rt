@@ -19,7 +19,7 @@ pub struct Map {
 }
 
 impl Map {
-    // Whether a bit stands; bit 0 is the lowest.
+    // Whether a bit is set; bit 0 is the lowest.
     pub fn stands(self, bit: u32) -> bool
         requires { bit < 16 }
         ensures { result ≡ stands bit self.bits }
@@ -27,7 +27,7 @@ impl Map {
         (self.bits >> bit) % 2 == 1
     }
 
-    // One of the bits 1 and 7 stands, of the two days fields; bits 2, 5 and 6 stand, and none above bit 7.
+    // One of the bits 1 and 7 is set, of the two days fields; bits 2, 5 and 6 are set, and none above bit 7.
     #[tactic(auto, using(crate::proofs::Bits::bits_above))]
     fn is_right(self) -> bool
         ensures { result ≡ bits_right self.bits }

@@ -1,4 +1,4 @@
-// The two forms in which a rate stands in a file.
+// The two forms of a rate in a file.
 
 ghost use Rattle.std.specs.Prelude.{◌≡◌, ℕ, true, length};
 ghost use Rattle.model.specs.Case.{known_form, units_per_step};

@@ -19,12 +19,12 @@ pub struct DaySums {
     ghost bounded: { Bounded (10000 * per_step) sums },
 }
 
-// The days of a file: their sums, the file's bytes that hold the rates, and where these stand.
+// The days of a file: their sums, the file's bytes that hold the rates, and where these are.
 #[derive(Clone, Copy)]
 pub struct FileDays<'a> {
     pub summed: DaySums,
     pub rates: &'a [u8],
-    // A host is told where its rates stand, and C has no slice of a slice: so an offset goes beside the bytes.
+    // A host is told where its rates are, and C has no slice of a slice: so an offset goes beside the bytes.
     pub rates_at: usize,
 }
 

@@ -1,6 +1,6 @@
 -- What a host is told: the numbers of verdicts and refusals, each figure in its place, kinds of points, counts and UFRs; and what a struct of
 -- these numbers says, and prints. All of it as computed statements about the definitions.
--- tests/pinned.py wrote this file, from the one table of words, hosts/words.toml: change that, not this. Assumes nothing.
+-- tests/writers wrote this file, from the one table of words, hosts/words.toml: change that, not this. Assumes nothing.
 use Prim.Native.Nat.{ℕ}
 use Prim.Native.String.{String}
 use mathlib.Core.Path.{◌≡◌, refl}

@@ -40,7 +40,7 @@ verdict_number Reservetekort = 2
 verdict_number VrijVermogen = 3
 verdict_number Onbeslist = 4
 
--- a number that stands for no verdict is undecided
+-- a number that is no verdict's is undecided
 abbrev pub verdict_from : ℕ → Verdict
 verdict_from number =
     if number == 1 then Dekkingstekort else if number == 2 then Reservetekort else if number == 3 then VrijVermogen else Onbeslist
@@ -50,7 +50,7 @@ abbrev pub host_valuation : Result Valuation Refusal → HostValuation
 host_valuation (Err r) = record { refusal = number_of r; verdict = 0; figures = no_figures }
 host_valuation (Ok v) = record { refusal = 0; verdict = verdict_number v.verdict; figures = v.figures }
 
--- what a host's struct says, whether or not a valuation gave it: a number other than 0 is a refusal, whatever stands beside it, also one that
+-- what a host's struct says, whether or not a valuation gave it: a number other than 0 is a refusal, whatever is beside it, also one that
 -- no refusal has
 abbrev pub numbered : ℕ → ℕ → Figures → Result Valuation ℕ
 numbered zero verdict figures = Ok (record { figures = figures; verdict = verdict_from verdict })

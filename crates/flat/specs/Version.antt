@@ -3,7 +3,7 @@
 use Rattle.std.specs.Prelude.{ℕ, ◌-◌, List, ◌++◌, length, replicate, codes}
 use Rattle.flat.specs.declared.HostVersion.{HostVersion}
 
--- a text as C reads it from so many bytes: zeros stand behind it
+-- a text as C reads it from this many bytes: zeros follow it
 abbrev pub padded : ℕ → List ℕ → List ℕ
 padded room text = text ++ replicate (room - length text) 0
 

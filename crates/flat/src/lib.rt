@@ -45,7 +45,7 @@ pub struct HostUfr {
     pub ufr: u64,
 }
 
-// The version of the engine, and the kit that it is proved with: its name in ASCII and zeros behind it, at least one, so that C reads it
+// The version of the engine, and the kit that it is proved with: its name in ASCII and zeros after it, at least one, so that C reads it
 // as a text.
 #[repr(C)]
 #[derive(Clone, Copy)]
@@ -77,7 +77,7 @@ impl From<Result<Valuation, Refusal>> for HostValuation {
     }
 }
 
-// A number that stands for no verdict is undecided. A function and no `From`, since neither type is one of this crate.
+// A number that is no verdict's is undecided. A function and no `From`, since neither type is one of this crate.
 fn verdict_from(number: u8) -> Verdict
     ensures { result ≡ verdict_from number }
 {

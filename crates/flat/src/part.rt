@@ -1,4 +1,4 @@
-// Where the rates stand in a file, as a host is told.
+// Where the rates are in a file, as a host is told.
 ghost use Rattle.std.specs.Prelude.{◌≡◌, take, drop};
 ghost use Rattle.model.specs.Refusals.{rates_part};
 ghost use Rattle.model.specs.Promises.{PartCall};
@@ -14,7 +14,7 @@ pub struct HostPart {
     pub length: usize,
 }
 
-// Where the rates stand in the file: n × 120 bytes, or n × 240 of rates of four bytes; 0 and 0 where the file is refused. Only a refused
+// Where the rates are in the file: n × 120 bytes, or n × 240 of rates of four bytes; 0 and 0 where the file is refused. Only a refused
 // file has an empty part.
 pub fn rates_place(file: &[u8]) -> HostPart
     ensures value { result ≡ host_part file.now }

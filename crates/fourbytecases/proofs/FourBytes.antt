@@ -2,8 +2,8 @@
 -- a case; the listings of a file, of the same rewritten, and of a fund none of whose rates is a whole step; and two of its zero rates. All
 -- of it as computed statements about the definitions. The days are the last field: a rate that passes 5 is shown by what comes behind it,
 -- 0 or 6.
--- tests/pinned.py wrote this file, from an implementation in Python that was written from the papers and, for request Six, from the
--- readings that its first lines name (tests/reference.py): change that, not this. Assumes nothing.
+-- tests/writers wrote this file, from the reference in Python, which was written without the engine's code (tests/reference): change
+-- that, not this. Assumes nothing.
 use Prim.Native.Nat.{ℕ}
 use Prim.Native.String.{String}
 use mathlib.Core.Path.{◌≡◌, refl}

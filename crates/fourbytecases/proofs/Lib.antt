@@ -1,2 +1,2 @@
--- Files, the order of checks, windows, months and listings. tests/pinned.py writes them.
+-- Files, the order of checks, windows, months and listings. tests/writers writes them.
 pub mod FourBytes

@@ -1,3 +1,3 @@
-// Request Six, rates in four bytes: what takes long to compute of its definitions, in proofs/. There is no code here, and nothing
-// depends on this crate: no edit pays for it.
+// Rates in four bytes (METHOD, Rates in four bytes): what takes long to compute of its definitions, in proofs/. There is no code here, and
+// nothing depends on this crate: no edit pays for it.
 #![tactic(auto)]

@@ -18,7 +18,7 @@ struct FiguresShown {
 
 impl Described for FiguresShown {}
 
-// By hand, since the names and their order stand in one list.
+// By hand, since the names and their order are in one list.
 impl Serialize for FiguresShown {
     fn serialize<S: Serializer>(&self, out: &mut S) -> Result<(), S::Error> {
         out.begin_map(Some(10))?;

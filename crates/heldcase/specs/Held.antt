@@ -1,4 +1,4 @@
--- The case as the engine holds it: the struct `Case` of src/lib.rt that represents a case of document 01.
+-- The case as the engine holds it: the struct `Case` of src/lib.rt that represents the case of a file.
 use Rattle.std.specs.Prelude.{suc, [], replicate}
 use Rattle.model.specs.Constants.{default_ufr}
 use Rattle.model.specs.Numbers.{table}

@@ -8,7 +8,7 @@ use std::marker::Model;
 #[derive(Clone, Copy)]
 pub struct Flows<const MOST: usize> {
     count: usize,
-    // The entries behind the first `count` are 0, so that two equal lists are held alike.
+    // The entries after the first `count` are 0, so that two equal lists are held alike.
     entries: [u64; MOST],
 }
 

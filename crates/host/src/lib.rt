@@ -87,7 +87,7 @@ pub extern "C" fn ginghamowl_refusal(file: &[u8]) -> u8
     refusal_of(file)
 }
 
-// Where the rates stand in the file, as `flat::part::rates_place` finds it: n × 120 bytes, or n × 240 of rates of four bytes; 0 and 0
+// Where the rates are in the file, as `flat::part::rates_place` finds it: n × 120 bytes, or n × 240 of rates of four bytes; 0 and 0
 // where the file is refused. Only a refused file has an empty part.
 #[unsafe(no_mangle)]
 pub extern "C" fn ginghamowl_rates_part(file: &[u8]) -> HostPart
@@ -154,7 +154,7 @@ pub extern "C" fn ginghamowl_rolling_empty() -> RollingWindow
     empty()
 }
 
-// The rolling window with a day behind the newest, as `rolling::add_day` gives it.
+// The rolling window with a day after the newest, as `rolling::add_day` gives it.
 #[unsafe(no_mangle)]
 pub extern "C" fn ginghamowl_rolling_add(window: RollingWindow, day: Day) -> ChangedWindow
     ensures value { result ≡ add_day window day.rates }

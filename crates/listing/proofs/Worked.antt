@@ -1,4 +1,4 @@
--- The listing that the paper prints of file C1, from its figures and its verdict, and one of a refusal. Assumes nothing.
+-- The listing of file C1 (METHOD, Buffers, window, listing), from its figures and its verdict, and one of a refusal. Assumes nothing.
 use mathlib.Core.Path.{◌≡◌, refl}
 use Prim.Native.Nat.{ℕ}
 use Rattle.std.specs.Prelude.{Ok, Err}

@@ -1,4 +1,4 @@
--- What the window shows of a case, where the factors of the case stand in front of the lent buffer (document 01, 'Buffers, window, print').
+-- What the window shows of a case, where the factors of the case are in front of the lent buffer (METHOD, Buffers, window, listing).
 -- Assumes nothing.
 use Rattle.std.specs.Prelude.{ℕ, ◌≤◌, ◌<◌, ◌≡◌, List, length, ℤ}
 use Rattle.arith.specs.Rounding.{End, low, high}

@@ -72,7 +72,7 @@ fn push_figures(text: &mut Text, f: Figures)
     }
 }
 
-// The word of a verdict. A function and no `Display`, since the type is `model`'s, where definitions stand without functions.
+// The word of a verdict. A function and no `Display`, since the type is `model`'s, where definitions are without functions.
 fn word_of(v: Verdict) -> &'static [u8]
     ensures word { result.now ≡ word v }
     ensures short { length result.now ≤ 14 }

@@ -1,6 +1,6 @@
 -- The margins of a verdict, of funds that are far from both borders: a valuation that answers undecided for them would break them.
--- tests/pinned.py wrote this file, from an implementation in Python that was written from the papers and, for request Six, from the
--- readings that its first lines name (tests/reference.py): change that, not this. Assumes nothing.
+-- tests/writers wrote this file, from the reference in Python, which was written without the engine's code (tests/reference): change
+-- that, not this. Assumes nothing.
 use Prim.Native.Nat.{ℕ}
 use mathlib.Core.Path.{◌≡◌}
 use mathlib.Core.Logic.{◌⊎◌}

@@ -1,7 +1,7 @@
 -- Rates in four bytes: the curves and figures of a fund none of whose rates is a whole step, and rewritings, as computed statements about the
 -- definitions.
--- tests/pinned.py wrote this file, from an implementation in Python that was written from the papers and, for request Six, from the
--- readings that its first lines name (tests/reference.py): change that, not this. Assumes nothing.
+-- tests/writers wrote this file, from the reference in Python, which was written without the engine's code (tests/reference): change
+-- that, not this. Assumes nothing.
 use mathlib.Core.Path.{◌≡◌, refl}
 use mathlib.Core.Bool.{true, false}
 use mathlib.Core.List.{[], ◌∷◌, ◌++◌}

@@ -1,5 +1,5 @@
 -- What is computed of the definitions of specs/: each number is worked out by the definitions themselves. Computing: which definitions.
--- Worked: document 01's hand-worked cases. Pinned, FourByteCases: curves, figures, verdicts, margins. Widths: the widths of demand 3.
+-- Worked: hand-worked cases. Pinned, FourByteCases: curves, figures, verdicts, margins. Widths: the widths that are allowed.
 -- Plain: each promise of specs/Promises.antt used in plain numbers.
 -- PlainSizes: how long a listing is.
 -- PlainBonds, PlainFourBytes: what is promised, in plain numbers.

@@ -1,7 +1,7 @@
 -- Numbers of case files and cases as computed statements about the definitions: what an edit of a definition is held against. What takes
 -- longer to compute is in the crates `pinned` and `accepted`.
--- tests/pinned.py wrote this file, from an implementation in Python that was written from the papers and, for request Six, from the
--- readings that its first lines name (tests/reference.py): change that, not this. Assumes nothing.
+-- tests/writers wrote this file, from the reference in Python, which was written without the engine's code (tests/reference): change
+-- that, not this. Assumes nothing.
 use Prim.Native.Nat.{ℕ, ◌+◌}
 use mathlib.Core.Path.{◌≡◌, refl}
 use mathlib.Core.Bool.{true, false}
@@ -21,7 +21,7 @@ use Rattle.method.specs.Exact as Exact
 use Rattle.method.specs.Rounded as Rounded
 use Rattle.method.specs.Buffers.{entry_of, factor_entries}
 use Rattle.method.specs.Margins.{WL, WB, NearFirst, NearSecond, first_margin, second_margin}
-use Rattle.method.specs.Demand3.{
+use Rattle.method.specs.Containment.{
   least_step,
   most_step,
   factor_width_most,
@@ -1058,18 +1058,18 @@ whole_quotient-widths : (WL whole_quotient ≡ 11)
 unfolding all
 whole_quotient-widths = (refl, refl)
 
-demand-ranges : (last_term ≡ 120)
+containment-ranges : (last_term ≡ 120)
     × (least_step ≡ neg_ℤ (pos 2000))
     × (most_step ≡ pos 20000)
 unfolding all
-demand-ranges = (refl, refl, refl)
+containment-ranges = (refl, refl, refl)
 
-demand-widths : (factor_width_most 1 ≡ 4)
+containment-widths : (factor_width_most 1 ≡ 4)
     × (factor_width_most 60 ≡ 14400)
     × (factor_width_most 120 ≡ 57600)
     × (rate_width_most ≡ 2)
 unfolding all
-demand-widths = (refl, refl, refl, refl)
+containment-widths = (refl, refl, refl, refl)
 
 long-money-widths : (L_width_most long ≡ 20434)
     × (B_width_most long ≡ 1840)

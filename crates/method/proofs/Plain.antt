@@ -1,7 +1,6 @@
--- Each promise of specs/Promises.antt used once in plain numbers, at its largest and its smallest, and the third demand in whole numbers:
--- fractions multiplied out, and each number written where it is used. Nothing else rests on this. It is here so that a promise that said less
--- (a range that begins later, a bracket that may be wider, a premise more, a field less) would not give it.
--- Assumes nothing.
+-- Each promise of specs/Promises.antt used once in plain numbers, at its largest and its smallest, and containment and width in whole
+-- numbers: fractions multiplied out, and each number written where it is used. Nothing else rests on this. It is here so that a promise
+-- that said less (a range that begins later, a bracket that may be wider, a premise more, a field less) would not give it. Assumes nothing.
 use Prim.Native.Nat.{ℕ, ◌+◌, ◌*◌, ◌^◌, ◌≤◌, ◌<◌}
 use mathlib.Core.Path.{◌≡◌, ap, sym, ◌∙◌}
 use mathlib.Core.List.{List}
@@ -24,10 +23,10 @@ use Rattle.method.specs.Exact as Exact
 use Rattle.method.specs.Rounded as Rounded
 use Rattle.arith.specs.Brackets.{end_of}
 use Rattle.method.specs.Margins.{WL, WB, NearFirst, NearSecond}
-use Rattle.method.specs.Demand3.{In, RateBounds, Given, Demand3}
+use Rattle.method.specs.Containment.{In, RateBounds, Given, ContainmentAndWidth}
 use Rattle.method.specs.Buffers.{valuation_checks, valuation_refusal, valuation_of, answered, refusal_number, factors_after, rates_after}
 use Rattle.method.specs.Promises.{given, figures_given, AcceptedCall, Call, FiguresCall}
-use Rattle.method.specs.Promises.{EveryCall, RefusedCallsChangeNothing, AcceptedCallsGiveTheRoundedWorking, EveryFiguresCall, OfEvery, DemandIsMet}
+use Rattle.method.specs.Promises.{EveryCall, RefusedCallsChangeNothing, AcceptedCallsGiveTheRoundedWorking, EveryFiguresCall, OfEvery, ExactWorkingIsContained}
 use Rattle.method.specs.Promises.{FactorsLieInTheirBrackets, ZeroRatesLieInTheirBrackets, MoneyLiesInItsBrackets}
 use Rattle.method.specs.Promises.{FactorsAreNarrow, ZeroRatesAreNarrow, MoneyIsNarrow}
 use Rattle.method.specs.Promises.{VerdictsAreExact, UndecidedOnlyNearABorder, NothingIsCutOff}
@@ -35,7 +34,7 @@ use Rattle.model.specs.declared.figures.Valuation.{Valuation}
 use Rattle.model.specs.declared.figures.Figures.{Figures}
 use Rattle.model.specs.declared.figures.Verdict.TheVariants.{Onbeslist}
 
--- ---- the third demand
+-- ---- containment and width
 
 -- a fraction between two numbers that count it, `scale` to 1
 abbrev Held : ℕ → ℕ → ℕ → Fraction → Type 0
@@ -96,7 +95,7 @@ Near k =
     NearFirst (20 * WB k + 21 * WL k) (Exact.A k) (Exact.L k base)
     ⊎ NearSecond (4 * WL k + 3 * WB k + 8) (Exact.A k) (Exact.L k base) (Exact.S² k)
 
-module _ (k : FileCase) (g : Given) (d : Demand3 k g) where
+module _ (k : FileCase) (g : Given) (d : ContainmentAndWidth k g) where
   product-above-0 : (m : Move) (t : ℕ) → t < 121 → (0 < (Exact.product (curve k m) t).num) × (0 < (Exact.product (curve k m) t).den)
   product-above-0 m t h = d.product_real m t (omega (arith, h))
 
@@ -212,22 +211,22 @@ module _ (file : List ℕ) (factors : List ℕ) (rates : List ℤ) (a : Accepted
         ∙ get_or-drop 240 rates 0 (pos 0),
   )
 
-  -- the demand, of what is answered and of the entries that stand in both buffers
+  -- containment and width, of what is answered and of the entries that stand in both buffers
   module _ (v : Valuation) (e : valuation_of (length factors) (length rates) file ≡ Ok v) where
     abbrev g : Given
     g = given v (factors_after file factors rates) (rates_after file factors rates)
 
     first-held : Held 1000000000000 (f 0) (f 1) (Exact.factor (curve k base) 1)
-    first-held = factor-held k g (a.valued.demand3 v e) 1 (omega arith) (omega arith)
+    first-held = factor-held k g (a.valued.containment_and_width v e) 1 (omega arith) (omega arith)
 
     last-held : Held 1000000000000 (f 238) (f 239) (Exact.factor (curve k base) 120)
-    last-held = factor-held k g (a.valued.demand3 v e) 120 (omega arith) (omega arith)
+    last-held = factor-held k g (a.valued.containment_and_width v e) 120 (omega arith) (omega arith)
 
     last-rate-held : Compounds (z 238) (z 239) 120 (Exact.product (curve k base) 120)
-    last-rate-held = rate-held k g (a.valued.demand3 v e) 120 (omega arith) (omega arith)
+    last-rate-held = rate-held k g (a.valued.containment_and_width v e) 120 (omega arith) (omega arith)
 
     all-money-held : MoneyHeld k v.figures × MoneyNarrow k v.figures
-    all-money-held = (money-held k g (a.valued.demand3 v e), money-widths k g (a.valued.demand3 v e))
+    all-money-held = (money-held k g (a.valued.containment_and_width v e), money-widths k g (a.valued.containment_and_width v e))
 
 -- ---- a file that is valued without buffers
 
@@ -250,17 +249,17 @@ module _ (file : List ℕ) (c : FiguresCall file) where
       → MoneyHeld (case_of file) v.figures × (v.verdict ≡ Onbeslist → Near (case_of file))
   held-alone v e =
       let g = figures_given v (case_of file) in
-      (money-held (case_of file) g (c.demand3 v e), undecided-near (case_of file) g (c.demand3 v e))
+      (money-held (case_of file) g (c.containment_and_width v e), undecided-near (case_of file) g (c.containment_and_width v e))
 
   factors-alone : (v : Valuation) → answered (failing (checks file)) (case_of file) ≡ Ok v → (t : ℕ) → 0 < t → t < 121
       → Held 1000000000000 (Rounded.factor (curve (case_of file) base) low t) (Rounded.factor (curve (case_of file) base) high t)
       (Exact.factor (curve (case_of file) base) t)
-  factors-alone v e = factor-held (case_of file) (figures_given v (case_of file)) (c.demand3 v e)
+  factors-alone v e = factor-held (case_of file) (figures_given v (case_of file)) (c.containment_and_width v e)
 
   rates-alone : (v : Valuation) → answered (failing (checks file)) (case_of file) ≡ Ok v → (t : ℕ) → 0 < t → t < 121
       → Compounds (Rounded.zero_rate (curve (case_of file) base) low t) (Rounded.zero_rate (curve (case_of file) base) high t) t
       (Exact.product (curve (case_of file) base) t)
-  rates-alone v e = rate-held (case_of file) (figures_given v (case_of file)) (c.demand3 v e)
+  rates-alone v e = rate-held (case_of file) (figures_given v (case_of file)) (c.containment_and_width v e)
 
 -- ---- what is promised of every call: with no premise on the buffers, and after every refusal
 
@@ -342,10 +341,10 @@ module _ (k : FileCase) where
   found s e t p q = let r = s.rate_found e t (omega (arith, p)) (omega (arith, q)) in (r.least, r.most)
 
   -- what is given of a case: its rounded working at the terms 1 to 120, and nothing is asked of other terms
-  demand-met : DemandIsMet k → (g : Given)
+  containment-met : ExactWorkingIsContained k → (g : Given)
       → g.figures ≡ Rounded.figures k
       → g.verdict ≡ Rounded.verdict k
       → ((e : End) (t : ℕ) → 1 ≤ t → t ≤ 120 → g.factor e t ≡ factor_of e t)
       → ((e : End) (t : ℕ) → 1 ≤ t → t ≤ 120 → g.rate e t ≡ rate_at e t)
-      → Demand3 k g
-  demand-met s g figures verdict factor rate = s.given g (record { figures = figures; verdict = verdict; factor = factor; rate = rate })
+      → ContainmentAndWidth k g
+  containment-met s g figures verdict factor rate = s.given g (record { figures = figures; verdict = verdict; factor = factor; rate = rate })

@@ -40,7 +40,7 @@ longest-listed = refl
 listed-in-463 : ListingsAreShort → (v : Valuation) (r : ℕ) → (length (listing (Ok v)) ≤ 463) × (length (listing (Err r)) ≤ 463)
 listed-in-463 p v r = (p.most (Ok v), p.most (Err r))
 
--- a buffer of 463 bytes is long enough for every listing, and one of 512 bytes has 49 behind it that keep their content
+-- a buffer of 463 bytes is long enough for every listing, and one of 512 bytes has 49 after it that keep their content
 written-in-463 : EveryListingCall → (v : Result Valuation ℕ) (held : List ℕ) → length held ≡ 463
     → (listing_length v (length held) ≡ length (listing v)) × (take (listing_length v (length held)) (listing_after v held) ≡ listing v)
 written-in-463 p v held long = let c = p.call v held in (c.whole (omega (arith, long)), c.text (omega (arith, long)))

@@ -1,5 +1,5 @@
--- The widths of demand 3, of the brackets that the valuation of a case answers, on two funds: they catch "brackets from 0 to the largest
--- number". Each statement is computed; `twelvecases` has the same of whole files, and `theory` proves it of every accepted file.
+-- The widths that are allowed, of the brackets that the valuation of a case answers, on two funds: they catch "brackets from 0 to the
+-- largest number". Each statement is computed; `twelvecases` has the same of whole files, and `theory` proves it of every accepted file.
 -- Assumes nothing.
 use native.Mathlib.Omega.{arith}
 use lib.Dec.{lit≤}
@@ -7,7 +7,7 @@ use Rattle.std.specs.Prelude.{None, Result, Ok, Err}
 use Rattle.refusal.specs.declared.Refusal.{Refusal}
 use Rattle.model.specs.Case.{FileCase}
 use Rattle.method.specs.Buffers.{answered}
-use Rattle.method.specs.Demand3.{WideAtMost, L_width_most, B_width_most, A_width_most, S_width_most}
+use Rattle.method.specs.Containment.{WideAtMost, L_width_most, B_width_most, A_width_most, S_width_most}
 use Rattle.model.specs.declared.figures.Valuation.{Valuation}
 use Rattle.method.proofs.Computing.{all}
 use Rattle.method.proofs.Pinned.{up_case, down_case}
@@ -16,7 +16,7 @@ use Rattle.method.proofs.Pinned.{up_case, down_case}
 width-border : WideAtMost 3 (record { lower = 5; upper = 8 }) × (WideAtMost 3 (record { lower = 5; upper = 9 }) → ⊥)
 width-border = (lit≤ tt, λ h. omega arith)
 
--- L, B, A and S of an answer are as narrow as the demand says; a refusal has no figure
+-- L, B, A and S of an answer are as narrow as is promised; a refusal has no figure
 abbrev pub Narrow : FileCase → Result Valuation Refusal → Type 0
 Narrow k (Err refusal) = ⊥
 Narrow k (Ok v) =

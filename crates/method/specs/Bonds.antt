@@ -10,7 +10,7 @@ use Rattle.method.specs.Curve.{Move, curve}
 use Rattle.method.specs.Exact as Exact
 use Rattle.method.specs.Rounded as Rounded
 use Rattle.method.specs.Rounded.{figures_of, verdict_of}
-use Rattle.method.specs.Demand3.{In, factor_width_most}
+use Rattle.method.specs.Containment.{In, factor_width_most}
 
 -- B with bond flows at the adjusted factors, which are those of pension flows: exact, and rounded at both ends
 abbrev pub adjusted_exact_b : FileCase → Move → Fraction

@@ -1,4 +1,4 @@
--- What a valuation answers, and what the lent buffers hold after it (document 01, 'Buffers, window, print' and the order of checks).
+-- What a valuation answers, and what the lent buffers hold after it (METHOD, Buffers, window, listing; METHOD, Refusals).
 use Rattle.std.specs.Prelude.{ℕ, zero, suc, ◌+◌, ◌*◌, ◌-◌, ◌&&◌, List, [], ◌∷◌, ◌++◌, nat_le, length, slice_index_or, drop, ℤ, pos, Option, Some, None, Result, Ok, Err}
 use Rattle.refusal.specs.Numbered.{refused_by}
 use Rattle.refusal.specs.declared.Refusal.{Refusal}
@@ -68,6 +68,6 @@ answered (Some r) k = Err r
 unfoldable pub valuation_of : ℕ → ℕ → List ℕ → Result Valuation Refusal
 valuation_of factors rates file = answered (failing (valuation_checks factors rates file)) (case_of file)
 
--- the number that document 01 gives an answer: that of a refusal, and 0 for a case that is valued
+-- the number of an answer: that of a refusal, and 0 for a case that is valued
 abbrev pub refusal_number : Result Valuation Refusal → ℕ
 refusal_number = refused_by

@@ -1,5 +1,5 @@
--- The curve that a case is valued on: the base curve, and the up and the down curve (document 01, 'The exact working' and 'The rounded
--- working', whose curves are those of the DNB note of 2012, source document 001, step 2: the mean over the days).
+-- The curve that a case is valued on: the base curve, and the up and the down curve (METHOD, The exact working; METHOD, The rounded
+-- working; the mean over the days is step 2 of DNB's note of 2012: METHOD, Sources).
 use Rattle.std.specs.Prelude.{ℕ, zero, suc, ◌*◌, ◌-◌, List, [], ◌∷◌, slice_index, ℤ, pos, negsuc, neg_ℤ, ◌+ℤ◌, ◌*ℤ◌}
 use Rattle.model.specs.Constants.{steps_per_one}
 use Rattle.model.specs.Case.{FileCase, per_step, s}
@@ -20,16 +20,16 @@ shift k up = pos k.shocks.up_shift
 shift k down = neg_ℤ (pos k.shocks.down_shift)
 
 -- "Up and down curves add the shift to, or take it from, every mean rate at terms 1 to 60": to the sum over n days n × shift, and
--- s(0) stays 0; document 02, request Six, of rates of four bytes: "a shift adds or takes 100 × n × shift"
+-- s(0) stays 0; to the sum of four-byte rates 100 × n × shift
 unfoldable pub moved_sum : FileCase → Move → ℕ → ℤ
 moved_sum k m zero = pos 0
 moved_sum k m (suc t) = s k.days (suc t) +ℤ pos (per_step k) *ℤ shift k m
 
--- "N = 100,000 × n"; request Six: "N is 10,000,000 × n"; "with the same UFR"
+-- "N = 100,000 × n; of four-byte rates N = 10,000,000 × n"; every curve has the same UFR
 unfoldable pub curve : FileCase → Move → Curve
 curve k m = record { N = steps_per_one * per_step k; sum = moved_sum k m; ufr = k.ufr }
 
--- an integer as a natural number, and 0 below 0, which no N + s(t) of an accepted file is (`PUncut` of demand 3)
+-- an integer as a natural number, and 0 below 0, which no N + s(t) of an accepted file is (`PUncut` of ContainmentAndWidth)
 abbrev pub natural : ℤ → ℕ
 natural (pos n) = n
 natural (negsuc n) = 0
@@ -38,8 +38,8 @@ natural (negsuc n) = 0
 unfoldable pub P : Curve → ℕ → ℕ
 P c t = natural (pos c.N +ℤ c.sum t)
 
--- "Weights w in thousandths, 21 to 60": how much the UFR counts in the adjusted growth of a term. They are those of the DNB note of 2012
--- (source document 001, the table of fixed weights under step 4), and the same for every fund.
+-- "Weights w in thousandths, 21 to 60": how much the UFR counts in the adjusted growth of a term. They are the fixed weights
+-- of DNB's note of 2012 (METHOD, Sources), and the same for every fund.
 unfoldable pub weights : List ℕ
 weights =
     86 ∷ 186 ∷ 274 ∷ 351 ∷ 420 ∷ 481 ∷ 536 ∷ 584 ∷ 628 ∷ 666

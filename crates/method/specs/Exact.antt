@@ -1,5 +1,5 @@
--- The exact working, over fractions (document 01, 'The exact working'; the curve is that of the DNB note of 2012, source document 001,
--- steps 2 to 4; the mortality margin that of source document 004, section 9.3). Money is in cents.
+-- The exact working, over fractions (METHOD, The exact working). The curve is that of DNB's note of 2012, steps 2 to 4, and the mortality
+-- margin that of den Butter's thesis of 2007, section 9.3 (METHOD, Sources). Money is in cents.
 use Rattle.std.specs.Prelude.{ℕ, zero, suc, ◌+◌, ◌*◌, ◌-◌, if◌then◌else◌, List, [], ◌∷◌, nat_le}
 use Rattle.model.specs.Constants.{steps_per_one, last_unweighed_term, last_market_term}
 use Rattle.method.specs.Fraction.{Fraction, ◌//◌, ◌+ᶠ◌, ◌∸ᶠ◌, ◌*ᶠ◌, ◌÷ᶠ◌, ◌^ᶠ◌, square, whole, less, larger}
@@ -40,8 +40,8 @@ product c = product_of (growth c)
 unfoldable pub factor : Curve → ℕ → Fraction
 factor c t = whole 1 ÷ᶠ product c t
 
--- The factor that bond flows use: "the rule that document 01 gives for factors up to term 20" (document 02, request Four), at every term
--- to 60. Up to 20 no growth is adjusted, so this is one over the product of the growths G(1) to G(t), and no UFR is in it.
+-- The factor that bond flows use (METHOD, Bonds off the adjusted curve): the rule of the adjusted factors up to term 20, at every term to
+-- 60. Up to 20 no growth is adjusted, so this is one over the product of the growths G(1) to G(t), and no UFR is in it.
 unfoldable pub unadjusted : Curve → ℕ → Fraction
 unadjusted c t = whole 1 ÷ᶠ product_of (G c) t
 
@@ -53,7 +53,7 @@ worth factors t (euros ∷ flows) = whole (100 * euros) *ᶠ factors t +ᶠ wort
 abbrev pub L : FileCase → Move → Fraction
 L k m = worth (factor (curve k m)) 1 k.pension
 
--- "bond flows at every term use the rule .. up to term 20, on all three curves. The exact B changes with it" (document 02, request Four)
+-- "every bond flow the bond factor of its term", on all three curves
 abbrev pub B : FileCase → Move → Fraction
 B k m = worth (unadjusted (curve k m)) 1 k.bonds
 

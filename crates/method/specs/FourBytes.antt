@@ -49,7 +49,7 @@ pub record FourByteCases : Type 0 where
   pub forwards : (k : FileCase) → k.rate_bytes ≡ 4 → WithinLimits k → (t : ℕ) → 1 ≤ t → t ≤ 60
       → Between (neg_ℤ (pos (200000 * length k.days))) (pos (1200000 * length k.days)) (forward k.days t)
 
--- "the part handed back is n × 240 bytes", behind the count of days, and the file has so many
+-- "the part handed back is n × 240 bytes", after the count of days, and the file has this many
 pub record FourBytePart (file : List ℕ) : Type 0 where
   pub part : rates_part file ≡ take (240 * day_count file) (drop (days_at file + 1) file)
   pub inside : days_at file + 1 + 240 * day_count file ≤ length file

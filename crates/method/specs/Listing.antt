@@ -1,4 +1,4 @@
--- The listing, as bytes (document 01, 'Buffers, window, print').
+-- The listing, as bytes (METHOD, Buffers, window, listing).
 use Rattle.std.specs.Prelude.{ℕ, zero, suc, ◌+◌, ◌/◌, ◌%◌, if◌then◌else◌, List, [], ◌∷◌, ◌++◌, nat_le, nat_lt, length, drop, Result, Ok, Err}
 use Rattle.std.specs.List.{flat_map}
 use Prim.Native.Char.{code}

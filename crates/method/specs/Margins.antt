@@ -1,4 +1,4 @@
--- WL, WB and the margins within which a verdict may stay undecided (document 01, end of 'The rounded working').
+-- WL, WB and the margins within which a verdict may stay undecided (METHOD, Brackets and widths).
 use Rattle.std.specs.Prelude.{ℕ, suc, ◌+◌, ◌*◌, ◌^◌, List, [], ◌∷◌, length}
 use Rattle.arith.specs.Rounding.{high, divide}
 use Rattle.method.specs.Fraction.{Fraction, ◌+ᶠ◌, ◌∸ᶠ◌, ◌*ᶠ◌, square, whole, ◌≤ᶠ◌}

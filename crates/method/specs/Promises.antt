@@ -21,8 +21,8 @@ use Rattle.method.specs.Curve.{Move, base, curve, P}
 use Rattle.method.specs.Exact as Exact
 use Rattle.method.specs.Rounded as Rounded
 use Rattle.method.specs.Margins.{NearFirst, NearSecond, first_margin, second_margin}
-use Rattle.method.specs.Demand3.{Given, Demand3, In, SquareIn, RateBounds, WideAtMost, least_step, most_step, factor_width_most, rate_width_most}
-use Rattle.method.specs.Demand3.{L_width_most, B_width_most, A_width_most, S_width_most}
+use Rattle.method.specs.Containment.{Given, ContainmentAndWidth, In, SquareIn, RateBounds, WideAtMost, least_step, most_step, factor_width_most, rate_width_most}
+use Rattle.method.specs.Containment.{L_width_most, B_width_most, A_width_most, S_width_most}
 use Rattle.method.specs.Buffers.{valuation_checks, valuation_refusal, valuation_of, answered, refusal_number, factors_after, rates_after, entry_of, rate_entry_of}
 
 -- ---- a call with both buffers
@@ -57,7 +57,7 @@ pub record CaseValued (k : FileCase) (answer : Result Valuation Refusal) (factor
   pub later_factors : drop 240 factors_after ≡ drop 240 factors
   pub later_rates : drop 240 rates_after ≡ drop 240 rates
   -- containment, widths and the verdict, of the very figures and verdict that are answered and of the entries that are written
-  pub demand3 : (v : Valuation) → answer ≡ Ok v → Demand3 k (given v factors_after rates_after)
+  pub containment_and_width : (v : Valuation) → answer ≡ Ok v → ContainmentAndWidth k (given v factors_after rates_after)
 
 -- a refused call: the answer is the first of its checks that fails, "and every lent buffer then holds what it held"
 abbrev pub RefusedCall : Refusal → List ℕ → List ℕ → List ℤ → Type 0
@@ -80,7 +80,7 @@ pub record AcceptedExactly (file : List ℕ) (factors : List ℕ) (rates : List 
 -- every call
 pub record Call (file : List ℕ) (factors : List ℕ) (rates : List ℤ) : Type 0 where
   pub bytes : Bytes file
-  -- "When an answer is an enum, a definition gives this paper's number": 0 for a case that is valued
+  -- the number of an answer: 0 for a case that is valued
   pub number : refusal_number (valuation_of (length factors) (length rates) file) ≡ valuation_refusal (length factors) (length rates) file
   pub refused : (r : Refusal) → failing (valuation_checks (length factors) (length rates) file) ≡ Some r → RefusedCall r file factors rates
   pub accepted : valuation_refusal (length factors) (length rates) file ≡ 0 → AcceptedCall file factors rates
@@ -108,8 +108,8 @@ pub record FiguresCall (file : List ℕ) : Type 0 where
   -- "every figure, and the verdict, is that of its rounded working"
   pub answer : refusal file ≡ 0
       → answered (failing (checks file)) (case_of file) ≡ Ok (record { figures = Rounded.figures (case_of file); verdict = Rounded.verdict (case_of file) })
-  -- the third demand, of the very figures and verdict that are answered
-  pub demand3 : (v : Valuation) → answered (failing (checks file)) (case_of file) ≡ Ok v → Demand3 (case_of file) (figures_given v (case_of file))
+  -- containment and width, of the very figures and verdict that are answered
+  pub containment_and_width : (v : Valuation) → answered (failing (checks file)) (case_of file) ≡ Ok v → ContainmentAndWidth (case_of file) (figures_given v (case_of file))
 
 -- ---- the promises: of calls
 
@@ -196,6 +196,6 @@ pub record IsRounded (k : FileCase) (given : Given) : Type 0 where
   pub factor : (e : End) (t : ℕ) → 1 ≤ t → t ≤ last_term → given.factor e t ≡ Rounded.factor (curve k base) e t
   pub rate : (e : End) (t : ℕ) → 1 ≤ t → t ≤ last_term → given.rate e t ≡ Rounded.zero_rate (curve k base) e t
 
--- all of the third demand, whatever is given by the rounded working
-pub record DemandIsMet (k : FileCase) : Type 0 where
-  pub given : (g : Given) → IsRounded k g → Demand3 k g
+-- containment and width whole, of whatever is given by the rounded working
+pub record ExactWorkingIsContained (k : FileCase) : Type 0 where
+  pub given : (g : Given) → IsRounded k g → ContainmentAndWidth k g

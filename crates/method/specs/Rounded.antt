@@ -1,4 +1,4 @@
--- The rounded working, at both ends of each bracket (document 01, 'The rounded working'). Factors count 10^-12, money counts cents, zero
+-- The rounded working, at both ends of each bracket (METHOD, The rounded working). Factors count 10^-12, money counts cents, zero
 -- rates count steps. "A lower number rounds down at every step, an upper one up."
 use Rattle.std.specs.Prelude.{ℕ, zero, suc, ◌+◌, ◌*◌, ◌-◌, ◌^◌, max, Bool, if◌then◌else◌, List, [], ◌∷◌, nat_le, nat_lt, ℤ, pos, ◌-ℤ◌}
 use Rattle.arith.specs.Rounding.{End, low, high, other, divide}
@@ -37,8 +37,8 @@ unfoldable pub weighed : Curve → End → ℕ → ℕ
 weighed c e t =
     if nat_le t last_market_term then divide e ((1000 - weight t) * growth c e t + weight t * ufr_growth c) 1000 else ufr_growth c
 
--- "Factor, t to 20: from 10^12, t times × N ÷ P(t).", for terms to 60: the rule that bond flows use at every term (document 02, request
--- Four)
+-- "From 10^12, t times N ÷ P(t), rounded each time.": the rule of the adjusted factors to term 20, and of bond flows at every term to 60
+-- (METHOD, Bonds off the adjusted curve)
 unfoldable pub unadjusted : Curve → End → ℕ → ℕ
 unadjusted c e t = scaled e c.N (P c t) t
 
@@ -65,7 +65,7 @@ abbrev pub upper_test : (End → ℕ → ℕ) → ℕ → ℕ → Bool
 upper_test factor t i = nat_le (tested high t i) (factor low t)
 
 -- "Lower rate: the largest z .. Upper rate: the smallest z ..". Where no step passes, it is 20,001, which is no step; that both
--- rates of an accepted file's base curve are steps is part of demand 3.
+-- rates of an accepted file's base curve are steps is part of ContainmentAndWidth.
 unfoldable pub rate_of : (End → ℕ → ℕ) → End → ℕ → ℤ
 rate_of factor low t = step_at (largest (lower_test factor t) 22001 22001)
 rate_of factor high t = step_at (smallest (upper_test factor t) 0 22001 22001)
@@ -161,12 +161,11 @@ figures_of l b a x p = record {
 abbrev pub verdict_of : (Move → End → ℕ) → (Move → End → ℕ) → Amounts → Shocks → People → Verdict
 verdict_of l b a x p = judge (assets (b base) a) (l base) (buffer_of l b a x p)
 
--- All of these of a case, by document 01's letters
+-- All of these of a case, by the letters of the figures
 abbrev pub L : FileCase → Move → End → ℕ
 L k m e = worth e (factor (curve k m) e) 1 k.pension
 
--- "bond flows at every term use the rule that document 01 gives for factors up to term 20, on all three curves" (document 02, request
--- Four)
+-- bond flows at every term use the bond factor, on all three curves (METHOD, Bonds off the adjusted curve)
 abbrev pub B : FileCase → Move → End → ℕ
 B k m e = worth e (unadjusted (curve k m) e) 1 k.bonds
 

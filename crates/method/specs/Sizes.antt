@@ -12,8 +12,8 @@ longest_listing = 463
 pub record ListingsAreShort : Type 0 where
   pub most : (v : Result Valuation ℕ) → length (listing v) ≤ longest_listing
 
--- a listing that is written to a lent buffer: whole where the buffer has as many bytes as the longest or more, behind it what was there; where
--- the answer is 0 the buffer is what it was
+-- a listing that is written to a lent buffer: whole where the buffer has as many bytes as the longest or more, after it what was there;
+-- where the answer is 0 the buffer is what it was
 pub record ListingCall (v : Result Valuation ℕ) (held : List ℕ) : Type 0 where
   pub most : listing_length v (length held) ≤ longest_listing
   pub whole : longest_listing ≤ length held → listing_length v (length held) ≡ length (listing v)

@@ -37,7 +37,7 @@ aged a b c d = 0 ∷ 0 ∷ 0 ∷ 100 ∷ a ∷ b ∷ c ∷ d ∷ []
 abbrev pub people : List ℕ
 people = aged 0x03 0x0c 0x01 0xcc
 
--- "map 0x0076": a file with the fields that C1 has
+-- the map 0x0076: a file with the fields that C1 has
 abbrev pub like_c1 : List ℕ → List ℕ → List ℕ → List ℕ → List ℕ → List ℕ
 like_c1 days flows amounts shocks people = 0x00 ∷ 0x76 ∷ days ++ flows ++ amounts ++ shocks ++ people
 

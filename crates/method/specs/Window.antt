@@ -1,4 +1,4 @@
--- The points of the window (document 01, 'Buffers, window, print').
+-- The points of the window (METHOD, Buffers, window, listing).
 use Rattle.std.specs.Prelude.{ℕ, ◌*◌, ◌-◌, ◌^◌, Bool, ◌&&◌, if◌then◌else◌, List, map, nat_le, pos, Float, length, slice_index_or}
 use Rattle.std.specs.Float.{binary64}
 use Rattle.std.specs.Float.Ieee.{of_int}

@@ -1,11 +1,12 @@
--- A case: what one case file says (document 01, 'The case file').
+-- A case: what one case file says (METHOD, The case file).
 use Rattle.std.specs.Prelude.{ℕ, zero, suc, ◌+◌, ◌*◌, ◌-◌, Bool, ◌||◌, if◌then◌else◌, List, [], ◌∷◌, ◌==◌, length, slice_index_or, ℤ, pos, ◌+ℤ◌}
 use Rattle.model.specs.declared.case.Amounts.{Amounts}
 use Rattle.model.specs.declared.case.Shocks.{Shocks}
 use Rattle.model.specs.declared.case.People.{People}
 
--- The paper's case. The bytes of a rate say which of the two days fields it has. A day is its 60 zero rates of terms 1 to 60, in the units
--- of that field, and n, m and k are the lengths of the three lists. Amounts, shocks and people are named in the structs of src/case.rt.
+-- The case of a file. The bytes of a rate say which of the two days fields it has. A day is its 60 zero rates of terms 1 to 60, in the
+-- units of that field, and n, m and k are the lengths of the three lists. Amounts, shocks and people are named in the structs of
+-- src/case.rt.
 pub record FileCase : Type 0 where
   pub rate_bytes : ℕ
   pub ufr : ℕ
@@ -16,11 +17,11 @@ pub record FileCase : Type 0 where
   pub shocks : Shocks
   pub people : People
 
--- "60 zero rates .., each 2 bytes"; document 02, request Six: "a days field of the same form whose rates are four bytes"
+-- "n days of 60 zero rates" of two bytes each, or of four: "A file has one of the two days fields, never both."
 abbrev pub known_form : ℕ → Bool
 known_form w = w == 2 || w == 4
 
--- "A rate step is 0.00001."; request Six: "in steps of 0.0000001": how many units of a rate of w bytes are a rate step
+-- A rate step is 0.00001; rates in four bytes count hundredths of a step, 0.0000001: how many units of a rate of w bytes are a rate step
 abbrev pub units_per_step : ℕ → ℕ
 units_per_step w = if w == 4 then 100 else 1
 

@@ -1,4 +1,4 @@
--- The numbers that document 01 counts in, under one name each.
+-- The numbers that the method counts in, under one name each (METHOD, Units).
 use Rattle.std.specs.Prelude.{ℕ, ◌^◌}
 
 -- "A file without this field has a UFR of 4,200."
@@ -21,6 +21,6 @@ last_unweighed_term = 20
 abbrev pub last_market_term : ℕ
 last_market_term = 60
 
--- "for 61 to 120": the last term; demand 3 speaks of "every term from 1 to 120"
+-- the last term: growths of 61 to 120 are the UFR's alone, and every promise of factors and zero rates is of the terms 1 to 120
 abbrev pub last_term : ℕ
 last_term = 120

@@ -1,6 +1,6 @@
--- The kinds of fields that a case file is made of (document 01, 'The case file' and 'Office errors and host errors'). A kind says at once
--- how a value is written as bytes, how it is read from a position of a file on, and what is checked, in order. Layout puts them together.
--- Positions are functions of the bytes, and a byte past the end counts as 0: whether a file is long enough is a matter of the checks.
+-- The kinds of fields that a case file is made of (METHOD, The case file; METHOD, Refusals). A kind says at once how a value is written as
+-- bytes, how it is read from a position of a file on, and what is checked, in order. Layout puts them together. Positions are functions of
+-- the bytes, and a byte past the end counts as 0: whether a file is long enough is a matter of the checks.
 use Rattle.std.specs.Prelude.{ℕ, zero, suc, ◌+◌, ◌*◌, Bool, true, ◌&&◌, if◌then◌else◌, List, [], ◌∷◌, ◌++◌, nat_le, ◌==◌, length, slice_index, ℤ}
 use Rattle.std.specs.Int.Signed.{le_z}
 use Rattle.refusal.specs.declared.Refusal.{Refusal}

@@ -1,5 +1,5 @@
--- The case file of document 01 ('The case file') as one expression, field by field, with the second days field of document 02, request Six.
--- The bytes of a case, the case of the bytes and the checks of each field follow from it. Refusals has the order of all checks.
+-- The case file as one expression, field by field (METHOD, The case file; the second days field: METHOD, Rates in four bytes). The bytes of
+-- a case, the case of the bytes and the checks of each field follow from it. Refusals has the order of all checks.
 use Rattle.std.specs.Prelude.{ℕ, ◌+◌, ◌*◌, ◌/◌, ◌%◌, ◌^◌, ◌≤◌, ◌≡◌, Bool, true, false, if◌then◌else◌, List, [], ◌∷◌, ◌++◌, ◌==◌, length, slice_index, ℤ, pos, neg_ℤ}
 use Rattle.refusal.specs.declared.Refusal.TheVariants.{DayCount, Rate, FlowCount, Flow, Ufr, Amount, Shock}
 use Rattle.refusal.specs.declared.Refusal.TheVariants as Refusal
@@ -21,8 +21,8 @@ rate w scale = record {
   right = within_z (neg_ℤ (pos (1000 * scale))) (pos (10000 * scale));
 }
 
--- "60 zero rates, terms 1 to 60, each 2 bytes"; request Six: "of the same form whose rates are four bytes, two's complement, in steps of
--- 0.0000001, limits -100,000 to 1,000,000": a rate of w bytes, and a day of them
+-- "n days of 60 zero rates, terms 1 to 60", each of w bytes in two's complement: of two bytes -1,000 to 10,000 steps, of four bytes
+-- -100,000 to 1,000,000 hundredths of a step; a rate, and a day of them
 abbrev pub daily_rate : ℕ → Fixed ℤ
 daily_rate w = rate w (units_per_step w)
 
@@ -132,7 +132,7 @@ file_map file = number file 0 2
 abbrev pub FirstParts : Type 0
 FirstParts = ℕ × (List (List ℤ) × (List ℕ × (List ℕ × (Amounts × (Shocks × People)))))
 
--- "then only the fields whose bit stands, in bit order": those of document 01
+-- "then only the fields whose bit stands, in bit order": those of bits 0 to 6
 abbrev pub first_fields : ℕ → Present → Field FirstParts
 first_fields w p =
     -- "Bit 0, UFR: 2 bytes, in rate steps, 0 to 5,000. A file without this field has a UFR of 4,200."; refusal 9
@@ -154,7 +154,7 @@ first_fields w p =
 abbrev pub Parts : Type 0
 Parts = FirstParts × List (List ℤ)
 
--- request Six: "Bit 7 announces a days field of the same form whose rates are four bytes"
+-- all fields: bit 7 announces days in four bytes, a field of the same form
 abbrev pub layout : ℕ → Present → Field Parts
 layout w p = first_fields w p then optional (w == 4) [] (days 4)
 

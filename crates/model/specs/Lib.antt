@@ -1,5 +1,5 @@
--- The case file of document 01 as definitions, a file a section, in its order; its working is in the crate `method`, and each request of
--- document 02 has a crate of its own. All of it has to be believed, except what is in inner.
+-- The case file as definitions, from its numbers to the order of the checks (METHOD, The case file; METHOD, Refusals). The working is in
+-- the crate `method`, and each feature beyond them has a crate of its own. All of it has to be believed, except what is in inner.
 pub mod Constants
 pub mod Numbers
 pub mod Case

@@ -1,4 +1,4 @@
--- The limits that document 01 sets to the numbers of a case ('The case file', and error 6), without the refusals.
+-- The limits of the numbers of a case (METHOD, The case file; of forward rates: METHOD, Refusals), without the refusals.
 use Rattle.std.specs.Prelude.{ℕ, ◌*◌, ◌-◌, ◌≤◌, ◌<◌, ◌≡◌, true, List, [], length, slice_index, slice_index_or, ℤ, pos, neg_ℤ, ◌-ℤ◌, ◌*ℤ◌, ◌≤ℤ◌}
 use Rattle.model.specs.Case.{FileCase, known_form, units_per_step, s}
 use Rattle.model.specs.declared.case.Amounts.{Amounts}
@@ -13,8 +13,7 @@ pub record Between (a b z : ℤ) : Type 0 where
 pub record FlowsWithin (flows : List ℕ) : Type 0 where
   pub each : (i : ℕ) → i < length flows → slice_index flows i ≤ 100000000
 
--- "60 zero rates, terms 1 to 60, each .. -1,000 to 10,000 steps", in units of which `units` are a step; document 02, request Six: "limits
--- -100,000 to 1,000,000"
+-- 60 zero rates, terms 1 to 60, "each -1,000 to 10,000 steps", in units of which `units` are a step: of four bytes -100,000 to 1,000,000
 pub record DayWithin (units : ℕ) (day : List ℤ) : Type 0 where
   pub terms : length day ≡ 60
   pub each : (t : ℕ) → t < 60 → Between (neg_ℤ (pos (1000 * units))) (pos (10000 * units)) (slice_index_or day t (pos 0))

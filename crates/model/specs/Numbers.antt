@@ -1,4 +1,4 @@
--- Numbers in a file of bytes, and runs of them (document 01, 'The case file': "Big-endian; unsigned unless said").
+-- Numbers in a file of bytes, and runs of them (METHOD, The case file: "All numbers are big-endian; unsigned unless said").
 use Rattle.std.specs.Prelude.{ℕ, zero, suc, ◌+◌, ◌*◌, ◌-◌, ◌/◌, ◌%◌, ◌^◌, ◌<◌, Bool, true, ◌&&◌, if◌then◌else◌, List, [], ◌∷◌, ◌++◌, nat_lt, slice_index, ℤ, pos, negsuc, ◌-ℤ◌}
 
 -- the big-endian number of w bytes at a position; a byte past the end counts as 0

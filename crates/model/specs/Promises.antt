@@ -46,7 +46,7 @@ pub record PartCall (file : List ℕ) : Type 0 where
   -- by the days of the case that the file holds
   pub two_bytes : refusal file ≡ 0 → (case_of file).rate_bytes ≡ 2 → length (rates_part file) ≡ 120 * length (case_of file).days
   pub four_bytes : refusal file ≡ 0 → (case_of file).rate_bytes ≡ 4 → length (rates_part file) ≡ 240 * length (case_of file).days
-  -- behind the count of the days, and inside the file
+  -- after the count of the days, and inside the file
   pub place : refusal file ≡ 0 → rates_part file ≡ take (length (rates_part file)) (drop (days_at file + 1) file)
   pub inside : refusal file ≡ 0 → days_at file + 1 + length (rates_part file) ≤ length file
 

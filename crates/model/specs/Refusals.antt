@@ -1,4 +1,4 @@
--- Why a file is refused, and with which number (document 01, 'Office errors and host errors'); 0 where it is accepted.
+-- Why a file is refused, and with which number (METHOD, Refusals); 0 where it is accepted.
 use Rattle.std.specs.Prelude.{ℕ, suc, ◌+◌, ◌*◌, Bool, ◌&&◌, not, if◌then◌else◌, List, [], ◌∷◌, ◌++◌, nat_le, length, slice_index, take, drop, ℤ, pos, neg_ℤ, Option, Some, None}
 use Rattle.refusal.specs.Numbered.{number_in}
 use Rattle.refusal.specs.declared.Refusal.{Refusal}
@@ -23,7 +23,7 @@ first_of checks = number_in (failing checks)
 abbrev pub exactly_one : Bool → Bool → Bool
 exactly_one a b = if a then not b else b
 
--- "Bits 1, 2, 5 and 6 must stand; bits 7 to 15 must not."; document 02, request Six: "Exactly one of bits 1 and 7 stands, otherwise it's 3."
+-- "Bits 2, 5 and 6 must stand, and exactly one of bits 1 and 7; bits 8 to 15 must not."
 abbrev pub bits_right : ℕ → Bool
 bits_right map =
     exactly_one (stands 1 map) (stands 7 map) && stands 2 map && stands 5 map && stands 6 map && every (λ i. not (stands (8 + i) map)) 8
@@ -32,8 +32,8 @@ bits_right map =
 abbrev pub map_checks : List ℕ → List Check
 map_checks file = (reaches file 2, EndsEarly) ∷ (bits_right (file_map file), WrongFields) ∷ []
 
--- "some t × s(t) - (t - 1) × s(t-1) is below -2,000 × n or above 12,000 × n", where one step adds n to a sum; request Six: "The limits of
--- refusals 5 and 6 are multiplied by 100", where one step adds 100 × n
+-- refusal 6: each t × s(t) - (t - 1) × s(t-1) is from -2,000 × n to 12,000 × n, where one step adds n to a sum; of four-byte rates one step
+-- adds 100 × n, and "both limits are 100 times as large"
 unfoldable pub forwards_right : ℕ → List (List ℤ) → Bool
 forwards_right n days = every (λ t. within_z (neg_ℤ (pos (2000 * n))) (pos (12000 * n)) (forward days (suc t))) 60
 
@@ -58,8 +58,8 @@ days_at file = if stands 7 (file_map file) then (first_fields 4 (present_in (fil
 unfoldable pub day_count : List ℕ → ℕ
 day_count file = slice_index file (days_at file)
 
--- "the part of the file that holds the rates: all n × 120 bytes; of a file that 1 to 12 refuse, an empty part"; request Six, of rates of
--- four bytes: "the part handed back is n × 240 bytes"
+-- "the part of the file that holds the rates: all n × 120 bytes; of a file that 1 to 12 refuse, an empty part"; of a file with four-byte
+-- rates "the part handed back is n × 240 bytes"
 abbrev pub rates_part_after : Option Refusal → List ℕ → List ℕ
 rates_part_after None file = take (rate_bytes_in (file_map file) * last_market_term * day_count file) (drop (days_at file + 1) file)
 rates_part_after (Some r) file = []

@@ -4,11 +4,11 @@ use Rattle.std.specs.Prelude.{ℕ, ◌≤◌, ◌≡◌, List, length, take}
 use Rattle.model.specs.Layout.{case_of}
 use Rattle.model.specs.Refusals.{failing, checks, refusal}
 
--- the longest file that is accepted has so many bytes
+-- the longest file that is accepted has this many bytes
 abbrev pub longest_file : ℕ
 longest_file = 17623
 
--- so many bytes from the front decide about any file: one more than the longest file that is accepted
+-- this many bytes from the front decide about any file: one more than the longest file that is accepted
 abbrev pub deciding_bytes : ℕ
 deciding_bytes = 17624
 
@@ -16,7 +16,7 @@ deciding_bytes = 17624
 pub record AcceptedFilesAreShort : Type 0 where
   pub most : (file : List ℕ) → refusal file ≡ 0 → length file ≤ longest_file
 
--- a file of just so many bytes is accepted
+-- a file of just this many bytes is accepted
 pub record LongestFileIsAccepted : Type 0 where
   pub file : List ℕ
   pub accepted : refusal file ≡ 0

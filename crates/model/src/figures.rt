@@ -2,7 +2,7 @@
 
 pub use arith::bracket::Bracket;
 
-// The ten money figures of document 01, by its names.
+// The ten money figures, by their names in the listing.
 #[repr(C)]
 #[derive(Clone, Copy, Default)]
 pub struct Figures {

@@ -1,2 +1,2 @@
--- Histories, the order of checks, and what a valuation leaves. tests/pinned.py writes them.
+-- Histories, the order of checks, and what a valuation leaves. tests/writers writes them.
 pub mod Months

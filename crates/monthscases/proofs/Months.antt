@@ -1,8 +1,8 @@
 -- A UFR from ten years of months: the ring from several places, every limit and the order of 17 to 19, the answer; and valuations with it:
 -- the order of checks from the end of the file on, the listing, and what both lent buffers hold afterwards. All of it as computed statements
 -- about the definitions.
--- tests/pinned.py wrote this file, from an implementation in Python that was written from document 02 and the readings of decisions 168
--- to 170 and 172 (tests/months.py): change that, not this. Assumes nothing.
+-- tests/writers wrote this file, from the reference in Python, which was written without the engine's code (tests/reference): change
+-- that, not this. Assumes nothing.
 use Prim.Native.Nat.{ℕ}
 use Prim.Native.String.{String}
 use mathlib.Core.Path.{◌≡◌, refl}

@@ -1,3 +1,3 @@
-// Request Five, a UFR from a history of months: what takes long to compute of its definitions, in proofs/. There is no code here, and nothing
-// depends on this crate: no edit pays for it.
+// A UFR from a history of months: what takes long to compute of its definitions, in proofs/. There is no code here, and nothing depends on
+// this crate: no edit pays for it.
 #![tactic(auto)]

@@ -1,6 +1,6 @@
 -- The UFR of months put into files with rates in four bytes, as computed statements about the definitions.
--- tests/pinned.py wrote this file, from an implementation in Python that was written from document 02 and the readings of decisions 168
--- to 170 and 172 (tests/months.py): change that, not this. Assumes nothing.
+-- tests/writers wrote this file, from the reference in Python, which was written without the engine's code (tests/reference): change
+-- that, not this. Assumes nothing.
 use mathlib.Core.Path.{◌≡◌, refl}
 use mathlib.Core.List.{[], ◌∷◌, ◌++◌}
 use Rattle.model.proofs.Computing.{pairs}

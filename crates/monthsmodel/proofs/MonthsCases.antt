@@ -1,7 +1,7 @@
 -- A UFR from ten years of months: the months of a history, the rounding of their mean, refusals, and the case and the file that are
 -- valued with it, as computed statements about the definitions. What takes longer to compute is in the crate `monthscases`.
--- tests/pinned.py wrote this file, from an implementation in Python that was written from document 02 and the readings of decisions 168
--- to 170 and 172 (tests/months.py): change that, not this. Assumes nothing.
+-- tests/writers wrote this file, from the reference in Python, which was written without the engine's code (tests/reference): change
+-- that, not this. Assumes nothing.
 use Prim.Native.Nat.{ℕ}
 use mathlib.Core.Path.{◌≡◌, refl}
 use mathlib.Core.List.{List, [], ◌∷◌, ◌++◌, map}

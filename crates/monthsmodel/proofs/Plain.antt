@@ -22,7 +22,7 @@ use Rattle.monthsmodel.specs.Months.{months_of, oldest_first, total, hundreds, N
 use Rattle.monthsmodel.specs.Months.{months_checks, months_refusal, months_case, months_valuation, months_factors_after, months_rates_after}
 use Rattle.monthsmodel.specs.Months.{with_ufr_field, ValuedWithField}
 use Rattle.monthsmodel.specs.Promises.{RoundedToHundred, SumFromAnyMonth, HistoryAccepted, HistoryAcceptedExactly, UfrFound, UfrFoundOfAll}
-use Rattle.monthsmodel.specs.Promises.{OwnNumbersFirst, FileWithFieldAccepted, MonthsValuedWithField, MonthsAcceptedExactly, MonthsKeepDemand3}
+use Rattle.monthsmodel.specs.Promises.{OwnNumbersFirst, FileWithFieldAccepted, MonthsValuedWithField, MonthsAcceptedExactly, MonthsKeepContainment}
 use Rattle.monthsmodel.specs.Promises.{RefusedMonthsLeaveBuffers, UfrCall, MonthsCall, EveryUfrCall, EveryMonthsCall}
 use Rattle.model.specs.declared.figures.Valuation.{Valuation}
 use Rattle.model.proofs.Computing.{pairs}
@@ -151,11 +151,11 @@ accepted-months p file b history start factors rates e =
 case-valued : (file history : List ℕ) → months_case file history ≡ with_ufr (ufr_found history) (case_of file)
 case-valued file history = refl
 
-months-demand3 : MonthsKeepDemand3 → (file history : List ℕ) (start : ℕ) (factors : List ℕ) (rates : List ℤ) (v : Valuation)
+months-contained : MonthsKeepContainment → (file history : List ℕ) (start : ℕ) (factors : List ℕ) (rates : List ℤ) (v : Valuation)
     → months_valuation file history start (length factors) (length rates) ≡ Ok v
     → WidthsKept (months_case file history) v (months_factors_after file history start factors rates)
     (months_rates_after file history start factors rates)
-months-demand3 p file history start factors rates v e =
+months-contained p file history start factors rates v e =
     widths-kept (months_case file history) v (months_factors_after file history start factors rates)
     (months_rates_after file history start factors rates) (p.kept file history start factors rates v e)
 

@@ -1,3 +1,3 @@
--- Request Five of document 02: a UFR from a history of months. All of it has to be believed.
+-- A UFR from a history of months (METHOD, The UFR from a history of months). All of it has to be believed.
 pub mod Months
 pub mod Promises

@@ -1,5 +1,5 @@
--- The UFR from ten years of months (document 02, request Five): the mean of 120 month-end forward rates, rounded to the nearest 100 steps;
--- its checks; and a case file valued with that UFR, as if it stood in the file's UFR field.
+-- The UFR from ten years of months (METHOD, The UFR from a history of months): the mean of 120 month-end forward rates, rounded to the
+-- nearest 100 steps; its checks; and a case file valued with that UFR, as if it were in the file's UFR field.
 use Rattle.std.specs.Prelude.{ℕ, ◌+◌, ◌/◌, ◌≤◌, ◌≡◌, ◌&&◌, if◌then◌else◌, List, [], ◌∷◌, ◌++◌, nat_le, ◌==◌, length, slice_index_or, drop, ℤ, pos, negsuc, nat_abs, ◌+ℤ◌, ◌-ℤ◌, ◌*ℤ◌, ◌≤ℤ◌, Option, Some, None, Result, Ok, Err}
 use Rattle.refusal.specs.declared.Refusal.{Refusal}
 use Rattle.refusal.specs.declared.Refusal.TheVariants.{History, Month, MonthsUfr}
@@ -111,7 +111,7 @@ unfoldable pub months_rates_after : List ℕ → List ℕ → ℕ → List ℕ �
 months_rates_after file history start factors rates =
     written (failing (months_checks file history start (length factors) (length rates))) (rate_entries (months_case file history)) rates
 
--- "as if it stood in the file's UFR field": the file with bit 0 in its map and the UFR in the two bytes behind the map. They take the place
+-- "as if it stood in the file's UFR field": the file with bit 0 in its map and the UFR in the two bytes after the map. They take the place
 -- of the UFR that the file has there, if its bit 0 stands.
 unfoldable pub with_ufr_field : ℕ → List ℕ → List ℕ
 with_ufr_field ufr file =

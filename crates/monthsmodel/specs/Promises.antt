@@ -9,7 +9,7 @@ use Rattle.model.specs.Case.{with_ufr}
 use Rattle.model.specs.Limits.{Between}
 use Rattle.model.specs.Layout.{Keeps, case_of}
 use Rattle.model.specs.Refusals.{failing, refusal}
-use Rattle.method.specs.Demand3.{Demand3}
+use Rattle.method.specs.Containment.{ContainmentAndWidth}
 use Rattle.method.specs.Buffers.{valuation_checks, refusal_number}
 use Rattle.method.specs.Promises.{given, Untouched, CaseValued}
 use Rattle.monthsmodel.specs.Months.{months_of, oldest_first, total, hundreds, Nearest, rounded_ufr, history_checks, ufr_refusal, ufr_found, ufr_answer}
@@ -87,11 +87,11 @@ pub record MonthsAcceptedExactly : Type 0 where
   pub exactly : (file : List ℕ) → Bytes file → (history : List ℕ) (start factors rates : ℕ)
       → (months_refusal file history start factors rates ≡ 0) ↔ MonthsAccepted file history start factors rates
 
--- the third demand holds of what is answered and written
-pub record MonthsKeepDemand3 : Type 0 where
+-- containment and width hold of what is answered and written
+pub record MonthsKeepContainment : Type 0 where
   pub kept : (file history : List ℕ) (start : ℕ) (factors : List ℕ) (rates : List ℤ) (v : Valuation)
       → months_valuation file history start (length factors) (length rates) ≡ Ok v
-      → Demand3 (months_case file history)
+      → ContainmentAndWidth (months_case file history)
       (given v (months_factors_after file history start factors rates) (months_rates_after file history start factors rates))
 
 -- a refusal leaves both buffers, whatever it is
@@ -109,7 +109,7 @@ pub record RefusedMonthsLeaveBuffers : Type 0 where
 
 -- every call that looks for the UFR of a history
 pub record UfrCall (history : List ℕ) (start : ℕ) : Type 0 where
-  -- "When an answer is an enum, a definition gives this paper's number": 0 for a UFR that is found
+  -- the number of an answer: 0 for a UFR that is found
   pub number : refused_by (ufr_answer history start) ≡ ufr_refusal history start
   pub refused : (r : Refusal) → failing (history_checks history start) ≡ Some r → ufr_answer history start ≡ Err r
   pub exactly : (ufr_refusal history start ≡ 0) ↔ HistoryAccepted history start

@@ -1,2 +1,2 @@
--- Listings and numbers of curves that take long to compute. tests/pinned.py writes them.
+-- Listings and numbers of curves that take long to compute. tests/writers writes them.
 pub mod Files

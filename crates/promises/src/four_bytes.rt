@@ -16,7 +16,7 @@ pub fn four_byte_cases_count_finer()
     ensures { FourByteCases }
 {}
 
-/// The part of an accepted file of n days with four-byte rates that holds the rates is n × 240 bytes, behind the count of days.
+/// The part of an accepted file of n days with four-byte rates that holds the rates is n × 240 bytes, after the count of days.
 #[tactic(auto, using(theory::proofs::fourbytes::Promised::four_byte_parts_are_of_240))]
 pub fn four_byte_parts_are_of_240()
     ensures { FourByteParts }

@@ -1,7 +1,7 @@
 // A UFR from a history of 120 month-end forward rates, and the valuation of a case file with it. Months and the UFR are in steps of 0.00001.
 ghost use Rattle.monthsmodel.specs.Promises.{RoundedToHundred, SumFromAnyMonth, HistoryAcceptedExactly, UfrFoundOfAll, EveryUfrCall};
 ghost use Rattle.monthsmodel.specs.Promises.{OwnNumbersFirst, FileWithFieldAccepted, MonthsValuedWithField, MonthsAcceptedExactly};
-ghost use Rattle.monthsmodel.specs.Promises.{MonthsKeepDemand3, RefusedMonthsLeaveBuffers, EveryMonthsCall};
+ghost use Rattle.monthsmodel.specs.Promises.{MonthsKeepContainment, RefusedMonthsLeaveBuffers, EveryMonthsCall};
 
 /// Of every sum of 120 months the hundreds of steps that are found are the nearest to the mean, of two that are equally near the higher, and
 /// no other number of hundreds is.
@@ -56,11 +56,11 @@ pub fn months_accepted_exactly()
     ensures { MonthsAcceptedExactly }
 {}
 
-/// The third demand holds of every file that is valued with a history: of the figures and the verdict that are answered, and of the factors
-/// and zero rates that are written.
-#[tactic(auto, using(theory::proofs::months::Promised::months_keep_demand3))]
-pub fn months_keep_demand3()
-    ensures { MonthsKeepDemand3 }
+/// Containment and width hold of every file that is valued with a history: of the figures and the verdict that are answered, and of the
+/// factors and zero rates that are written.
+#[tactic(auto, using(theory::proofs::months::Promised::months_keep_containment))]
+pub fn months_keep_containment()
+    ensures { MonthsKeepContainment }
 {}
 
 /// A valuation with a history that is refused, with whatever number, leaves both lent buffers as they were.

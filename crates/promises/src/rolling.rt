@@ -1,7 +1,7 @@
 // A rolling window of up to 70 trading days. Its rates are in steps of 0.00001, its sums per term in the same steps.
 ghost use Rattle.rollingmodel.specs.Promises.{RightExactly, EmptyHoldsNothing, ChangesHold, ChangesOfRightHold};
 ghost use Rattle.rollingmodel.specs.Promises.{DamagedAheadOfAll, FullExactly, EmptyExactly, RefusedChangesNothing};
-ghost use Rattle.rollingmodel.specs.Promises.{WindowValuedAsFile, WindowAcceptedExactly, WindowKeepsDemand3, RefusedWindowLeavesBuffers};
+ghost use Rattle.rollingmodel.specs.Promises.{WindowValuedAsFile, WindowAcceptedExactly, WindowKeepsContainment, RefusedWindowLeavesBuffers};
 ghost use Rattle.rollingmodel.specs.Promises.{AlikeAnswers, ChangesAlike, FreeSlotsAlike, EveryAddCall, EveryDropCall, EveryWindowCall};
 
 /// A window is not refused with 27 exactly where it has at most 70 days from a slot 0 to 69 on, every rate held is -1,000 to 10,000 steps,
@@ -68,11 +68,11 @@ pub fn window_accepted_exactly()
     ensures { WindowAcceptedExactly }
 {}
 
-/// The third demand holds of every window that is valued: of the figures and the verdict that are answered, and of the factors and zero
-/// rates that are written.
-#[tactic(auto, using(theory::proofs::rolling::Promised::window_keeps_demand3))]
-pub fn window_keeps_demand3()
-    ensures { WindowKeepsDemand3 }
+/// Containment and width hold of every window that is valued: of the figures and the verdict that are answered, and of the factors and
+/// zero rates that are written.
+#[tactic(auto, using(theory::proofs::rolling::Promised::window_keeps_containment))]
+pub fn window_keeps_containment()
+    ensures { WindowKeepsContainment }
 {}
 
 /// A valuation of a window that is refused, with whatever number, leaves both lent buffers as they were.

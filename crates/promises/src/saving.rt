@@ -47,8 +47,8 @@ pub fn refused_save_changes_nothing()
     ensures { RefusedSaveChangesNothing }
 {}
 
-/// A case within the limits is saved in every buffer that is long enough: the answer is the count of bytes written, they stand at the front of
-/// the buffer, and all bytes behind them keep their content.
+/// A case within the limits is saved in every buffer that is long enough: the answer is the count of bytes written, they are at the front
+/// of the buffer, and all bytes after them keep their content.
 #[tactic(auto, using(theory::proofs::saving::Promised::saved_where_there_is_room))]
 pub fn saved_where_there_is_room()
     ensures { SavedWhereThereIsRoom }

@@ -28,7 +28,7 @@ pub fn listings_are_short()
 {}
 
 /// What the contract of a written listing says of its own valuation and buffer holds of every valuation and of every buffer: in a buffer of 463
-/// bytes or more it is whole, bytes behind it keep their content, and where the answer is 0 the buffer holds what it held.
+/// bytes or more it is whole, bytes after it keep their content, and where the answer is 0 the buffer holds what it held.
 #[tactic(auto, using(theory::proofs::sizes::Promised::every_listing_call))]
 pub fn every_listing_call()
     ensures { EveryListingCall }

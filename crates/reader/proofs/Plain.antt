@@ -17,7 +17,7 @@ use Rattle.heldcase.specs.Held.{held}
 use Rattle.reader.specs.Answers.{rates_from, behind, RatesPart, Read, ReadExactly, IsFirstOfAll}
 use Rattle.reader.specs.declared.file.Reading.{Reading}
 
--- behind the count of days, and nowhere in a file that is refused; 7 bytes behind the byte 5 of an allocation
+-- after the count of days, and nowhere in a file that is refused; 7 bytes after the byte 5 of an allocation
 rates-at : (file : List ℕ) → (rates_from None file ≡ days_at file + 1) × (rates_from (Some Rate) file ≡ 0)
 rates-at file = (refl, refl)
 

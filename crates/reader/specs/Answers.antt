@@ -11,7 +11,7 @@ use Rattle.refusal.specs.Numbered.{number_of}
 use Rattle.refusal.specs.declared.Refusal.{Refusal}
 use Rattle.reader.specs.declared.file.Reading.{Reading}
 
--- the offset of the rates' part in the file, and the place that lies k entries behind another
+-- the offset of the rates' part in the file, and the place that lies k entries after another
 abbrev pub rates_from : Option Refusal → List ℕ → ℕ
 rates_from None file = days_at file + 1
 rates_from (Some r) file = 0

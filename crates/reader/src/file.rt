@@ -11,7 +11,7 @@ use fields::map::MapField;
 use heldcase::Case;
 use refusal::Refusal;
 
-// The case of an accepted file, the caller's own bytes that hold its rates, and where in the file these stand.
+// The case of an accepted file, the caller's own bytes that hold its rates, and where in the file these are.
 #[derive(Clone, Copy)]
 pub struct Reading<'a> {
     pub case: Case,

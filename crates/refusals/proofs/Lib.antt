@@ -1,2 +1,2 @@
--- The whole table of refusals. tests/pinned.py writes it.
+-- The whole table of refusals. tests/writers writes it.
 pub mod Refused

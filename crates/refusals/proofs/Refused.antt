@@ -1,7 +1,7 @@
 -- The refusals of files at each limit, on both sides, and in each place of the order of checks. A number that passes its check is mostly
 -- shown by a file that ends after the field, which is refused with 1.
--- tests/pinned.py wrote this file, from an implementation in Python that was written from the papers and, for request Six, from the
--- readings that its first lines name (tests/reference.py): change that, not this. Assumes nothing.
+-- tests/writers wrote this file, from the reference in Python, which was written without the engine's code (tests/reference): change
+-- that, not this. Assumes nothing.
 use Prim.Native.Nat.{ℕ}
 use mathlib.Core.Path.{◌≡◌, refl}
 use mathlib.Core.List.{List, [], ◌∷◌, ◌++◌, map}

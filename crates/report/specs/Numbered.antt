@@ -24,7 +24,7 @@ numbers_in ufr from k = record {
   assets_sum = all_except_currency k.amounts;
 }
 
--- of a file with its own UFR: bit 0 of its map says whether the UFR stands in it
+-- of a file with its own UFR: bit 0 of its map says whether the UFR is in it
 abbrev pub own_numbers : List ℕ → Numbers
 own_numbers file = numbers_in (case_of file).ufr (if stands 0 (file_map file) then source.File else source.Default) (case_of file)
 

@@ -1,4 +1,4 @@
-// Where the entries of a ring of slots stand. A host keeps the slots and what lies in them: a ring of days, of months, of ratios. What a
+// Where the entries of a ring of slots are. A host keeps the slots and what lies in them: a ring of days, of months, of ratios. What a
 // ring holds after a change, whatever an entry is, is in theory/proofs/general/Ring.antt.
 #![tactic(auto)]
 
@@ -30,7 +30,7 @@ impl<const SLOTS: usize> Place<SLOTS> {
         }
     }
 
-    // The slot of entry `i`, from the oldest; that of the entry behind the newest, for `count`.
+    // The slot of entry `i`, from the oldest; that of the entry after the newest, for `count`.
     pub fn slot(&self, i: usize) -> usize
         requires { i ≤ SLOTS }
         ensures slot { result ≡ slot SLOTS self.now.start i }
@@ -56,7 +56,7 @@ impl<const SLOTS: usize> Place<SLOTS> {
         }
     }
 
-    // The slot for an entry behind the newest, if one is left.
+    // The slot for an entry after the newest, if one is left.
     pub fn free(&self) -> Option<usize>
         ensures some { IsSome result ↔ (self.now.count < SLOTS) }
         ensures slot { IfSome result (λ j. j ≡ slot SLOTS self.now.start self.now.count) }

@@ -1,4 +1,4 @@
--- The sums per term, with a day more behind the newest and with the oldest day less, and how large they are.
+-- The sums per term, with a day more after the newest and with the oldest day less, and how large they are.
 use Prim.Native.Nat.{ℕ, suc, ◌*◌, ◌≤◌, ◌<◌}
 use mathlib.Core.Path.{◌≡◌, refl, ap, sym, ◌∙◌}
 use mathlib.Core.Bool.{true}

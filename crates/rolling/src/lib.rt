@@ -95,7 +95,7 @@ fn subtract(sums: &mut [i64; 60], oldest: &[i16; 60])
     }
 }
 
-// Where the days of a window stand. Refusal 27 for one with a count or place out of range, a held rate out of limits or a wrong sum.
+// Where the days of a window are. Refusal 27 for one with a count or place out of range, a held rate out of limits or a wrong sum.
 pub fn place_of(w: &RollingWindow) -> Result<Place<70>, Refusal>
     ensures right { is_ok result ≡ rolling_right w.now }
     ensures count { IfOk result (λ place. place.count ≡ w.now.count) }
@@ -118,7 +118,7 @@ pub fn place_of(w: &RollingWindow) -> Result<Place<70>, Refusal>
     Ok(place)
 }
 
-// Adds a trading day behind the newest: 27 for a window that is not right, 15 for one of 70 days, 5 for a rate out of limits. A refused
+// Adds a trading day after the newest: 27 for a window that is not right, 15 for one of 70 days, 5 for a rate out of limits. A refused
 // day changes nothing.
 pub fn add_day(w: &mut RollingWindow, new: &Day) -> Result<(), Refusal>
     ensures changed { record { refusal = refused_by result; window = w.new } ≡ add_day w.old new.now.rates }

@@ -1,2 +1,2 @@
--- Windows, the order of checks and a full ring. tests/pinned.py writes them.
+-- Windows, the order of checks and a full ring. tests/writers writes them.
 pub mod Rolling

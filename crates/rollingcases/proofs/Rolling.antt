@@ -1,7 +1,7 @@
 -- Rolling windows, what takes longer to compute: a day added to 70 and to 69, the whole order of checks of a valuation, with a case of
 -- two-byte and of four-byte days, and the first zero rate that a valuation leaves.
--- tests/pinned.py wrote this file, from an implementation in Python that was written from the papers and, for request Six, from the
--- readings that its first lines name (tests/rolling.py): change that, not this. Assumes nothing.
+-- tests/writers wrote this file, from the reference in Python, which was written without the engine's code (tests/reference): change
+-- that, not this. Assumes nothing.
 use Prim.Native.Nat.{ℕ}
 use mathlib.Core.Path.{◌≡◌, refl}
 use mathlib.Core.List.{List, [], ◌∷◌, ◌++◌}

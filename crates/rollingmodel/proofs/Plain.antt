@@ -17,7 +17,7 @@ use Rattle.model.specs.Fields.{right_all}
 use Rattle.model.specs.Layout.{day, Present, Agrees, file_of}
 use Rattle.model.specs.Refusals.{failing}
 use Rattle.method.specs.Exact as Exact
-use Rattle.method.specs.Demand3.{Demand3}
+use Rattle.method.specs.Containment.{ContainmentAndWidth}
 use Rattle.method.specs.Margins.{WL, WB}
 use Rattle.method.specs.Buffers.{factors_after, rates_after, valuation_of, refusal_number}
 use Rattle.savingmodel.specs.Saving.{case_refusal}
@@ -27,7 +27,7 @@ use Rattle.rollingmodel.specs.Rolling.{rolling_checks, rolling_refusal, rolling_
 use Rattle.method.specs.Promises.{given, CaseValued}
 use Rattle.rollingmodel.specs.Promises.{RightExactly, Holds, EmptyHoldsNothing, ChangesHold, ChangesOfRightHold}
 use Rattle.rollingmodel.specs.Promises.{DamagedAheadOfAll, FullExactly, EmptyExactly, RefusedChangesNothing}
-use Rattle.rollingmodel.specs.Promises.{WindowValuedAsFile, WindowAcceptedExactly, WindowKeepsDemand3, RefusedWindowLeavesBuffers}
+use Rattle.rollingmodel.specs.Promises.{WindowValuedAsFile, WindowAcceptedExactly, WindowKeepsContainment, RefusedWindowLeavesBuffers}
 use Rattle.rollingmodel.specs.Promises.{AlikeAnswers, ChangesAlike, FreeSlotsAlike, AddCall, DropCall, WindowCall, EveryAddCall, EveryDropCall, EveryWindowCall}
 use Rattle.model.specs.declared.figures.Valuation.{Valuation}
 use Rattle.model.specs.declared.figures.Verdict.TheVariants.{Onbeslist}
@@ -177,7 +177,7 @@ WidthsKept k v factors rates =
     × (v.figures.s.upper ≤ v.figures.s.lower + (3 * WL k + 2 * WB k + 8))
     × (v.verdict ≢ Onbeslist → v.verdict ≡ Exact.verdict k)
 
-pub widths-kept : (k : FileCase) (v : Valuation) (factors : List ℕ) (rates : List ℤ) → Demand3 k (given v factors rates) → WidthsKept k v factors rates
+pub widths-kept : (k : FileCase) (v : Valuation) (factors : List ℕ) (rates : List ℤ) → ContainmentAndWidth k (given v factors rates) → WidthsKept k v factors rates
 widths-kept k v factors rates d = (
   d.factor_width 1 (omega arith) (omega arith),
   d.factor_width 120 (omega arith) (omega arith),
@@ -187,10 +187,10 @@ widths-kept k v factors rates d = (
   d.right,
 )
 
-window-demand3 : WindowKeepsDemand3 → (w : RollingWindow) (k : FileCase) (factors : List ℕ) (rates : List ℤ) (v : Valuation)
+window-contained : WindowKeepsContainment → (w : RollingWindow) (k : FileCase) (factors : List ℕ) (rates : List ℤ) (v : Valuation)
     → rolling_valuation w k (length factors) (length rates) ≡ Ok v
     → WidthsKept (with_days 2 (days_held w) k) v (rolling_factors_after w k factors rates) (rolling_rates_after w k factors rates)
-window-demand3 p w k factors rates v e =
+window-contained p w k factors rates v e =
     widths-kept (with_days 2 (days_held w) k) v (rolling_factors_after w k factors rates) (rolling_rates_after w k factors rates)
     (p.kept w k factors rates v e)
 
@@ -225,7 +225,7 @@ changes-alike p w v start other days sums long other_long cs =
     let a = p.after w v record { start = start; other_start = other; days = days; sums = sums } long other_long cs in
     (a.days, a.sums 0 (omega arith), a.sums 59 (omega arith))
 
--- the first slot behind the newest day, and the last
+-- the first slot after the newest day, and the last
 free-slots : FreeSlotsAlike → (w : RollingWindow) (new : List ℤ) → w.start < 70 → length w.rates ≡ 4200 → length new ≡ 60 → w.count < 70
     → (days_held w ≡ days_held (record w { rates = with_day_in w.rates (slot 70 w.start w.count) new }))
     × (days_held w ≡ days_held (record w { rates = with_day_in w.rates (slot 70 w.start 69) new }))

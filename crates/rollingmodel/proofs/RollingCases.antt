@@ -1,7 +1,7 @@
 -- Rolling windows: which are right, the refusals of a change and of a valuation, the window after a change, and what a valuation leaves in
 -- the lent buffers, as computed statements about the definitions.
--- tests/pinned.py wrote this file, from an implementation in Python that was written from the papers and, for request Six, from the
--- readings that its first lines name (tests/rolling.py): change that, not this. Assumes nothing.
+-- tests/writers wrote this file, from the reference in Python, which was written without the engine's code (tests/reference): change
+-- that, not this. Assumes nothing.
 use Prim.Native.Nat.{ℕ}
 use Prim.Native.String.{String}
 use mathlib.Core.Path.{◌≡◌, refl}

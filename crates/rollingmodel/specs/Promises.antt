@@ -8,7 +8,7 @@ use Rattle.model.specs.Limits.{DayWithin, DaysWithin, WithinLimits}
 use Rattle.model.specs.Fields.{right_all}
 use Rattle.model.specs.Layout.{day, Present, Agrees, file_of}
 use Rattle.model.specs.Refusals.{failing}
-use Rattle.method.specs.Demand3.{Demand3}
+use Rattle.method.specs.Containment.{ContainmentAndWidth}
 use Rattle.method.specs.Buffers.{refusal_number}
 use Rattle.method.specs.Promises.{given, Untouched, CaseValued}
 use Rattle.savingmodel.specs.Saving.{case_refusal}
@@ -96,11 +96,11 @@ pub record WindowAccepted (w : RollingWindow) (k : FileCase) (factors rates : �
 pub record WindowAcceptedExactly : Type 0 where
   pub exactly : (w : RollingWindow) (k : FileCase) (factors rates : ℕ) → (rolling_refusal w k factors rates ≡ 0) ↔ WindowAccepted w k factors rates
 
--- the third demand holds of what is answered and written
-pub record WindowKeepsDemand3 : Type 0 where
+-- containment and width hold of what is answered and written
+pub record WindowKeepsContainment : Type 0 where
   pub kept : (w : RollingWindow) (k : FileCase) (factors : List ℕ) (rates : List ℤ) (v : Valuation)
       → rolling_valuation w k (length factors) (length rates) ≡ Ok v
-      → Demand3 (window_case w k) (given v (rolling_factors_after w k factors rates) (rolling_rates_after w k factors rates))
+      → ContainmentAndWidth (window_case w k) (given v (rolling_factors_after w k factors rates) (rolling_rates_after w k factors rates))
 
 -- a refusal leaves both buffers, whatever it is
 abbrev pub WindowRefused : Refusal → RollingWindow → FileCase → List ℕ → List ℤ → Type 0
@@ -155,7 +155,7 @@ pub record DayAdded (w : RollingWindow) (new : List ℤ) : Type 0 where
   pub day : DayWithin 1 new
 
 -- every call that adds a day: the window has the rates of 70 days, as its type says. What is refused is given back; else the window after it
--- is right and holds the days held before and behind them the new one.
+-- is right and holds the days held before and after them the new one.
 pub record AddCall (w : RollingWindow) (new : List ℤ) : Type 0 where
   pub long : length w.rates ≡ 4200
   pub refused : add_refusal w new ≢ 0 → add_day w new ≡ record { refusal = add_refusal w new; window = w }
@@ -173,7 +173,7 @@ pub record DropCall (w : RollingWindow) : Type 0 where
 
 -- every call that values a window
 pub record WindowCall (w : RollingWindow) (k : FileCase) (factors : List ℕ) (rates : List ℤ) : Type 0 where
-  -- "When an answer is an enum, a definition gives this paper's number": 0 for a window that is valued
+  -- the number of an answer: 0 for a window that is valued
   pub number : refusal_number (rolling_valuation w k (length factors) (length rates)) ≡ rolling_refusal w k (length factors) (length rates)
   pub refused : (r : Refusal) → failing (rolling_checks w k (length factors) (length rates)) ≡ Some r → WindowRefused r w k factors rates
   pub exactly : (rolling_refusal w k (length factors) (length rates) ≡ 0) ↔ WindowAccepted w k (length factors) (length rates)

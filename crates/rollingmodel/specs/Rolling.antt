@@ -1,5 +1,5 @@
--- A rolling window of days (document 02, request Two): the days held in a ring of slots and beside them the sum per term, the changes of a
--- window, and its valuation with a case's other fields.
+-- A rolling window of days (METHOD, A rolling window of days): the days held in a ring of slots and beside them the sum per term, the
+-- changes of a window, and its valuation with a case's other fields.
 use Rattle.std.specs.Prelude.{ℕ, zero, suc, ◌+◌, ◌*◌, ◌-◌, ◌%◌, ◌<◌, ◌≡◌, Bool, true, ◌&&◌, if◌then◌else◌, List, [], ◌∷◌, ◌++◌, nat_le, nat_lt, length, slice_index_or, take, drop, replicate, ℤ, pos, Result}
 use Rattle.std.specs.Int.Signed.{le_z}
 use Rattle.refusal.specs.declared.Refusal.{Refusal}
@@ -19,7 +19,7 @@ use Rattle.rollingmodel.specs.declared.ChangedWindow.{ChangedWindow}
 
 -- ---- what a window holds
 
--- "keeps up to 70 days"; request Six: "The rolling window stays with two-byte days."
+-- "A rolling window keeps up to 70 days"; "there is no window of four-byte days"
 abbrev pub window_days : ℕ
 window_days = 70
 
@@ -74,7 +74,7 @@ drop_refusal w = first_of ((rolling_right w, Damaged) ∷ (nat_lt 0 w.count, Win
 abbrev pub with_day_in : List ℤ → ℕ → List ℤ → List ℤ
 with_day_in rates j new = take (last_market_term * j) rates ++ new ++ drop (last_market_term * j + last_market_term) rates
 
--- the new day goes into the slot behind the newest
+-- the new day goes into the slot after the newest
 unfoldable pub added : RollingWindow → List ℤ → RollingWindow
 added w new = record {
   count = w.count + 1;
@@ -118,7 +118,7 @@ unfoldable pub changed_by : RollingWindow → List Change → RollingWindow
 changed_by w [] = w
 changed_by w (c ∷ cs) = changed_by (change w c) cs
 
--- "the days added and not dropped, oldest first", as a plain list: a day goes behind the last, if fewer than 70 are there and its rates
+-- "the days added and not dropped, oldest first", as a plain list: a day goes after the last, if fewer than 70 are there and its rates
 -- are within the limits; a drop takes the first
 abbrev pub queue : List (List ℤ) → Change → List (List ℤ)
 queue days (add new) = if nat_lt (length days) window_days && (day 2).right new then days ++ new ∷ [] else days
@@ -137,8 +137,8 @@ pub record HoldsAfter (cs : List Change) : Type 0 where
 
 -- ---- a window valued with the other fields of a case
 
--- "27 .. ahead of all, also of 13"; "Valuation checks 13, then the case's own numbers in document 01's order, its own days and 6
--- included, then 4 for an empty window, then 6 for its days.": by the lengths of the two buffers
+-- "27 comes ahead of all, also of 13"; "Valuation checks 13, then the case's own numbers in their order, its own days and 6 included, then
+-- 4 for an empty window, then 6 for its days.": by the lengths of the two buffers
 abbrev pub rolling_checks : RollingWindow → FileCase → ℕ → ℕ → List Check
 rolling_checks w k factors rates =
     (rolling_right w, Damaged)

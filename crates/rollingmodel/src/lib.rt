@@ -1,9 +1,9 @@
-// Request Two of document 02, a rolling window of days: its definitions in specs/, what is computed of them in proofs/, its types here.
-// There is no function here: an edit of one of these definitions is put to these statements alone.
+// A rolling window of days (METHOD, A rolling window of days): its definitions in specs/, what is computed of them in proofs/, its types
+// here. There is no function here: an edit of one of these definitions is checked against these statements alone.
 #![tactic(auto)]
 
 // A rolling window of trading days, as hosts keep it: a plain struct, by value, as C lays it out.
-// The days stand in a ring of 70 slots of 60 rates: day i, from the oldest, in slot (start + i) % 70. `start` is document 02's "place".
+// The days are in a ring of 70 slots of 60 rates: day i, from the oldest, in slot (start + i) % 70.
 // Slots that are not held are free: what lies there makes no difference. `sums` has, of each term, the sum of the days held.
 #[repr(C)]
 #[derive(Clone, Copy)]

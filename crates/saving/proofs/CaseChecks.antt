@@ -66,7 +66,7 @@ module _ (f : CaseFields) (d : List (List ℤ)) (pension bonds : List ℕ) (p : 
       (layout w p).limits
       ((f.ufr, (cond (eqb w 2) d [], (pension, (bonds, (f.amounts, (f.shocks, f.people)))))), cond (eqb w 4) d [])
 
-  -- the fields behind the two-byte days
+  -- the fields after the two-byte days
   abbrev behind : List Check
   behind =
       pension_field.limits pension

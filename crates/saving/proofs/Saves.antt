@@ -15,7 +15,7 @@ use Rattle.theory.proofs.saving.Saved.{case-number, case-within, refused-first, 
 use Rattle.refusal.specs.declared.Refusal.{Refusal}
 use Rattle.refusal.specs.declared.Refusal.TheVariants.{Room}
 
--- an error that stands for a missing value
+-- an error in place of a missing value
 pub none-told : {A E : Type 0} (o : Option A) (e r : E) → ok_or o e ≡ Err r → (r ≡ e) × (IsSome o → ⊥)
 none-told None e r h = (cc, λ k. cc)
 none-told (Some x) e r h = cc

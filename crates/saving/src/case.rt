@@ -29,7 +29,7 @@ pub struct File<'a> {
     pub given: (Map, Parts<'a>),
 }
 
-// Whether rates of so many bytes have a days field.
+// Whether rates of this many bytes have a days field.
 fn is_form(rate_bytes: u64) -> bool
     ensures { result ≡ known_form rate_bytes }
 {
@@ -43,7 +43,7 @@ fn list_if(there: bool, rates: &[i32]) -> &[i32]
     if there { rates } else { &[] }
 }
 
-// The fields of a case in the order of the layout. Its days stand in the field of their form, and the other has none.
+// The fields of a case in the order of the layout. Its days are in the field of their form, and the other has none.
 fn parts_of<'a>(case: &GivenCase<'a>) -> Parts<'a>
     ensures { ⟦<Layout as Field<'static>>⟧.said result ≡ fields_in (said case.now) }
 {

@@ -34,7 +34,7 @@ pub fn needed(case: &GivenCase) -> Included
     }
 }
 
-// Bits 2, 5 and 6, which always stand, that of the days field, which a host tells by its bytes, and those of the optional fields.
+// Bits 2, 5 and 6, which are always set, that of the days field, which a host tells by its bytes, and those of the optional fields.
 pub fn map_of(rate_bytes: u64, p: Included) -> u16
     ensures { result ≡ map_of rate_bytes (present_of p) }
 {

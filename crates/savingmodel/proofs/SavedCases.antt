@@ -1,7 +1,7 @@
 -- Saving a case: which number it is refused with, its shortest bytes, the answer and the lent buffer afterwards, as computed statements about
 -- the definitions.
--- tests/pinned.py wrote this file, from an implementation in Python that was written from the papers and, for request Six, from the
--- readings that its first lines name (tests/reference.py): change that, not this. Assumes nothing.
+-- tests/writers wrote this file, from the reference in Python, which was written without the engine's code (tests/reference): change
+-- that, not this. Assumes nothing.
 use Prim.Native.Nat.{ℕ}
 use mathlib.Core.Path.{◌≡◌, refl}
 use mathlib.Core.List.{List, [], ◌∷◌, ◌++◌, map}
@@ -17,7 +17,7 @@ use Rattle.model.specs.declared.case.CaseFields.{CaseFields}
 use Rattle.model.proofs.Computing.{pairs}
 use Rattle.savingmodel.proofs.Computing.{all}
 
--- eight amounts, in document 01's order
+-- eight amounts, in the file's order
 abbrev pub amounts_of : ℕ → ℕ → ℕ → ℕ → ℕ → ℕ → ℕ → ℕ → Amounts
 amounts_of a b c d e f g h = record {
   mature = a;

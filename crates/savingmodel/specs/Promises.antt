@@ -68,7 +68,7 @@ fields_in k = record { rate_bytes = k.rate_bytes; ufr = k.ufr; amounts = k.amoun
 pub record EveryCaseCanBeHandedIn : Type 0 where
   pub handed_in : (k : FileCase) → WithinLimits k → given (fields_in k) (rates_in k.days) k.pension k.bonds ≡ k
 
--- the bytes of a case within the limits are no more than those of the longest file, so a buffer of so many is always long enough
+-- the bytes of a case within the limits are no more than those of the longest file, so a buffer of this many is always long enough
 pub record SavedFilesAreShort : Type 0 where
   pub most : (k : FileCase) → WithinLimits k → length (shortest k) ≤ longest_file
 

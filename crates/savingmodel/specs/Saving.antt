@@ -1,4 +1,4 @@
--- A case written back in its shortest form (document 02, request One). Its checks and its bytes are those of the layout of document 01.
+-- A case written back in its shortest form (METHOD, Saving a case). Its checks and its bytes are those of the layout.
 use Rattle.std.specs.Prelude.{ℕ, zero, suc, ◌/◌, ◌%◌, Bool, true, ◌&&◌, not, if◌then◌else◌, List, [], ◌∷◌, ◌++◌, nat_le, nat_lt, ◌==◌, length, take, drop, ℤ, Option, Some, None, Result, Ok, Err}
 use Rattle.refusal.specs.declared.Refusal.{Refusal}
 use Rattle.refusal.specs.declared.Refusal.TheVariants.{WrongFields, Forward, Room}
@@ -47,15 +47,15 @@ needed k = record {
   amounts = not (all_zero (amounts_in_order k.amounts));
 }
 
--- "writes the layout of document 01"
+-- the bytes of the layout, in the shortest form
 unfoldable pub shortest : FileCase → List ℕ
 shortest k = file_of (needed k) k
 
 -- ---- its checks
 
--- "a case outside the limits gets document 01's number in its order": "each field in bit order ..; then 6". The fields are those of its
--- shortest file: without bond flows there is no count of them to check. The lengths of a file (1, 2) are no matter of a case, and of its
--- map (3) only which days field it has: a case whose rates have neither 2 nor 4 bytes has neither.
+-- "A case outside the limits gets the number that its file would have, in the order of a file: each field in bit order, as its file has
+-- them; then 6". The fields are those of its shortest file: without bond flows there is no count of them to check. A case cannot break the
+-- rules of a file's length (1, 2), and of those of its map (3) only one: rates of neither 2 nor 4 bytes have no days field.
 unfoldable pub case_checks : FileCase → List Check
 case_checks k =
     (known_form k.rate_bytes, WrongFields)

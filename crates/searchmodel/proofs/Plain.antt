@@ -23,8 +23,8 @@ record Left (p : StepsLeft) (z : ℤ) : Type 0 where
 left-indeed : (p : StepsLeft) (z : ℤ) → RateLeft p z → Left p z
 left-indeed p z r = record { step = r.step; rate = r.rate; among = r.among }
 
--- What is said of one search: 22,001 steps at most at first, and one after 15 tests; the zero rate among the steps that are left after so many
--- tests, and the one that is left; no more tests than the budget, none of a budget of none, and 15 of any.
+-- What is said of one search: 22,001 steps at most at first, and one after 15 tests; the zero rate among the steps that are left after this
+-- many tests, and the one that is left; no more tests than the budget, none of a budget of none, and 15 of any.
 record Searched (k : FileCase) (e : End) (t : ℕ) : Type 0 where
   at_first : count_left (steps_left (Rounded.factor (curve k base)) e t 0) ≤ 22001
   after_one : count_left (steps_left (Rounded.factor (curve k base)) e t 1) ≤ 11001

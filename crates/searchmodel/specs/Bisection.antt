@@ -1,5 +1,5 @@
--- The search for a zero rate (document 02, request Three): which steps are left after j tests, and what is promised of them. Step i is the
--- rate i - 2,000, as in the rounded working.
+-- The search for a zero rate (METHOD, The search for a zero rate): which steps are left after j tests, and what is promised of them. Step i
+-- is the rate i - 2,000, as in the rounded working.
 use Rattle.std.specs.Prelude.{ℕ, zero, suc, ◌+◌, ◌-◌, ◌/◌, ◌^◌, ◌≤◌, ◌≡◌, Bool, true, ◌&&◌, if◌then◌else◌, nat_le, ℤ}
 use Rattle.arith.specs.Rounding.{End, low, high, divide}
 use Rattle.method.specs.Rounded.{step_at, lower_test, upper_test, rate_of}
@@ -47,7 +47,7 @@ unfoldable pub tests_made : End → (ℕ → Bool) → ℕ → ℕ
 tests_made e test zero = 0
 tests_made e test (suc j) = tests_made e test j + tests_of (after_tests e test j)
 
--- "the search for the lower and the upper rate": by document 01's own tests of term t, from the factors at both ends
+-- the search for the lower and the upper rate: by the tests of term t in the rounded working, from the factors at both ends
 abbrev pub rate_test : (End → ℕ → ℕ) → End → ℕ → ℕ → Bool
 rate_test factor low t i = lower_test factor t i
 rate_test factor high t i = upper_test factor t i
@@ -79,7 +79,7 @@ pub record RateLeft (p : StepsLeft) (z : ℤ) : Type 0 where
   pub rate : z ≡ step_at step
   pub among : is_left p step ≡ true
 
--- The promise, of the rate of term t at an end: that rate is the one that document 01 defines.
+-- The promise, of the rate of term t at an end: that rate is the one that the rounded working defines.
 pub record ShortSearch (factor : End → ℕ → ℕ) (e : End) (t : ℕ) : Type 0 where
   -- "After j tests at most 22,001 ÷ 2^j steps, rounded up, are left"
   pub few : (j : ℕ) → count_left (steps_left factor e t j) ≤ most_left j

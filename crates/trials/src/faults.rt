@@ -2,7 +2,7 @@
 use std::io;
 use std::io::{ErrorKind, Read, Write};
 
-// Gives the bytes before each `!`, at most `step` of them at a time; where the `!` stands one read fails.
+// Gives the bytes before each `!`, at most `step` of them at a time; at the `!` one read fails.
 #[derive(Drop)]
 pub(super) struct Breaking<'a> {
     pub left: &'a [u8],

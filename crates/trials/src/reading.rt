@@ -1,4 +1,4 @@
-// A read that fails in mid-stream: the error comes out, with the count of the bytes before it, and the next call goes on behind them.
+// A read that fails in mid-stream: the error comes out, with the count of the bytes before it, and the next call goes on after them.
 use super::faults::Breaking;
 use batch::{Cut, Stopped, for_each, next_length, read_file, read_full};
 use std::io;
@@ -13,7 +13,7 @@ const FAULTS: [(ErrorKind, usize); 4] = [
     (ErrorKind::ConnectionReset, 100),
 ];
 
-// That it is the fault, after so many bytes.
+// That it is the fault, after this many bytes.
 fn assert_cut<T>(rt: &impl Abort, answer: Result<T, Cut>, kind: ErrorKind, before: usize) {
     let Err(cut) = answer else {
         panic!(rt; "an answer in place of the error");

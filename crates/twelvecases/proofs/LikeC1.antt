@@ -26,7 +26,7 @@ first-border : (word (Rounded.verdict (case_of (with_cash 0x10 0x05 0x8f))) ≡ 
 unfolding all
 first-border = (refl, refl, refl, refl)
 
--- the paper's number of an answer
+-- the number of an answer
 answer-numbers : (refusal_number (valuation_of 240 240 file_c1) ≡ 0)
     × (refusal_number (valuation_of 240 240 []) ≡ 1)
     × (refusal_number (valuation_of 239 240 file_c1) ≡ 13)
@@ -48,7 +48,7 @@ lent-after-valuation : (length (factors_after file_c1 (replicate 241 7) (replica
 unfolding all
 lent-after-valuation = (refl, refl, refl, refl)
 
--- the widths of demand 3, of the answer to a file and of the case that its bytes hold
+-- the widths that are allowed, of the answer to a file and of the case that its bytes hold
 abbrev NarrowOn : List ℕ → Type 0
 NarrowOn file = Narrow (case_of file) (valuation_of 240 240 file)
 

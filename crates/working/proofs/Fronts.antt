@@ -1,4 +1,4 @@
--- The front of a lent buffer, of 240 entries, where there are so many. Assumes nothing.
+-- The front of a lent buffer, of 240 entries, where there are this many. Assumes nothing.
 use Rattle.std.proofs.Common.{◌≡◌, List, ◌++◌, drop, ℕ}
 use Rattle.std.proofs.lemmas.List.{take-append-drop}
 use Rattle.std.specs.Array.{IsFirstChunk}

@@ -1,4 +1,4 @@
--- The bridge from document 01's case to the engine's: the struct that holds a case within the limits is in range, and what is worked
+-- The bridge from the case of a file to the engine's: the struct that holds a case within the limits is in range, and what is worked
 -- out of it is the rounded working of that case. Assumes nothing.
 use Prim.Native.Nat.{ℕ}
 use mathlib.Core.Path.{◌≡◌, ap, ◌∙◌, fun_ext}

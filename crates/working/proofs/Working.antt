@@ -86,7 +86,7 @@ adjusted-worth c factors flows l e r p =
     p ∙ by-ends (λ e. worth e (factor_at factors e) 1 flows) (λ e. worth e (Rounded.factor c e) 1 flows)
     (λ end. same-worth 120 end (factor_at factors end) (Rounded.factor c end) (λ t i k. rw e (factor-at (Rounded.factor c) 120 end t i k)) 1 flows (omega arith) (omega arith))
 
--- the unadjusted factors of the terms to n, and others behind them
+-- the unadjusted factors of the terms to n, and others after them
 abbrev Behind : Curve → ℕ → List Bracket → List Bracket → Type 0
 Behind c n later factors = factors ≡ brackets (Rounded.unadjusted c) n ++ later
 

@@ -26,7 +26,7 @@ use money::figures::money_by;
 use money::worth::worth_of;
 use zerorates::rates::zero_rates;
 
-// N and the sums P(t) of the three curves. `CaseFits` stands in clauses and is no invariant of `Case`: the default case has no head, and
+// N and the sums P(t) of the three curves. `CaseFits` is said in clauses and is no invariant of `Case`: the default case has no head, and
 // is out of these ranges.
 fn sums_of(case: &Case) -> Three<CurveSums>
     requires { CaseFits case.now }

@@ -11,7 +11,7 @@ use arith::bracket::Bracket;
 use arith::end::{High, Low};
 use heldcase::Case;
 
-/// So many tests leave one step of all: each halves what is left, and 2^15 is above 22,001.
+/// 15 tests always leave one step: each halves what is left, and 2^15 is above 22,001.
 pub const TESTS: usize = 15;
 
 /// The zero rate of a term, in steps of 0.00001. Both ends are included.

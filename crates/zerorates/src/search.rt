@@ -31,7 +31,7 @@ pub struct Searched {
 }
 
 /// An end of a zero rate's bracket: the lower rate is the largest step that passes, the upper rate the smallest.
-// `LeftWithin` stands in clauses and is no ghost field of `StepsLeft`, since the definitions make a `StepsLeft` of any two numbers.
+// `LeftWithin` is said in clauses and is no ghost field of `StepsLeft`, since the definitions make a `StepsLeft` of any two numbers.
 pub trait RateEnd: End {
     /// Whether a step passes, by how its result compares with the factor.
     fn passes(compared: Ordering) -> bool

@@ -11,13 +11,15 @@ rates have two bytes or four. A RollingWindow holds the last trading days, to wh
 and values a case with them. A History holds the forward rates of 120 month ends, finds the UFR from them, and values a case file with
 it. warnings_of(case) says what is likelier a slip than meant in a case, and in the history that gives its UFR.
 
-"Document 01" is "The UFR curve and the solvency verdict of one fund": it says what a case file is and
-what each figure means. Saving a case is request One of document 02, a rolling window of days its request Two, the UFR
-from a history of months its request Five, zero rates in four bytes its request Six. The numbers and the saved bytes come from
-the proved engine, through the shared library libginghamowl.so, which `hosts/build` puts beside this file and a wheel contains;
-the environment variable GINGHAMOWL_LIBRARY may name another place. The first call loads it, and raises LibraryError where that
-fails or the library is of another version than this package. kit() says with which kit the engine is proved. Nothing but the standard
-library is needed.
+What the numbers mean is in docs/METHOD.md of the repository, cited as METHOD with the name of a section: a case file (METHOD, The
+case file), a figure (METHOD, The exact working), a refusal (METHOD, Refusals), saving (METHOD, Saving a case), a rolling window
+(METHOD, A rolling window of days), a history (METHOD, The UFR from a history of months) and zero rates in four bytes (METHOD,
+Rates in four bytes).
+
+The numbers and the saved bytes come from the proved engine, through the shared library libginghamowl.so, which `hosts/build` puts
+beside this file and a wheel contains; the environment variable GINGHAMOWL_LIBRARY may name another place. The first call loads
+it, and raises LibraryError where that fails or the library is of another version than this package. kit() says with which kit the
+engine is proved. Nothing but the standard library is needed.
 """
 
 from . import _given
@@ -43,7 +45,7 @@ def kit() -> str:
 
 
 def value(data: bytes) -> Valuation:
-    """The valuation of a case file; raises Refused with document 01's number where it has one."""
+    """The valuation of a case file; raises Refused with the refusal's number (METHOD, Refusals) where it has one."""
     file = _given.file_bytes(data)
     return valued(_c.engine().value, file, len(file))
 

@@ -1,6 +1,6 @@
 """python -m ginghamowl FILE: the curve, the figures and the verdict of a case file.
 
-With --listing the lines are document 01's: names and cents, then V and the verdict, or R and the refusal. Standard error says what is
+With --listing it prints the listing: names and cents, then V and the verdict, or R and the refusal. Standard error says what is
 likelier a slip than meant in a file that is valued, and what a refused file looks like that is no case file.
 Exit status: 0 valued, 1 refused, 2 no answer: the file can't be read, the call is wrong, the library can't be loaded or the
 output was lost.
@@ -36,7 +36,7 @@ def answered() -> tuple[int, str, str]:
     """The exit status, what to print, and what to say on standard error."""
     parser = argparse.ArgumentParser(prog="python -m ginghamowl", description="Values a case file.")
     parser.add_argument("file", help="the case file; - reads standard input")
-    parser.add_argument("--listing", action="store_true", help="print document 01's listing instead")
+    parser.add_argument("--listing", action="store_true", help="print the listing instead")
     parser.add_argument("--version", action="version", version=f"ginghamowl {__version__}")
     options = parser.parse_args()
     data = contents(options.file)

@@ -12,7 +12,7 @@ from ._given import Refused, accepted, rate, require_int, unsigned
 from ._library import DAY_RATES, FILE_BYTES
 
 DEFAULT_UFR = 4_200  # of a file without the field
-FINER = 100  # so many steps of a rate in four bytes are one of a rate in two
+FINER = 100  # this many steps of a rate in four bytes are one of a rate in two
 
 
 class DaysForm(IntEnum):

@@ -7,7 +7,7 @@ a damaged one only where its first byte is damaged too.
 import codecs
 import re
 
-LOOKED_AT = 2 ** 14  # so many of the first bytes tell a text from other bytes
+LOOKED_AT = 2 ** 14  # this many of the first bytes tell a text from other bytes
 MOSTLY = 0.75  # so large a part of a text is ASCII; of bytes that are letters of Windows-1252 by chance, less than half is
 
 SHEETS = "save its sheets as CSV files, which a text case names (tools/casefile --template prints an empty one)"

@@ -12,19 +12,19 @@ from typing import Any, NamedTuple
 
 from ._words import VERSION
 
-#: The longest accepted file has so many bytes. Of a longer one, the first FILE_BYTES + 1 decide the refusal.
+#: The longest accepted file has this many bytes. Of a longer one, the first FILE_BYTES + 1 decide the refusal.
 FILE_BYTES = 17623
 
-#: A rolling window holds at most so many days.
+#: A rolling window holds at most this many days.
 WINDOW_DAYS = 70
 
-#: A rolling window has so many bytes.
+#: A rolling window has this many bytes.
 WINDOW_BYTES = 8896
 
-#: A history has so many months.
+#: A history has this many months.
 HISTORY_MONTHS = 120
 
-#: A history has so many bytes, two for each month.
+#: A history has this many bytes, two for each month.
 HISTORY_BYTES = 240
 
 DAY_RATES = 60

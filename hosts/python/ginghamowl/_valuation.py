@@ -23,7 +23,7 @@ class Verdict(Enum):
 
     @property
     def word(self) -> str:
-        """The verdict as document 01 writes it."""
+        """The verdict as the listing writes it."""
         return VERDICT_WORDS[self.value]
 
     @property
@@ -49,7 +49,7 @@ class Figures:
     """The money figures in cents: liabilities L, bonds B, assets A, the losses S1 to S6, the root buffer S.
 
     L is at the adjusted curve, whose factors a valuation gives; B is at the curve as it is, without UFR.
-    Iterating gives pairs of a name, as document 01 writes it (L B A S1 S2 S3 S4 S5 S6 S, in this order), and a bracket.
+    Iterating gives pairs of a name, as the listing writes it (L B A S1 S2 S3 S4 S5 S6 S, in this order), and a bracket.
     """
 
     l: Bracket
@@ -67,7 +67,7 @@ class Figures:
         return ((field.name.upper(), getattr(self, field.name)) for field in fields(self))
 
     def as_dict(self) -> dict[str, list[int]]:
-        """For JSON: document 01's names, each with its lower and upper end."""
+        """For JSON: the names of the listing, each with its lower and upper end."""
         return {name: _ends(figure) for name, figure in self}
 
 
@@ -116,7 +116,7 @@ class Valuation:
                 "zero_rates": [_ends(rate) for rate in self.zero_rates]}
 
     def listing(self) -> str:
-        """Document 01's listing: a line for each figure, in cents, and one for the verdict."""
+        """The listing: a line for each figure, in cents, and one for the verdict."""
         out = (_c.c_uint8 * _c.LISTING_BYTES)()
         length = _c.engine().listing(_c.HostValuation(0, self.verdict.value, _flat(self.figures)), out, len(out))
         return bytes(out[:length]).decode("ascii")

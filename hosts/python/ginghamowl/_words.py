@@ -44,7 +44,7 @@ SENTENCES: dict[int, str] = {
         "day held -1,000 to 10,000 steps, and each sum that of the days held",
 }
 
-#: The verdicts as document 01 writes them.
+#: The verdicts as the listing writes them.
 VERDICT_WORDS: dict[int, str] = {
     1: "DEKKINGSTEKORT",
     2: "RESERVETEKORT",

@@ -2,46 +2,22 @@
 
 import json
 import pickle
-import random
 import subprocess
 import sys
 import tempfile
 import unittest
 from concurrent.futures import ThreadPoolExecutor
 from dataclasses import replace
-from itertools import cycle, product
+from itertools import product
 from pathlib import Path
 
 HERE = Path(__file__).resolve()
-sys.path[:0] = [str(HERE.parents[1]), str(HERE.parents[3] / "tests")]
-import examples
-import files
+sys.path[:0] = [str(HERE.parents[1]), str(HERE.parents[3])]
 import ginghamowl
-import reference
+from common import BOTH_FORMS, C1_FILE, damaged_files, seeded_files
 from ginghamowl import Bracket, Figures, Kind, Point, Refused, Verdict, _library
-
-C1 = reference.encode(examples.c1(), False, False, True)
-BOTH_FORMS = 2, 4  # the bytes of a rate
-
-
-def seeded_files(seed, count, forms=BOTH_FORMS):
-    """Files that are accepted, with the cases that they hold; their days have these forms in turn."""
-    rng = random.Random(seed)
-    for _, rate_bytes in zip(range(count), cycle(forms)):
-        case = examples.random_case(rng, rate_bytes=rate_bytes)
-        yield reference.encode(case, *examples.presence(rng, case)), case
-
-
-def damaged_files(seed, count):
-    """Files of either form with a few bytes changed, cut or added. The first five bytes and the last are hit more often."""
-    rng = random.Random(seed)
-    good = [C1, files.rewritten(C1), files.all_fields(3, 2), files.all_fields(3, 4), *(data for data, _ in seeded_files(seed, 4))]
-    for _ in range(count):
-        data = bytearray(rng.choice(good))
-        for _ in range(rng.randint(0, 2)):
-            at = rng.choice([rng.randrange(len(data)), rng.randrange(5), len(data) - 1])
-            data[at] = rng.choice([0, 1, 127, 128, 255, rng.randrange(256)])
-        yield bytes(data[:rng.choice([None, None, None, rng.randrange(len(data))])]) + bytes(rng.choice([0, 0, 0, 1]))
+from tests.inputs import examples, files
+from tests.reference import reference
 
 
 def has_four_bytes(data):
@@ -55,9 +31,9 @@ def brackets(pairs):
 
 class BesideTheReference(unittest.TestCase):
     def test_accepted_files(self):
-        fixed = [(C1, examples.c1())] + [(reference.encode(case, True, bool(case.bonds), True), case)
-                                         for two in (examples.up(), examples.down(), examples.bent())
-                                         for case in (two, files.finer_case(two))]
+        fixed = [(C1_FILE, examples.c1())] + [(reference.encode(case, True, bool(case.bonds), True), case)
+                                              for two in (examples.up(), examples.down(), examples.bent())
+                                              for case in (two, files.finer_case(two))]
         verdicts = set()
         for data, case in [*fixed, *seeded_files(5, 50)]:
             rounded = reference.Rounded(case)
@@ -99,7 +75,7 @@ class BesideTheReference(unittest.TestCase):
 
 class Package(unittest.TestCase):
     def test_c1(self):
-        valuation = ginghamowl.value(C1)
+        valuation = ginghamowl.value(C1_FILE)
         self.assertEqual(valuation.figures.l, Bracket(100_000_000, 100_000_000))
         self.assertEqual(valuation.figures.s6.width, 0)
         self.assertIs(valuation.verdict, Verdict.VRIJ_VERMOGEN)
@@ -147,7 +123,7 @@ class Package(unittest.TestCase):
         self.assertEqual(again, valuation)
 
     def test_numbers_that_would_be_cut(self):
-        valuation = ginghamowl.value(C1)
+        valuation = ginghamowl.value(C1_FILE)
         with_figure = lambda end: replace(valuation, figures=replace(valuation.figures, s4=Bracket(0, end)))
         with_factor = lambda end: replace(valuation, factors=(*valuation.factors[:-1], Bracket(end, 0)))
         for end, error in ((-1, ValueError), (2 ** 64, ValueError), (2 ** 64 + 7, ValueError), (7.0, TypeError),
@@ -171,14 +147,14 @@ class Package(unittest.TestCase):
         self.assertEqual(ginghamowl.refusal(bytes(ginghamowl.FILE_BYTES + 1)), 3)
 
     def test_what_a_file_may_be(self):
-        for data in (C1, bytearray(C1), memoryview(C1)):
-            self.assertEqual(ginghamowl.value(data), ginghamowl.value(C1))
+        for data in (C1_FILE, bytearray(C1_FILE), memoryview(C1_FILE)):
+            self.assertEqual(ginghamowl.value(data), ginghamowl.value(C1_FILE))
         for data in ("00 76", 7, None, [0, 118]):
             with self.assertRaises(TypeError):
                 ginghamowl.value(data)
 
     def test_threads(self):
-        files = [C1, reference.encode(examples.up(), True, True, True), reference.encode(examples.down(), True, True, True)]
+        files = [C1_FILE, reference.encode(examples.up(), True, True, True), reference.encode(examples.down(), True, True, True)]
         alone = [ginghamowl.value(data) for data in files]
         with ThreadPoolExecutor(8) as pool:
             self.assertEqual(list(pool.map(ginghamowl.value, files * 100)), alone * 100)
@@ -194,15 +170,15 @@ class CommandLine(unittest.TestCase):
         return run.returncode, run.stdout
 
     def test_valued(self):
-        status, out = self.run_on(C1)
+        status, out = self.run_on(C1_FILE)
         self.assertEqual((status, out.splitlines()[-1]), (0, "VRIJ VERMOGEN"))
         self.assertIn("\n   1   1.000000000000   1.000000000000      0.000 %      0.000 %\n", out)
         self.assertIn("\nL         1,000,000.00         1,000,000.00\n", out)
-        self.assertEqual(self.run_on(C1, "--listing"), (0, reference.listing(C1).decode()))
+        self.assertEqual(self.run_on(C1_FILE, "--listing"), (0, reference.listing(C1_FILE).decode()))
 
     def test_refused(self):
         self.assertEqual(self.run_on(b"", "--listing"), (1, "R 1\n"))
-        status, out = self.run_on(C1 + b"\0")
+        status, out = self.run_on(C1_FILE + b"\0")
         self.assertEqual((status, out), (1, f"refused, 2: {ginghamowl.SENTENCES[2]}\n"))
 
 

@@ -12,10 +12,10 @@ import zipfile
 from pathlib import Path
 
 ROOT = Path(__file__).resolve().parents[3]
-sys.path[:0] = [str(ROOT / "hosts/python"), str(ROOT / "tests")]
+sys.path[:0] = [str(ROOT / "hosts/python"), str(ROOT)]
 import ginghamowl
+from common import damaged_files
 from ginghamowl._hints import hint
-from test_ginghamowl import damaged_files
 
 CASES = ROOT / "cases"
 STORED = sorted(CASES.glob("*.case"))

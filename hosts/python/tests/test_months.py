@@ -12,16 +12,13 @@ from itertools import product
 from pathlib import Path
 
 HERE = Path(__file__).resolve()
-sys.path[:0] = [str(HERE.parents[1]), str(HERE.parents[3] / "tests")]
-import files
+sys.path[:0] = [str(HERE.parents[1]), str(HERE.parents[3])]
 import ginghamowl
-import histories
-import months
-import reference
+from common import BOTH_FORMS, C1_FILE, answer_of, seeded_files
 from ginghamowl import HISTORY_BYTES, HISTORY_MONTHS, History, Refused, _library
-from histories import any_start, history_of, with_month
-from test_ginghamowl import BOTH_FORMS, C1, seeded_files
-from test_rolling import answer_of
+from tests.inputs import files, histories
+from tests.inputs.histories import any_start, history_of, with_month
+from tests.reference import months, reference
 
 FLAT = [3_100] * HISTORY_MONTHS
 STARTS_OUT_OF_RANGE = (120, 239, 256, 2 ** 32, 2 ** 32 + 5, 2 ** 63, 2 ** 64 - 1, 2 ** 64, 2 ** 64 + 5, 2 ** 100, -1, -120,
@@ -152,7 +149,7 @@ class Numbers(Months):
         for start in STARTS_OUT_OF_RANGE:
             for held in (FLAT, [-2 ** 15] * HISTORY_MONTHS):
                 history = History(held, start)
-                for call, *arguments in ((history.ufr,), (history.months,), (history.value, C1)):
+                for call, *arguments in ((history.ufr,), (history.months,), (history.value, C1_FILE)):
                     self.refused(17, call, *arguments)
         for start in range(HISTORY_MONTHS):
             self.assertEqual(History(FLAT, start).ufr(), 3_100)
@@ -178,10 +175,10 @@ class Numbers(Months):
         self.assertEqual(history, History(FLAT, 9))
 
     def test_what_is_no_file(self):
-        for wrong in ("00 76", None, 7, ginghamowl.Case.read(C1)):
+        for wrong in ("00 76", None, 7, ginghamowl.Case.read(C1_FILE)):
             with self.assertRaisesRegex(TypeError, "^a case file is bytes, not "):
                 History(FLAT).value(wrong)
-        self.assertEqual(History(FLAT).value(bytearray(C1)), History(FLAT).value(C1))
+        self.assertEqual(History(FLAT).value(bytearray(C1_FILE)), History(FLAT).value(C1_FILE))
 
 
 class Shown(Months):

@@ -11,14 +11,12 @@ from dataclasses import replace
 from pathlib import Path
 
 HERE = Path(__file__).resolve()
-sys.path[:0] = [str(HERE.parents[1]), str(HERE.parents[3] / "tests")]
-import examples
-import files
+sys.path[:0] = [str(HERE.parents[1]), str(HERE.parents[3])]
 import ginghamowl
-import reference
+from common import C1, UP, UP_FOUR, answer_of, case_of, faults_in_order, seeded_files, shortest, with_field
 from ginghamowl import WINDOW_BYTES, WINDOW_DAYS, DaysForm, Refused, RollingWindow, _library
-from test_case import C1, UP, UP_FOUR, case_of, faults_in_order, shortest, with_field
-from test_ginghamowl import seeded_files
+from tests.inputs import examples, files
+from tests.reference import reference
 
 FLAT, STEEP = (0,) * 60, (0,) + (6_001,) * 59  # STEEP alone is refused with 6
 START, RATES, SUMS = 8, 16, 16 + 2 * 60 * WINDOW_DAYS  # where the parts of a window stand in its bytes
@@ -44,14 +42,6 @@ def with_bytes(window, at, form, *numbers):
     data = bytearray(window.to_bytes())
     struct.pack_into("=" + form, data, at, *numbers)
     return RollingWindow.from_bytes(data)
-
-
-def answer_of(function, *arguments):
-    """What a call answers: a valuation, or the number of its refusal."""
-    try:
-        return function(*arguments)
-    except Refused as refused:
-        return refused.number
 
 
 class Rolling(unittest.TestCase):

@@ -8,12 +8,12 @@ import unittest
 from pathlib import Path
 
 ROOT = Path(__file__).resolve().parents[3]
-sys.path[:0] = [str(ROOT / "hosts/python"), str(ROOT / "tests"), str(ROOT / "tools")]
-import examples
+sys.path[:0] = [str(ROOT / "hosts/python"), str(ROOT), str(ROOT / "tools")]
 import ginghamowl
-import reference
 from casetext import read, warnings_of
-from test_case import shortest
+from common import shortest
+from tests.inputs import examples
+from tests.reference import reference
 
 CASES = sorted(ROOT.glob("cases/*.case"))
 FUND = (ROOT / "cases/fund.case").read_bytes()

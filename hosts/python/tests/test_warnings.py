@@ -1,4 +1,4 @@
-"""warnings_of: a case and the history that gives its UFR; the rules themselves are tried in tests/test_plausible.py."""
+"""warnings_of: a case and the history that gives its UFR; the rules themselves are tried in tests/unit/test_plausible.py."""
 
 import subprocess
 import sys

@@ -1,11 +1,13 @@
 //! The valuation of one pension fund from one case file, every figure proved.
 //!
-//! "Document 01" is "The UFR curve and the solvency verdict of one fund": it says what a case file is, what each figure
-//! means and what each refusal is. "Document 02" has the requests that came later; saving a case is its request One, a
-//! rolling window of days its request Two, the UFR from a history of months its request Five, and zero rates in four
-//! bytes its request Six. This crate wraps the functions of `include/ginghamowl.h`; it is safe to call with any bytes and
-//! numbers, and depends on nothing but the standard library and the engine's archive. The archive must be of this crate's
-//! version: the first call of the engine panics where it is of another.
+//! This crate wraps the functions of `include/ginghamowl.h`; it is safe to call with any bytes and numbers, and depends on
+//! nothing but the standard library and the engine's archive. The archive must be of this crate's version: the first call
+//! of the engine panics where it is of another.
+//!
+//! What the numbers mean is in `docs/METHOD.md` of the repository, cited as METHOD with the name of a section: a case file
+//! (METHOD, The case file), a figure (METHOD, The exact working), a refusal (METHOD, Refusals), saving (METHOD, Saving a
+//! case), a rolling window (METHOD, A rolling window of days), a history (METHOD, The UFR from a history of months) and
+//! zero rates in four bytes (METHOD, Rates in four bytes).
 //!
 //! ```
 //! match ginghamowl::value(b"") {
@@ -31,28 +33,28 @@ pub use words::{refusal_sentence, verdict_sentence, verdict_word};
 /// The version of this crate, which is that of the repository.
 pub const VERSION: &str = env!("CARGO_PKG_VERSION");
 
-/// The longest accepted file has so many bytes. Of a longer one, the first `FILE_BYTES + 1` decide the refusal.
+/// The longest accepted file has this many bytes. Of a longer one, the first `FILE_BYTES + 1` decide the refusal.
 pub const FILE_BYTES: usize = 17623;
 
 /// A day of a case has the zero rates of the terms 1 to this.
 pub const DAY_RATES: usize = 60;
 
-/// A rolling window holds at most so many days.
+/// A rolling window holds at most this many days.
 pub const WINDOW_DAYS: usize = 70;
 
-/// A rolling window has so many bytes.
+/// A rolling window has this many bytes.
 pub const WINDOW_BYTES: usize = 8896;
 
-/// A history has so many months.
+/// A history has this many months.
 pub const HISTORY_MONTHS: usize = 120;
 
-/// A history has so many bytes, two for each month.
+/// A history has this many bytes, two for each month.
 pub const HISTORY_BYTES: usize = 2 * HISTORY_MONTHS;
 
 /// The terms of the curve, in years, are 1 to this.
 pub const TERMS: usize = 120;
 
-/// A lent buffer of factors or rates has at least so many entries.
+/// A lent buffer of factors or rates has at least this many entries.
 pub const ENTRIES: usize = 2 * TERMS;
 
 /// Two whole numbers; the exact figure, in the same units, is at least the lower and at most the upper.
@@ -88,8 +90,8 @@ pub enum Verdict {
     Onbeslist = 4,
 }
 
-/// Why a file, a case, or a call with a rolling window or a history of months is refused, by document 01's numbers; those
-/// from 14 on are document 02's.
+/// Why a file, a case, or a call with a rolling window or a history of months is refused, by the numbers of METHOD,
+/// Refusals.
 #[derive(Clone, Copy, Debug, PartialEq, Eq)]
 #[repr(u8)]
 pub enum Refusal {
@@ -201,7 +203,7 @@ pub fn window_point(point: u64, factors: &[u64], figures: &Figures) -> Point {
     }
 }
 
-/// Document 01's listing of an answer: a line for each figure and one for the verdict, or R and the refusal.
+/// The listing of an answer: a line for each figure and one for the verdict, or R and the refusal.
 pub fn listing(answer: Result<Judged, Refusal>) -> String {
     let mut out = [0; raw::LISTING_BYTES];
     // SAFETY: the pointer and the length are those of an array that only this call has.
@@ -238,7 +240,7 @@ impl Valuation {
 }
 
 impl Figures {
-    /// The figures by document 01's names and in its order.
+    /// The figures by the names of the listing and in its order.
     pub fn named(&self) -> [(&'static str, Bracket<u64>); 10] {
         [
             ("L", self.l),
@@ -275,7 +277,7 @@ impl Verdict {
     }
 }
 
-/// The verdict as document 01 writes it.
+/// The verdict as the listing writes it.
 impl fmt::Display for Verdict {
     fn fmt(&self, f: &mut fmt::Formatter<'_>) -> fmt::Result {
         f.write_str(verdict_word(self.number()))
@@ -307,7 +309,7 @@ impl Refusal {
         Refusal::Damaged,
     ];
 
-    /// The number in document 01, or in document 02.
+    /// The number of the refusal (METHOD, Refusals).
     pub fn number(self) -> u8 {
         self as u8
     }

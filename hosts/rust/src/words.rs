@@ -29,7 +29,7 @@ pub fn refusal_sentence(number: u8) -> &'static str {
     }
 }
 
-/// The verdict of this number as document 01 writes it.
+/// The verdict of this number as the listing writes it.
 #[rustfmt::skip]
 pub fn verdict_word(number: u8) -> &'static str {
     match number {

@@ -1,9 +1,8 @@
 //! Histories of months beside lists of months, and their valuations beside those of files with the UFR in its field.
-use common::in_four_bytes;
+use common::{example_paths, in_four_bytes, into_buffers};
 use ginghamowl::{refusal, value, Case, DaysForm, History, Refusal, ENTRIES, HISTORY_BYTES, HISTORY_MONTHS};
 use std::collections::{BTreeSet, VecDeque};
 use std::fs;
-use std::path::PathBuf;
 
 mod common;
 
@@ -11,13 +10,7 @@ const FLAT: [i32; HISTORY_MONTHS] = [3_100; HISTORY_MONTHS];
 
 /// The example files, each with its refusal.
 fn files() -> Vec<(Vec<u8>, Option<Refusal>)> {
-    let mut paths: Vec<PathBuf> = fs::read_dir(PathBuf::from(env!("CARGO_MANIFEST_DIR")).join("../../cases"))
-        .unwrap()
-        .map(|entry| entry.unwrap().path())
-        .filter(|path| path.extension().is_some_and(|end| end == "case"))
-        .collect();
-    paths.sort();
-    paths
+    example_paths()
         .into_iter()
         .map(|path| {
             let file = fs::read(path).unwrap();
@@ -208,22 +201,7 @@ fn days_in_four_bytes() {
 #[test]
 fn lengths_of_buffers() {
     let (file, history) = (&accepted_files()[0], History::new(&FLAT, 5));
-    let expected = history.value(file).unwrap();
-    for f in [0, 1, 239, 240, 241, 1000] {
-        for r in [0, 1, 239, 240, 241, 1000] {
-            let (mut factors, mut rates) = (vec![7; f], vec![-7; r]);
-            let answer = history.value_into(file, &mut factors, &mut rates);
-            if f < ENTRIES || r < ENTRIES {
-                assert_eq!(answer, Err(Refusal::Buffer));
-                assert!(factors.iter().all(|&x| x == 7) && rates.iter().all(|&x| x == -7));
-            } else {
-                assert_eq!(answer, Ok(expected.judged()));
-                assert_eq!(factors[..ENTRIES], expected.factor_entries());
-                assert!(rates[..ENTRIES].chunks(2).eq(expected.zero_rates.iter().map(|rate| [rate.lower, rate.upper])));
-                assert!(factors[240..].iter().all(|&x| x == 7) && rates[240..].iter().all(|&x| x == -7));
-            }
-        }
-    }
+    into_buffers(&history.value(file).unwrap(), |factors, rates| history.value_into(file, factors, rates));
 }
 
 /// A short buffer, then the file's own refusal, then the history's. A refusal changes no buffer.

@@ -1,9 +1,8 @@
 //! Rolling windows beside lists of days, and their valuations beside those of files with the same days.
-use common::in_four_bytes;
+use common::{example_paths, file, in_four_bytes, into_buffers};
 use ginghamowl::{value, Case, DaysForm, Refusal, RollingWindow, DAY_RATES, ENTRIES, WINDOW_BYTES, WINDOW_DAYS};
 use std::collections::VecDeque;
 use std::fs;
-use std::path::PathBuf;
 
 mod common;
 
@@ -14,12 +13,8 @@ const START: usize = 8;
 const RATES: usize = 16;
 const SUMS: usize = RATES + 2 * DAY_RATES * WINDOW_DAYS;
 
-fn cases_folder() -> PathBuf {
-    PathBuf::from(env!("CARGO_MANIFEST_DIR")).join("../../cases")
-}
-
 fn case(name: &str) -> Case {
-    Case::read(&fs::read(cases_folder().join(name).with_extension("case")).unwrap()).unwrap()
+    Case::read(&file(name)).unwrap()
 }
 
 /// From -900 upwards, a little uneven; any list of such days passes refusal 6.
@@ -201,12 +196,8 @@ fn free_slots() {
 /// file with these is, whichever form its own days have.
 #[test]
 fn valued_as_files_are() {
-    let all: Vec<Case> = fs::read_dir(cases_folder())
-        .unwrap()
-        .map(|entry| entry.unwrap().path())
-        .filter(|path| path.extension().is_some_and(|end| end == "case"))
-        .filter_map(|path| Case::read(&fs::read(path).unwrap()).ok())
-        .collect();
+    let all: Vec<Case> =
+        example_paths().into_iter().filter_map(|path| Case::read(&fs::read(path).unwrap()).ok()).collect();
     let (two, four): (Vec<Case>, Vec<Case>) = all.into_iter().partition(|case| case.days_form == DaysForm::TwoBytes);
     assert!(two.len() >= 10 && four.len() >= 2);
     for case in &two {
@@ -242,22 +233,7 @@ fn own_days_in_four_bytes() {
 #[test]
 fn lengths_of_buffers() {
     let (case, window) = (case("up"), window_from(12, &[day(1), day(2)]));
-    let expected = window.value(&case).unwrap();
-    for f in [0, 1, 239, 240, 241, 1000] {
-        for r in [0, 1, 239, 240, 241, 1000] {
-            let (mut factors, mut rates) = (vec![7; f], vec![-7; r]);
-            let answer = window.value_into(&case, &mut factors, &mut rates);
-            if f < ENTRIES || r < ENTRIES {
-                assert_eq!(answer, Err(Refusal::Buffer));
-                assert!(factors.iter().all(|&x| x == 7) && rates.iter().all(|&x| x == -7));
-            } else {
-                assert_eq!(answer, Ok(expected.judged()));
-                assert_eq!(factors[..ENTRIES], expected.factor_entries());
-                assert!(rates[..ENTRIES].chunks(2).eq(expected.zero_rates.iter().map(|rate| [rate.lower, rate.upper])));
-                assert!(factors[240..].iter().all(|&x| x == 7) && rates[240..].iter().all(|&x| x == -7));
-            }
-        }
-    }
+    into_buffers(&window.value(&case).unwrap(), |factors, rates| window.value_into(&case, factors, rates));
 }
 
 /// A refusal, and what brings a case to it.

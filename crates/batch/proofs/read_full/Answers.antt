@@ -1,4 +1,4 @@
--- A turn puts what it has read behind what stands at the front.
+-- A turn puts what it has read after what is at the front.
 -- The check leaves each of these goals open without its answer.
 use Rattle.std.proofs.Common.{rules}
 use Rattle.batch.proofs.Reading.{consumes-more}

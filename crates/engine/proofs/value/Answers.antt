@@ -1,5 +1,5 @@
 -- `engine::value` meets its contract. Assumes nothing. The check leaves each of these goals open without its answer.
--- What is told of the two buffers stands alike in `engine`, `months` and `rolling`, of goals that each function has for itself.
+-- What is told of the two buffers is alike in `engine`, `months` and `rolling`, of goals that each function has for itself.
 use Rattle.std.proofs.Common.{◌≡◌}
 use Rattle.std.proofs.lemmas.Result.{err_from_is_err_and}
 use Rattle.std.specs.Array.{IsFirstChunk}

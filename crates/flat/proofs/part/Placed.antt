@@ -29,7 +29,7 @@ part_placed file = placed (failing (checks file)) file
 part_after : Option Refusal → List ℕ → HostPart
 part_after o file = record { offset = rates_from o file; length = length (rates_part_after o file) }
 
--- an accepted file has its part behind the count of days
+-- an accepted file has its part after the count of days
 pub some-part : (file part : List ℕ) (at : ℕ) → None ≡ failing (checks file) → part ≡ rates_part file → at ≡ days_at file + 1
     → record { offset = at; length = length part } ≡ host_part file
 some-part file part at z p a =

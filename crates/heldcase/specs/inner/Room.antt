@@ -1,4 +1,4 @@
--- A list in an array that has room for more, with zeros behind it: the list gives the array back.
+-- A list in an array that has room for more, with zeros after it: the list gives the array back.
 use Rattle.std.proofs.Common.{◌≡◌, ◌∙◌, ℕ, ◌+◌, ◌-◌, ◌≤◌, ◌<◌, List, ◌++◌, length, slice_index, take, drop, replicate, ap, sym, arith}
 use Rattle.std.proofs.lemmas.List.{ext_get_or, get_or-replicate, get_or-drop, length-take-le, length-drop, take-append-drop, length-replicate}
 
@@ -8,7 +8,7 @@ pub record Room (most count : ℕ) (entries : List ℕ) : Type 0 where
   pub whole : length entries ≡ most
   pub rest : (i : ℕ) → count ≤ i → slice_index entries i ≡ 0
 
--- a list, and zeros behind it, n entries in all
+-- a list, and zeros after it, n entries in all
 abbrev pub filled : ℕ → List ℕ → List ℕ
 filled n xs = xs ++ replicate (n - length xs) 0
 

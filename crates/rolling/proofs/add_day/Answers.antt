@@ -1,4 +1,4 @@
--- `add_day`: each refusal, and the window with the day behind the newest. The check leaves each of these goals open without its answer.
+-- `add_day`: each refusal, and the window with the day after the newest. The check leaves each of these goals open without its answer.
 use Rattle.std.proofs.Common.{◌∙◌, ◌<◌, ap, ap₂, arith, refl, sym}
 use Rattle.std.proofs.lemmas.Result.{err_from_is_err_and}
 use Rattle.rollingmodel.specs.Rolling.{slot, with_day_in}

@@ -91,7 +91,7 @@ module _ (file : List ℕ) (h : refusal file ≡ 0) where
   pub agrees-shown : Agrees (present_in (file_map file)) (case_of file)
   agrees-shown = limits.1
 
-  -- where bit 1 stands, bit 7 does not
+  -- where bit 1 is set, bit 7 is not
   pub two_bytes : stands 1 (file_map file) ≡ true → (case_of file).rate_bytes ≡ 2
   unfolding case_of
   two_bytes one =

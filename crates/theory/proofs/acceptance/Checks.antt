@@ -72,7 +72,7 @@ both-hold ((false, r) ∷ cs) ds h = cc
 pub after-hold : (cs ds : List Check) → Hold cs → failing (cs ++ ds) ≡ failing ds
 after-hold cs ds h = holds-first cs ds (holds-none cs h)
 
--- what stands behind a check matters by its refusal alone
+-- what follows a check matters by its refusal alone
 pub behind-check : (c : Check) (cs ds : List Check) → failing cs ≡ failing ds → failing (c ∷ cs) ≡ failing (c ∷ ds)
 behind-check c cs ds e = ap (λ (o : Option Refusal). cond c.0 o (Some c.1)) e
 

@@ -1,6 +1,6 @@
 -- How far the fields of a file reach, and that no more of it is looked at. A field of at most `size` bytes, whose checks hold, ends at most
--- `size` bytes behind its start; and of two files that are alike up to there, the first check that fails is the same. So an accepted file has
--- at most 17,623 bytes, and the first 17,624 decide about any: where they have no other refusal, a longer file is refused with 2.
+-- `size` bytes after its start; and of two files that are alike up to there, the first check that fails is the same. So an accepted file
+-- has at most 17,623 bytes, and the first 17,624 decide about any: where they have no other refusal, a longer file is refused with 2.
 use mathlib.Core.Path.{◌≡◌, refl, ap, ap₂, sym, ◌∙◌}
 use mathlib.Core.Bool.{Bool, true, false, cond}
 use mathlib.Core.List.{List, [], ◌∷◌, ◌++◌}
@@ -92,7 +92,7 @@ field-decided {x = x} r read = record {
   same = λ n file front a at h. rw (both-reach n file front a (at + x.size) h, read.alike n file front a at h);
 }
 
--- what is checked of a run behind its count
+-- what is checked of a run after its count
 abbrev run-checks : {A : Type 0} → Fixed A → Refusal → ℕ → List ℕ → ℕ → List Check
 run-checks x r m file at = (leb (at + 1 + x.size * m) (length file), EndsEarly) ∷ (right_all x (value_all x file (at + 1) m), r) ∷ []
 
@@ -266,7 +266,7 @@ module _ (file : List ℕ) (long : 17624 ≤ length file) where
   unfolding file_map
   same-map = number-alike 17624 file front front-alike 0 2 (lit≤ tt)
 
-  -- no file of so many bytes ends where its fields end
+  -- no file of this many bytes ends where its fields end
   abbrev last : List ℕ → List Check
   last f = (leb (length f) ((layout_in f).end f 2), BytesFollow) ∷ (forwards_right (per_step (case_of f)) (case_of f).days, Forward) ∷ []
 

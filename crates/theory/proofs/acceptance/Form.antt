@@ -35,7 +35,7 @@ known_in map = go (stands 7 map)
     go true = refl
     go false = refl
 
--- where the count of the days stands, by the positions of the fields
+-- where the count of the days is, by the positions of the fields
 pub days-at : (file : List ℕ) → days_at file ≡ cond (stands 7 (file_map file)) (people_end file) (ufr_end file)
 unfolding days_at ufr_end people_end people_at shocks_at amounts_at bonds_at pension_at
 days-at file = go (stands 7 (file_map file)) (present file)

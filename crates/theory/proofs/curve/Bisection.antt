@@ -1,4 +1,4 @@
--- Request Three of document 02, proved: after j tests at most 22,001 ÷ 2^j steps, rounded up, are left, the zero rate is among them, and
+-- The search for a zero rate, proved: after j tests at most 22,001 ÷ 2^j steps, rounded up, are left, the zero rate is among them, and
 -- after 15 it is the only one. Of n steps a test leaves at most n ÷ 2, rounded up, whichever way it goes (`halves`). The rate stays among them
 -- because the results fall as the step rises: the tests change at the rate and nowhere else (`Splits`).
 -- And no search makes more tests than its budget, or than 15. Assumes nothing.

@@ -1,5 +1,5 @@
--- Request Three of document 02, of every accepted file: the search for either zero rate of every term from 1 to 120 keeps its promise. Its
--- rates are those of document 01: `zero_rate` of the base curve is `rate_of` of its factors.
+-- Of every accepted file the search for either zero rate of every term from 1 to 120 keeps its promise. Its rates are those of the rounded
+-- working: `zero_rate` of the base curve is `rate_of` of its factors.
 -- Assumes nothing.
 use Prim.Native.Nat.{ℕ, ◌≤◌}
 use mathlib.Core.Path.{◌≡◌}

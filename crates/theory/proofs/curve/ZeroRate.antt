@@ -22,7 +22,7 @@ use Rattle.method.specs.Rounded.{scaled, tested, step_at, lower_test, upper_test
 use Rattle.method.specs.Fraction.{Fraction}
 use Rattle.method.specs.inner.CurveWithin.{BaseWithin}
 use Rattle.model.specs.Limits.{Between}
-use Rattle.method.specs.Demand3.{RateOrdered, RateBounds}
+use Rattle.method.specs.Containment.{RateOrdered, RateBounds}
 use Rattle.theory.proofs.general.Differences.{Diff, again, diff-pos, diff-sum, diff-neg, diff-minus, le-diff, lt-diff, natural-is}
 use Rattle.model.specs.Numbers.{every}
 use Rattle.theory.proofs.curve.Steps.{scaled-in}

@@ -1,5 +1,5 @@
--- What request Six says of a case with four-byte days, in plain numbers: N, the sums of the shifted curves, the limits of 5 and 6, the map,
--- and where the days and their part stand.
+-- A case with four-byte days in plain numbers: N, the sums of the shifted curves, the limits of 5 and 6, the map, and where the days and
+-- their part are.
 -- Assumes nothing.
 use Prim.Native.Nat.{ℕ, suc, ◌+◌, ◌*◌, ◌≤◌, ◌<◌}
 use mathlib.Core.Path.{◌≡◌, ap, subst}

@@ -1,4 +1,4 @@
--- A list with another part of n entries from the place `at` on, in place of those that stood there: the parts of n entries at other
+-- A list with another part of n entries from the place `at` on, in place of those that were there: the parts of n entries at other
 -- places are as they were.
 use Prim.Native.Nat.{ℕ, ◌+◌, ◌≤◌}
 use mathlib.Core.Path.{◌≡◌, ap, sym, ◌∙◌}

@@ -1,5 +1,5 @@
--- The slots of a ring of m, from any start: two entries of at most m stand in two slots, and a start one slot further makes each entry the
--- one before it. The entries held in a ring, oldest first, whatever an entry is, after each change: one more behind the newest, the oldest
+-- The slots of a ring of m, from any start: two entries of at most m are in two slots, and moving the start by one makes entry i + 1 entry
+-- i. The entries held in a ring, oldest first, whatever an entry is, after each change: one more after the newest, the oldest
 -- gone, and in a full ring a new one in place of the oldest. A list taken around the ring is its part from the start on, and then the part
 -- before. Assumes nothing.
 use Prim.Native.Nat.{ℕ, zero, suc, ◌+◌, ◌*◌, ◌-◌, ◌%◌, ◌≤◌, ◌<◌}
@@ -59,7 +59,7 @@ module _ {A : Type 0} (m start : ℕ) (entry : ℕ → A) where
       ∙ ap (drop 1) (sym (table-first (λ i. entry (slot m start i)) n))
 
 module _ {A : Type 0} (m start : ℕ) (entry next : ℕ → A) where
-  -- the slot of a new entry is the one behind the newest of those that stay, which is the oldest's
+  -- the slot of a new entry is the one after the newest of those that stay, which is the oldest's
   pub held-replaced : (n : ℕ) → m ≡ suc n → ((j : ℕ) → (j ≡ slot m (slot m start 1) n → ⊥) → next j ≡ entry j)
       → held m (slot m start 1) next m ≡ drop 1 (held m start entry m) ++ (next (slot m (slot m start 1) n) ∷ [])
   held-replaced n e others =

@@ -1,6 +1,5 @@
--- Bonds off the adjusted curve (document 02, request Four): on each curve and in both workings B does not depend on the UFR; and a case
--- whose bond flows end at term 20 or before, or that has none, keeps every number that the adjusted factors gave.
--- Assumes nothing.
+-- Bonds off the adjusted curve (METHOD, Bonds off the adjusted curve): on each curve and in both workings B does not depend on the UFR; and
+-- a case whose bond flows end at term 20 or before, or that has none, keeps every number that the adjusted factors gave. Assumes nothing.
 use Prim.Native.Nat.{ℕ, ◌-◌, ◌≤◌}
 use mathlib.Core.Path.{◌≡◌, ap, fun_ext}
 use native.Mathlib.Omega.{arith}

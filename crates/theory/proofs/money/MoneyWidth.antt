@@ -1,7 +1,7 @@
 -- The widths of the money figures. S moves no more than its parts move together: it is the root of a sum of squares with a correlation
 -- of at most 1, and such a root has slope at most 1 in each part (`grow`). S1 is 2 × WL + 2 × WB wide, from two values of L and two of
 -- B; S2 to S5 are rounded once, so 1 each; S6 is WL + 1, since the mortality margin is at most 1 (`slope`); and S is rounded once more.
--- That is 3 × WL + 2 × WB + 6, and the demand allows 8.
+-- That is 3 × WL + 2 × WB + 6, and 8 are allowed.
 -- Assumes nothing.
 use Prim.Native.Nat.{ℕ, ◌+◌, ◌*◌, ◌^◌, ◌≤◌, ◌<◌, max}
 use native.Mathlib.Omega.{arith}

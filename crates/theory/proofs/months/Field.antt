@@ -1,4 +1,4 @@
--- The file with a UFR in its field is a file of the same case with that UFR: the map gets bit 0, the UFR stands behind it, and the other
+-- The file with a UFR in its field is a file of the same case with that UFR: the map gets bit 0, the UFR follows it, and the other
 -- fields follow as they did. So where the UFR is within its limits and the file is accepted, that file is accepted too, and its case is
 -- the file's with the new UFR. Assumes nothing.
 use Prim.Native.Nat.{ℕ, ◌+◌, ◌≤◌}
@@ -24,7 +24,7 @@ use Rattle.theory.proofs.curve.Changed.{within-ufr}
 abbrev with_field : Present → Present
 with_field p = record { ufr = true; bonds = p.bonds; amounts = p.amounts }
 
--- the bytes behind the UFR
+-- the bytes after the UFR
 abbrev later_bytes : Present → FileCase → List ℕ
 later_bytes p k =
     (days_field 2 k.rate_bytes).bytes (days_if 2 k) ++ (pension_field.bytes k.pension ++ ((bonds_field p).bytes k.bonds

@@ -20,19 +20,19 @@ use Rattle.monthsmodel.specs.Months.{month, months_of, hundreds, history_checks,
 use Rattle.monthsmodel.specs.Months.{months_checks, months_refusal, months_case, months_valuation, months_factors_after, months_rates_after}
 use Rattle.monthsmodel.specs.Promises.{RoundedToHundred, SumFromAnyMonth, HistoryAccepted, HistoryAcceptedExactly, oldest_total, UfrFound, UfrFoundOfAll}
 use Rattle.monthsmodel.specs.Promises.{OwnNumbersFirst, FieldAccepted, FileWithFieldAccepted, MonthsValuedWithField, MonthsAccepted, MonthsAcceptedExactly}
-use Rattle.monthsmodel.specs.Promises.{MonthsKeepDemand3, MonthsRefused, RefusedMonthsLeaveBuffers, UfrCall, MonthsCall, EveryUfrCall, EveryMonthsCall}
+use Rattle.monthsmodel.specs.Promises.{MonthsKeepContainment, MonthsRefused, RefusedMonthsLeaveBuffers, UfrCall, MonthsCall, EveryUfrCall, EveryMonthsCall}
 use Rattle.theory.proofs.general.Lists.{◌also◌}
 use Rattle.theory.proofs.acceptance.Acceptance.{accepted-none, accepted-keeps, keeps-accepted}
 use Rattle.theory.proofs.acceptance.Checks.{none-hold, none-holds, hold-none, none-fails, first-fails}
 use Rattle.theory.proofs.acceptance.Runs.{values_length}
 use Rattle.theory.proofs.acceptance.Within.{between-true, between-test, rates-lawful}
-use Rattle.theory.proofs.demand3.Valued.{answered-number, case-valued}
+use Rattle.theory.proofs.containment.Valued.{answered-number, case-valued}
 use Rattle.theory.proofs.months.Nearest.{nearest-hundred, nearest-once}
 use Rattle.theory.proofs.months.Rotated.{oldest-sum}
 use Rattle.theory.proofs.months.Found.{found-most, found-rounded}
 use Rattle.theory.proofs.months.Field.{field-read}
 use Rattle.theory.proofs.months.Valued.{own_first, history-after, as-if-field, is_found, is-accepted, within-limits}
-use Rattle.theory.proofs.months.Demand.{months-demand3}
+use Rattle.theory.proofs.months.Contained.{months-contained}
 
 -- ---- the UFR found
 
@@ -125,8 +125,8 @@ file_with_field_accepted = record { read = field-accepted }
 pub months_valued_with_field : MonthsValuedWithField
 months_valued_with_field = record { valued = as-if-field }
 
-pub months_keep_demand3 : MonthsKeepDemand3
-months_keep_demand3 = record { kept = months-demand3 }
+pub months_keep_containment : MonthsKeepContainment
+months_keep_containment = record { kept = months-contained }
 
 months-refused : (file history : List ℕ) (start : ℕ) (factors : List ℕ) (rates : List ℤ) (r : Refusal)
     → failing (months_checks file history start (length factors) (length rates)) ≡ Some r → MonthsRefused r file history start factors rates

@@ -1,4 +1,4 @@
--- The days that a window holds after a change of it, by the laws of a ring of any entries: the new day stands in a slot of its own, and
+-- The days that a window holds after a change of it, by the laws of a ring of any entries: the new day is in a slot of its own, and
 -- every other slot has the day that it had.
 use Prim.Native.Nat.{ℕ, suc, ◌+◌, ◌*◌, ◌≤◌, ◌<◌}
 use mathlib.Core.Path.{◌≡◌, ap, ◌∙◌}

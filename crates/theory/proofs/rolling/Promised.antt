@@ -16,17 +16,17 @@ use Rattle.rollingmodel.specs.Rolling.{empty_window, days_held, add_refusal, cha
 use Rattle.rollingmodel.specs.Rolling.{rolling_checks, rolling_refusal, rolling_valuation, rolling_factors_after, rolling_rates_after}
 use Rattle.rollingmodel.specs.Promises.{RightExactly, Holds, EmptyHoldsNothing, ChangesHold, ChangesOfRightHold}
 use Rattle.rollingmodel.specs.Promises.{DamagedAheadOfAll, FullExactly, EmptyExactly, RefusedChangesNothing}
-use Rattle.rollingmodel.specs.Promises.{window_case, WindowValuedAsFile, WindowAcceptedExactly, WindowKeepsDemand3, RefusedWindowLeavesBuffers}
+use Rattle.rollingmodel.specs.Promises.{window_case, WindowValuedAsFile, WindowAcceptedExactly, WindowKeepsContainment, RefusedWindowLeavesBuffers}
 use Rattle.rollingmodel.specs.Promises.{AlikeAnswers, ChangesAlike, FreeSlotsAlike, AddCall, DropCall, WindowCall, EveryAddCall, EveryDropCall, EveryWindowCall}
 use Rattle.rollingmodel.specs.declared.RollingWindow.{RollingWindow}
 use Rattle.rollingmodel.proofs.Unchanged.{add-unchanged, drop-unchanged}
 use Rattle.theory.proofs.acceptance.Checks.{none-hold, none-fails}
-use Rattle.theory.proofs.demand3.Valued.{answered-number, case-valued}
+use Rattle.theory.proofs.containment.Valued.{answered-number, case-valued}
 use Rattle.theory.proofs.rolling.Held.{held-count}
 use Rattle.theory.proofs.rolling.Right.{right-facts, facts-right}
 use Rattle.theory.proofs.rolling.Holds.{empty_holds, add_holds, drop-holds, changes-hold, holds_after}
 use Rattle.theory.proofs.rolling.Valued.{window-values, long-factors, long-rates, within-limits}
-use Rattle.theory.proofs.rolling.Demand.{window-demand3}
+use Rattle.theory.proofs.rolling.Contained.{window-contained}
 use Rattle.theory.proofs.rolling.Alike.{alike-answers, changes-alike, free-alike}
 use Rattle.theory.proofs.rolling.Refused.{add-damaged, add-full, add-none, drop-damaged, drop-empty, drop-none, value-damaged, value-none, value-refused}
 
@@ -66,8 +66,8 @@ window_valued_as_file = record { valued = window-values }
 pub window_accepted_exactly : WindowAcceptedExactly
 window_accepted_exactly = record { exactly = value-none }
 
-pub window_keeps_demand3 : WindowKeepsDemand3
-window_keeps_demand3 = record { kept = window-demand3 }
+pub window_keeps_containment : WindowKeepsContainment
+window_keeps_containment = record { kept = window-contained }
 
 pub refused_window_leaves_buffers : RefusedWindowLeavesBuffers
 refused_window_leaves_buffers = record { refused = value-refused }

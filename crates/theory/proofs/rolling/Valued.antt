@@ -41,7 +41,7 @@ module _ (w : RollingWindow) (k : FileCase) (right : rolling_right w ≡ true) (
   abbrev days_checks : List Check
   days_checks = (ltb 0 w.count, DayCount) ∷ (forwards_right w.count (days_held w), Forward) ∷ []
 
-  -- the days held stand in the two-byte field, whichever days field the case has
+  -- the days held are in the two-byte field, whichever days field the case has
   parts : 0 < w.count → (p : Present) → Agrees p k → PartsWithin 2 p (parts_of valued)
   parts some p agrees =
       let n = length (days_held w) in

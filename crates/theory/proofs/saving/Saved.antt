@@ -1,4 +1,4 @@
--- What request One of document 02 says of a case that is written back: it is refused exactly when it is outside the limits; the saved
+-- What is promised of a case that is written back: it is refused exactly when it is outside the limits; the saved
 -- bytes are read as the same case; two cases have the same bytes exactly when they are equal; no file of the case is shorter; and 14 is
 -- given exactly where the case is within the limits and the buffer is too short.
 use mathlib.Core.Path.{◌≡◌, refl, ap, sym, ◌∙◌, subst}
@@ -57,7 +57,7 @@ agrees-needed k = record {
   amounts_absent = λ e. no-amounts (amounts_in_order k.amounts) (not-false (all_zero (amounts_in_order k.amounts)) e);
 }
 
--- ---- "a case outside the limits gets document 01's number"
+-- ---- "A case outside the limits gets the number that its file would have"
 
 module _ (k : FileCase) where
   abbrev field_checks : List Check

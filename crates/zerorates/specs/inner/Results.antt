@@ -7,8 +7,8 @@ use Rattle.method.specs.Rounded.{tested}
 use Rattle.searchmodel.specs.Bisection.{rate_test}
 use Rattle.arith.specs.declared.bracket.Bracket.{Bracket}
 
--- whether step i passes document 01's test of a rate of term t. The lower rate goes by the upper factor and the upper rate by the lower, so
--- a test has one number as its factor.
+-- whether step i passes the rounded working's test of a rate of term t. The lower rate goes by the upper factor and the upper rate by the
+-- lower, so a test has one number as its factor.
 abbrev pub passed : End → ℕ → ℕ → ℕ → Bool
 passed e t factor i = rate_test (λ e s. factor) e t i
 

@@ -1,4 +1,4 @@
-//! cargo run --example value FILE: document 01's listing of a case file, and its curve at some terms.
+//! cargo run --example value FILE: the listing of a case file, and its curve at some terms.
 //!
 //! Exit status: 0 valued, 1 refused, 2 no answer: the file can't be read, the call is wrong or the output was lost.
 use ginghamowl::Valuation;

@@ -1,4 +1,4 @@
--- After some turns of `sum_days` the days so far are summed, their rates are within their limits, and the bytes behind them are left.
+-- After some turns of `sum_days` the days so far are summed, their rates are within their limits, and the bytes after them are left.
 use Rattle.std.proofs.Common.{◌≡◌, ◌*◌, ◌/◌, ◌≤◌, drop, length, true}
 use Rattle.model.specs.Fields.{value_all, right_all}
 use Rattle.model.specs.Layout.{day}

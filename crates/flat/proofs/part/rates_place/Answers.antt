@@ -1,4 +1,4 @@
--- `part::rates_place` meets its contract: the place is the definition's, what stands there is the part, and all of `PartCall` holds.
+-- `part::rates_place` meets its contract: the place is the definition's, what is there is the part, and all of `PartCall` holds.
 -- The check leaves each of these goals open without its answer.
 use Rattle.std.proofs.Common.{take, drop, ap, ◌∙◌}
 use Rattle.reader.proofs.Exactly.{part-of-slice}

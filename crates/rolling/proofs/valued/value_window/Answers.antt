@@ -1,5 +1,5 @@
 -- `value_window` meets its contract: the number of a refused window, or the working of the case with its days. Assumes nothing.
--- What is told of the two buffers stands alike in `engine`, `months` and `rolling`, of goals that each function has for itself.
+-- What is told of the two buffers is alike in `engine`, `months` and `rolling`, of goals that each function has for itself.
 -- The check leaves each of these goals open without its answer.
 use Rattle.std.proofs.Common.{◌≡◌, sym}
 use Rattle.std.proofs.lemmas.Result.{err_from_is_err_and}

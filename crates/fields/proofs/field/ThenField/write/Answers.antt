@@ -1,4 +1,4 @@
--- `write` of two fields: both are within their limits, and one is written behind the other.
+-- `write` of two fields: both are within their limits, and one is written after the other.
 -- The check leaves each of these goals open without its answer.
 use Rattle.std.proofs.Common.{arith, length-append, refl}
 use Rattle.theory.proofs.acceptance.Checks.{both-hold}

@@ -47,8 +47,8 @@ static void test_last_decimal(void)
 {
     static held_case c;
     static uint8_t file[MOST_BYTES];
-    uint64_t factors[240];
-    int64_t rates[240];
+    uint64_t factors[240] = {0};
+    int64_t rates[240] = {0};
     ginghamowl_valuation v;
 
     c1_case(&c);

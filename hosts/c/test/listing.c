@@ -25,8 +25,8 @@ static void lists(ginghamowl_valuation v, size_t room, const char *text)
 static void test_returned(void)
 {
     uint8_t file[C1_BYTES];
-    uint64_t factors[240];
-    int64_t rates[240];
+    uint64_t factors[240] = {0};
+    int64_t rates[240] = {0};
     size_t length = sizeof C1_LISTING - 1;
     ginghamowl_valuation v;
 

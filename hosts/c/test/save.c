@@ -7,8 +7,8 @@ static void test_c1(uint64_t rate_bytes)
     static held_case c;
     size_t form = rate_bytes == GINGHAMOWL_FOUR_BYTES, length = C1_FORMS[form].length, room;
     uint8_t file[C1_FOUR_BYTES], out[C1_FOUR_BYTES];
-    uint64_t factors[240];
-    int64_t rates[240];
+    uint64_t factors[240] = {0};
+    int64_t rates[240] = {0};
 
     C1_FORMS[form].make(file);
     c1_case(&c);

@@ -80,8 +80,8 @@ static void test_refusals(void)
     c1(file);
     file[C1_CASH + 7] = 0xdf; /* C2: cash 1,099,999 */
     {
-        uint64_t factors[240];
-        int64_t rates[240];
+        uint64_t factors[240] = {0};
+        int64_t rates[240] = {0};
         ginghamowl_valuation v = ginghamowl_value(file, C1_BYTES, factors, 240, rates, 240);
 
         CHECK(v.refusal == GINGHAMOWL_ACCEPTED && v.verdict == GINGHAMOWL_RESERVETEKORT);

@@ -14,8 +14,8 @@ static int shows(ginghamowl_point p, uint8_t kind, uint64_t lower, uint64_t uppe
 static void test_points(void)
 {
     uint8_t file[C1_BYTES];
-    uint64_t factors[240];
-    int64_t rates[240];
+    uint64_t factors[240] = {0};
+    int64_t rates[240] = {0};
     ginghamowl_bracket figures[10];
     ginghamowl_valuation v;
     uint64_t p;

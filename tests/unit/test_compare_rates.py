@@ -15,7 +15,7 @@ from tests.compare.counting import Comparison
 from tests.inputs import examples, files, limits
 from tests.reference import reference
 from tests.reference.reference import FORBIDDEN_BITS, REQUIRED_BITS, STEPS, UNITS, Case, Cursor, divide, encode, refuse_unless, sums
-from tests.writers import four_byte_figures, four_bytes
+from tests.writers import four_byte_figures, four_bytes as four_byte_files
 
 REWRITINGS, FINER, EXACTLY, DAMAGED = "rewritings", "seven decimals", "containment and width, exactly", "damaged"
 
@@ -460,8 +460,8 @@ class Statements(unittest.TestCase):
     def written():
         """None where the numbers contradict one another."""
         try:
-            return [written() for written in (four_bytes.four_byte_cases, four_byte_figures.four_figures, four_byte_figures.four_saved, four_byte_figures.four_windows,
-                                              four_byte_figures.four_months, four_bytes.four_refused)]
+            return [written() for written in (four_byte_files.four_byte_cases, four_byte_figures.four_figures, four_byte_figures.four_saved,
+                                              four_byte_figures.four_windows, four_byte_figures.four_months, four_byte_files.four_refused)]
         except AssertionError:
             return None
 

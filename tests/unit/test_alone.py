@@ -8,16 +8,8 @@ import re
 import subprocess
 import unittest
 
+from tests import ROOT
 
-def found_root():
-    """The folder of crates.txt, wherever in the tree this file is."""
-    folder = os.path.dirname(os.path.abspath(__file__))
-    while not os.path.exists(os.path.join(folder, "crates.txt")):
-        folder = os.path.dirname(folder)
-    return folder
-
-
-ROOT = found_root()
 METHOD = "docs/METHOD.md"
 MAINTAINING = "docs/MAINTAINING.md"
 README = "README.md"

@@ -3,9 +3,9 @@ later decision withdrew or changed it names one that is later."""
 
 import re
 import unittest
-from pathlib import Path
 
-ROOT = next(folder for folder in Path(__file__).resolve().parents if (folder / "crates.txt").exists())
+from tests import ROOT
+
 INDEX = "## Index by subject\n"
 
 

@@ -18,7 +18,7 @@ static const uint64_t ONE = 1000000000000;    /* factors and growths count 10^-1
 enum { MATURE, EMERGING, PRIVATE, PROPERTY, COMMODITIES, CREDIT, CASH, CURRENCY, AMOUNTS };
 enum {
     UP_SHIFT, DOWN_SHIFT, MATURE_FALL, EMERGING_FALL, PRIVATE_FALL, PROPERTY_FALL, CURRENCY_FALL, COMMODITIES_FALL,
-    SPREAD_RISE, CORRELATION, SPREAD, DURATION, SHOCKS
+    SPREAD_RISE, CORRELATION, SPREAD, DURATION, EQUITY_CORRELATION, SHOCKS
 };
 
 /* What an accepted file says: UFR in steps, money in euros, ages in months. Rates of two bytes are in steps, those of

@@ -53,12 +53,13 @@ void read_fund(const uint8_t *file, struct fund *fund)
     numbers(&at, fund->bonds, fund->k, 4);
     for (int i = 0; i < AMOUNTS; i++)
         fund->amount[i] = map & 16 ? number(&at, 8) : 0;
-    numbers(&at, fund->shock, SHOCKS, 2);
+    numbers(&at, fund->shock, EQUITY_CORRELATION, 2);
     fund->heads = number(&at, 4);
     fund->pension_age = number(&at, 2);
     fund->mean_age = number(&at, 2);
     if (map & 128)
         read_days(&at, fund, true);
+    fund->shock[EQUITY_CORRELATION] = map & 256 ? number(&at, 2) : GINGHAMOWL_DEFAULT_EQUITY_CORRELATION;
 }
 
 /* ---------------------------------------------------------------- years */
@@ -297,12 +298,27 @@ static uint8_t verdict_of(const ginghamowl_figures *f)
     return GINGHAMOWL_ONBESLIST;
 }
 
-/* The losses of the market values; a euro's thousandth is a tenth of a cent. */
+/* The root of the squares of the four losses and twice the correlation times each pair's product; a euro's thousandth is a tenth of a
+ * cent. */
+static ginghamowl_bracket equity_loss(const uint64_t *amount, const uint64_t *shock)
+{
+    const uint64_t losses[] = {amount[MATURE] * shock[MATURE_FALL], amount[EMERGING] * shock[EMERGING_FALL],
+                               amount[PRIVATE] * shock[PRIVATE_FALL], amount[PROPERTY] * shock[PROPERTY_FALL]};
+    wide squares = 0, pairs = 0;
+    for (int i = 0; i < 4; i++) {
+        squares += square(losses[i]);
+        for (int j = 0; j < i; j++)
+            pairs += (wide)losses[i] * losses[j];
+    }
+    wide x = 1000 * squares + 2 * shock[EQUITY_CORRELATION] * pairs;
+    return (ginghamowl_bracket){root_floor(x / 100000), root_ceiling((x + 99999) / 100000)};
+}
+
+/* The losses of the market values. */
 static void market_losses(const struct fund *fund, ginghamowl_figures *f)
 {
     const uint64_t *amount = fund->amount, *shock = fund->shock;
-    f->s2 = quotient((wide)amount[MATURE] * shock[MATURE_FALL] + amount[EMERGING] * shock[EMERGING_FALL] +
-                         amount[PRIVATE] * shock[PRIVATE_FALL] + amount[PROPERTY] * shock[PROPERTY_FALL], 10);
+    f->s2 = equity_loss(amount, shock);
     f->s3 = quotient((wide)amount[CURRENCY] * shock[CURRENCY_FALL], 10);
     f->s4 = quotient((wide)amount[COMMODITIES] * shock[COMMODITIES_FALL], 10);
     f->s5 = quotient((wide)amount[CREDIT] * (shock[DURATION] * shock[SPREAD] * shock[SPREAD_RISE]), 10000000);

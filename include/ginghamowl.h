@@ -44,9 +44,9 @@ extern "C" {
  * version may change what stands here; the shared library's name has both numbers for that reason,
  * libginghamowl.so.MAJOR.MINOR. What is linked or loaded says by ginghamowl_version which it is. */
 /* hosts/words writes: version */
-#define GINGHAMOWL_VERSION "0.9.0"
+#define GINGHAMOWL_VERSION "0.10.0"
 #define GINGHAMOWL_VERSION_MAJOR 0
-#define GINGHAMOWL_VERSION_MINOR 9
+#define GINGHAMOWL_VERSION_MINOR 10
 #define GINGHAMOWL_VERSION_PATCH 0
 #define GINGHAMOWL_KIT "rattle-kit-13f"
 /* hosts/words: end of version */
@@ -57,7 +57,7 @@ enum {
     GINGHAMOWL_TERMS = 120,          /* the terms of the curve: 1 to 120 years */
     GINGHAMOWL_DAY_RATES = 60,       /* the zero rates of a day: terms 1 to 60 */
     GINGHAMOWL_ENTRIES = 240,        /* the least length of a factor or rate buffer */
-    GINGHAMOWL_FILE_BYTES = 17623,   /* the longest accepted file; one byte more decides a refusal, and
+    GINGHAMOWL_FILE_BYTES = 17625,   /* the longest accepted file; one byte more decides a refusal, and
                                         every saved case fits (crates/promises: accepted_files_are_short,
                                         first_bytes_decide, saved_files_are_short) */
     GINGHAMOWL_LISTING_BYTES = 512,  /* a listing always fits into this many bytes: it has at most 463
@@ -89,7 +89,7 @@ enum {
     /* bytes follow the last field; the file must end there */
     GINGHAMOWL_REFUSED_BYTES_FOLLOW = 2,
     /* the map has a wrong bit; bits 2, 5 and 6 and exactly one of bits 1 and 7 must be set, and
-     * bits 8 to 15 must not; a case that is handed in must have rates of 2 or 4 bytes */
+     * bits 9 to 15 must not; a case that is handed in must have rates of 2 or 4 bytes */
     GINGHAMOWL_REFUSED_MAP = 3,
     /* the number of days is out of limits; it must be 1 to 70, with 60 rates each */
     GINGHAMOWL_REFUSED_DAY_COUNT = 4,
@@ -112,7 +112,7 @@ enum {
     /* an amount is out of limits; each must be at most 100,000,000,000 euros */
     GINGHAMOWL_REFUSED_AMOUNT = 10,
     /* a shock is out of limits; shifts must be at most 1,000 steps, falls, spread rise and
-     * correlation at most 1,000 thousandths, the credit spread at most 10,000 steps and the
+     * correlations at most 1,000 thousandths, the credit spread at most 10,000 steps and the
      * credit duration at most 500 tenths of a year */
     GINGHAMOWL_REFUSED_SHOCK = 11,
     /* the head count or an age is out of limits; heads must be 1 to 1,000,000, and ages at most
@@ -176,8 +176,8 @@ enum {
 /* A case file has its days in one of two fields, which are alike but for the bytes of a rate:
  *
  *   bit 1          rates of two bytes, in steps of 0.00001, -1,000 to 10,000
- *   bit 7          rates of four bytes, in steps of 0.0000001, -100,000 to 1,000,000; this field is the
- *                  last of the file, behind the people
+ *   bit 7          rates of four bytes, in steps of 0.0000001, -100,000 to 1,000,000; this field stands
+ *                  behind the people, and only that of bit 8 behind it
  *
  * Exactly one of the two bits is set. A case that is handed in says by the bytes of a rate which field it
  * has, and its rates are in the steps of that field. Rates of two bytes, and the same rates times 100 in
@@ -190,6 +190,14 @@ enum {
 
 /* How many bytes a rate of an accepted file has: bit 7 of its map announces four. */
 #define GINGHAMOWL_RATE_BYTES(file) ((file)[1] & 0x80 ? GINGHAMOWL_FOUR_BYTES : GINGHAMOWL_TWO_BYTES)
+
+/* ---------------------------------------------------------------- numbers that a file may leave out */
+
+/* What a file holds that has no field for it. A saved file leaves out each of these numbers. */
+enum {
+    GINGHAMOWL_DEFAULT_UFR = 4200,               /* steps of 0.00001: 4.2 percent */
+    GINGHAMOWL_DEFAULT_EQUITY_CORRELATION = 1000 /* thousandths: the equity classes fall together */
+};
 
 /* ---------------------------------------------------------------- structs */
 
@@ -240,11 +248,24 @@ typedef struct {
 } ginghamowl_amounts;
 
 /* Shifts and credit spread in steps of 0.00001, credit duration in tenths of a year, all others in
- * thousandths. */
+ * thousandths. `correlation` is that of S1 and S2. `equity_correlation` is that of the four equity classes
+ * with each other: mature, emerging and private equity, and property, whose losses make S2. It is 0 to
+ * 1,000, and stands at bit 8, as the last field of a file:
+ *
+ *   1,000          the classes fall together: S2 is the sum of their losses, with no relief, as it was
+ *                  before there was this number
+ *   0              the classes are uncorrelated: the smallest S2, and so the smallest buffer
+ *
+ * A STRUCT THAT IS FILLED WITH ZEROS ASKS FOR THE SMALLEST BUFFER. So fill it first with
+ * GINGHAMOWL_SHOCKS_DEFAULT, which has 1,000 in this place. */
 typedef struct {
     uint64_t up_shift, down_shift, mature_fall, emerging_fall, private_fall, property_fall;
     uint64_t currency_fall, commodities_fall, spread_rise, correlation, spread, duration;
+    uint64_t equity_correlation;
 } ginghamowl_shocks;
+
+/* No shock, and equity classes that fall together: `ginghamowl_shocks s = GINGHAMOWL_SHOCKS_DEFAULT;` */
+#define GINGHAMOWL_SHOCKS_DEFAULT {0, 0, 0, 0, 0, 0, 0, 0, 0, 0, 0, 0, GINGHAMOWL_DEFAULT_EQUITY_CORRELATION}
 
 /* The head count, and two ages in months. */
 typedef struct {
@@ -252,7 +273,11 @@ typedef struct {
 } ginghamowl_people;
 
 /* The fields of a case that are no lists. `rate_bytes` is GINGHAMOWL_TWO_BYTES or GINGHAMOWL_FOUR_BYTES;
- * with any other number, 0 among them, the case is refused with 3. The UFR in steps of 0.00001. */
+ * with any other number, 0 among them, the case is refused with 3. The UFR in steps of 0.00001.
+ *
+ * Fill it first with GINGHAMOWL_CASE_FIELDS_DEFAULT, and not with zeros: of an `equity_correlation` and a
+ * UFR that are 0 no call can tell whether they were meant (ginghamowl_shocks says what the first asks
+ * for). */
 typedef struct {
     uint64_t rate_bytes;
     uint64_t ufr;
@@ -260,6 +285,11 @@ typedef struct {
     ginghamowl_shocks shocks;
     ginghamowl_people people;
 } ginghamowl_case_fields;
+
+/* Rates of two bytes, a UFR of 4,200 and equity classes that fall together; all else is 0. With no heads
+ * the case is refused, with 12: the people are to be set. */
+#define GINGHAMOWL_CASE_FIELDS_DEFAULT \
+    {GINGHAMOWL_TWO_BYTES, GINGHAMOWL_DEFAULT_UFR, {0, 0, 0, 0, 0, 0, 0, 0}, GINGHAMOWL_SHOCKS_DEFAULT, {0, 0, 0}}
 
 /* `refusal` is GINGHAMOWL_ACCEPTED or a refusal. `written` counts bytes; it is 0 for a refusal. */
 typedef struct {
@@ -361,9 +391,10 @@ size_t ginghamowl_listing(ginghamowl_valuation valuation, uint8_t *out, size_t o
  * of the next: in steps of 0.00001, or, where `rate_bytes` is GINGHAMOWL_FOUR_BYTES, of 0.0000001.
  * `pension` and `bonds` have the flows in euros, from term 1 on.
  *
- * The file has the days field of the case. It leaves out a UFR of 4,200, amounts that are all 0 and an
- * empty list of bonds. It is accepted, and holds the same case. Two cases have the same bytes exactly
- * when all their numbers, `rate_bytes` among them, and the lengths of their lists are equal.
+ * The file has the days field of the case. It leaves out a UFR of 4,200, amounts that are all 0, an
+ * empty list of bonds and an `equity_correlation` of 1,000. It is accepted, and holds the same case. Two
+ * cases have the same bytes exactly when all their numbers, `rate_bytes` among them, and the lengths of
+ * their lists are equal.
  *
  * An input screen may hand in whatever was typed: any numbers and lengths are answered. The first
  * refusal that applies is given, in this order:
@@ -374,8 +405,9 @@ size_t ginghamowl_listing(ginghamowl_valuation valuation, uint8_t *out, size_t o
  *                  that is no multiple of 60 is 4 too; the rates
  *   7, then 8      the count of pension flows; the flows
  *   7, then 8      the count of bond flows, which may be 0; the flows
- *   10, 11, 12     the amounts; the shocks; the people
+ *   10, 11, 12     the amounts; the shocks, but for `equity_correlation`; the people
  *   4, then 5      where a rate has four bytes: the days, likewise
+ *   11             `equity_correlation`
  *   6              the one-year forward rates
  *   14             `out` is shorter than the file; exactly as long is enough, and
  *                  GINGHAMOWL_FILE_BYTES always suffice
@@ -415,9 +447,9 @@ ginghamowl_changed_window ginghamowl_rolling_drop(ginghamowl_rolling_window wind
  *
  *   27             the window is damaged
  *   13             a buffer has fewer than 240 entries
- *   3, 9, 4, 5, 7, 8, 7, 8, 10, 11, 12, 6
+ *   3, 9, 4, 5, 7, 8, 7, 8, 10, 11, 12, 11, 6
  *                  the case's own numbers, its own days included, as ginghamowl_save checks them: where a
- *                  rate has four bytes, 4 and 5 come after 12
+ *                  rate has four bytes, 4 and 5 come after 12; the second 11 is `equity_correlation`
  *   4              the window holds no day
  *   6              the one-year forward rates of the window's days
  *

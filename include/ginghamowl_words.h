@@ -15,7 +15,7 @@ static inline const char *ginghamowl_refusal_sentence(unsigned number)
         return "bytes follow the last field; the file must end there";
     case GINGHAMOWL_REFUSED_MAP:
         return "the map has a wrong bit; bits 2, 5 and 6 and exactly one of bits 1 and 7 must be "
-               "set, and bits 8 to 15 must not; a case that is handed in must have rates of 2 or 4 "
+               "set, and bits 9 to 15 must not; a case that is handed in must have rates of 2 or 4 "
                "bytes";
     case GINGHAMOWL_REFUSED_DAY_COUNT:
         return "the number of days is out of limits; it must be 1 to 70, with 60 rates each";
@@ -39,7 +39,7 @@ static inline const char *ginghamowl_refusal_sentence(unsigned number)
         return "an amount is out of limits; each must be at most 100,000,000,000 euros";
     case GINGHAMOWL_REFUSED_SHOCK:
         return "a shock is out of limits; shifts must be at most 1,000 steps, falls, spread rise "
-               "and correlation at most 1,000 thousandths, the credit spread at most 10,000 steps "
+               "and correlations at most 1,000 thousandths, the credit spread at most 10,000 steps "
                "and the credit duration at most 500 tenths of a year";
     case GINGHAMOWL_REFUSED_PEOPLE:
         return "the head count or an age is out of limits; heads must be 1 to 1,000,000, and ages "

@@ -9,6 +9,9 @@
 
 enum { DAY = GINGHAMOWL_DAY_RATES, SLOTS = GINGHAMOWL_WINDOW_DAYS, MONTHS = GINGHAMOWL_HISTORY_MONTHS };
 
+/* Where the numbers of ginghamowl_case_fields stand, which are all of 8 bytes: rate_bytes, the UFR, and those of its structs. */
+enum { AT_AMOUNTS = 2, AT_SHOCKS = 10, AT_EQUITY = 22, AT_PEOPLE = 23, FIELDS = 26 };
+
 /* Entry i of a lent buffer before a call. */
 #define HELD(i) (UINT64_C(0x5a5a1234abcd0000) + (i))
 

@@ -5,12 +5,13 @@ where the other shift is 0. Where every rate can be moved by the shift it is als
 """
 
 from dataclasses import replace
+from itertools import cycle
 from typing import NamedTuple
 
 from tests.inputs import examples, files
 from tests.inputs.examples import c1, flat
 from tests.reference import reference
-from tests.reference.reference import AMOUNTS, LOWER, SHOCK_LIMITS, SHOCKS, UNITS, UPPER, Case, Exact, allowed_width
+from tests.reference.reference import AMOUNTS, FIELD_SHOCKS, LOWER, NO_SHOCKS, SHOCK_LIMITS, UNITS, UPPER, Case, Exact, allowed_width
 
 COUNTS = (0, 1, 20, 21, 60)  # none, the fewest, both sides of term 20, the most
 FLOW = 100_000_000
@@ -38,15 +39,20 @@ def bond_case(rng, pool, k, rate_bytes=2):
                 pension=flows(rng.choice([1, 3, 20, 21, 60, 61, 120]), 10 ** rng.randint(0, 8)),
                 bonds=flows(k, rng.choice([FLOW, FLOW, 10 ** rng.randint(0, 8)])),
                 amounts={name: rng.choice([0, rng.randint(0, richest)]) for name in AMOUNTS},
-                shocks={name: one(0, SHOCK_LIMITS[name]) for name in SHOCKS},
+                shocks=NO_SHOCKS | {name: one(0, SHOCK_LIMITS[name]) for name in FIELD_SHOCKS},
                 heads=one(1, 1_000_000), pension_age=one(0, 1_200), mean_age=one(0, 1_200), rate_bytes=rate_bytes)
+
+
+def with_equity_correlations(cases):
+    """The cases with these equity correlations in turn, which have no part in B."""
+    return [replace(case, shocks=case.shocks | {"equity_correlation": equity}) for case, equity in zip(cases, cycle((1_000, 0, 999, 437)))]
 
 
 def bond_cases(rng, count, rate_bytes=2):
     """So many cases by the number of bond flows. Among the longest is the largest bond factor, of one day and of 70."""
     pool = files.day_pool(rng, 100, UNITS[rate_bytes])
     deepest = [replace(examples.deepest(), days=flat(-1_000 * UNITS[rate_bytes]) * n, rate_bytes=rate_bytes) for n in (1, 70)]
-    made = lambda k, few: [bond_case(rng, pool, k, rate_bytes) for _ in range(few)]
+    made = lambda k, few: with_equity_correlations([bond_case(rng, pool, k, rate_bytes) for _ in range(few)])
     return {k: deepest + made(k, count - 2) if k == 60 else made(k, count) for k in COUNTS}
 
 

@@ -19,7 +19,7 @@ from tests.compare.counting import Comparison, asked, counts
 from tests.compare.programs import engine_figures
 from tests.inputs import examples, files, limits
 from tests.reference import reference
-from tests.reference.reference import Exact, containment_and_width, encode
+from tests.reference.reference import EQUITY_BIT, Exact, containment_and_width, encode
 
 SEED = 7
 AT_A_TIME = 2_000  # this many files are put to the program in one run
@@ -76,11 +76,11 @@ def part_in(reading):
 
 
 def part_faults(old, new, old_part, new_part):
-    """Of an accepted file: the days stand behind the count byte, and at the end of the rewriting."""
-    n = old[count_at(old)]
+    """Of an accepted file: the days stand behind the count byte, and at the end of the rewriting, ahead of the equity correlation."""
+    n, behind = old[count_at(old)], 2 if int.from_bytes(new[:2], "big") & EQUITY_BIT else 0
     if old_part != (count_at(old) + 1, 120 * n):
         yield f"the rates of the old file stand at {old_part}, n = {n}"
-    if new_part != (len(new) - 240 * n, 240 * n):
+    if new_part != (len(new) - behind - 240 * n, 240 * n):
         yield f"the rates of the rewritten file stand at {new_part}, n = {n}, {len(new)} bytes"
 
 

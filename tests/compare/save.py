@@ -72,7 +72,7 @@ def file_faults(engine, given, data):
 
 def longest(given):
     """The file of a case in which every field stands that may."""
-    return encode(reference.case_of(given), True, bool(given.bonds), True)
+    return encode(reference.case_of(given), True, bool(given.bonds), True, True)
 
 
 class Comparison:

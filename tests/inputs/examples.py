@@ -3,7 +3,8 @@
 from dataclasses import replace
 
 from tests.reference import reference
-from tests.reference.reference import AMOUNTS, LOWER, SHOCK_LIMITS, SHOCKS, Case, Exact, Rounded
+from tests.reference.reference import (AMOUNTS, DEFAULT_EQUITY_CORRELATION, FIELD_SHOCKS, LOWER, NO_SHOCKS, SHOCK_LIMITS, SHOCKS, Case,
+                                       Exact, Rounded)
 
 
 def flat(*rates):
@@ -14,7 +15,7 @@ def flat(*rates):
 def c1(**changes):
     """File C1's case, with the named fields changed."""
     case = Case(ufr=4_200, days=flat(0), pension=[1_000_000], bonds=[],
-                amounts=dict.fromkeys(AMOUNTS, 0) | {"cash": 1_100_000}, shocks=dict.fromkeys(SHOCKS, 0),
+                amounts=dict.fromkeys(AMOUNTS, 0) | {"cash": 1_100_000}, shocks=dict(NO_SHOCKS),
                 heads=100, pension_age=780, mean_age=460)
     return replace(case, **changes)
 
@@ -57,7 +58,7 @@ def up():
         pension=[31_415_927, 27_182_818, 16_180_339],
         bonds=[9_876_543, 0, 45_678_912, 0, 34_567_891],
         amounts=dict(zip(AMOUNTS, [1_234_567, 765_433, 543_211, 987_659, 321_987, 654_321, 111_213, 61_718_191])),
-        shocks=dict(zip(SHOCKS, [320, 180, 251, 353, 307, 149, 457, 349, 509, 401, 2_345, 73])),
+        shocks=dict(zip(SHOCKS, [320, 180, 251, 353, 307, 149, 457, 349, 509, 401, 2_345, 73, 1_000])),
         heads=1_237, pension_age=804, mean_age=541)
 
 
@@ -70,7 +71,7 @@ def down():
         bonds=[7_071_067, 5_550_123, 0, 3_210_987, 0],
         amounts=dict(zip(AMOUNTS, [12_345_679, 8_765_431, 4_321_987, 6_543_217, 2_109_873, 1_357_913, 198_765_437,
                                    10_293_847])),
-        shocks=dict(zip(SHOCKS, [140, 260, 239, 337, 419, 157, 211, 353, 890, 613, 8_765, 437])),
+        shocks=dict(zip(SHOCKS, [140, 260, 239, 337, 419, 157, 211, 353, 890, 613, 8_765, 437, 1_000])),
         heads=4_321, pension_age=816, mean_age=577)
 
 
@@ -84,7 +85,7 @@ def long():
         bonds=[90_000_000 - 700_001 * t for t in terms],
         amounts=dict(zip(AMOUNTS, [2_345_678_901, 987_654_321, 123_456_789, 345_678_912, 45_678_913, 567_891_234, 678_912_345,
                                    789_123_456])),
-        shocks=dict(zip(SHOCKS, [250, 410, 251, 353, 307, 149, 457, 349, 509, 401, 2_345, 73])),
+        shocks=dict(zip(SHOCKS, [250, 410, 251, 353, 307, 149, 457, 349, 509, 401, 2_345, 73, 1_000])),
         heads=54_321, pension_age=811, mean_age=563)
 
 
@@ -93,7 +94,7 @@ def deepest():
     curve, which decides S1. VRIJ VERMOGEN; with that flow on the adjusted curve it would be DEKKINGSTEKORT."""
     return c1(days=flat(-1_000), pension=[100_000_000] * 20, bonds=[0] * 59 + [100_000_000],
               amounts=dict.fromkeys(AMOUNTS, 0) | {"cash": 2_300_000_000},
-              shocks=dict.fromkeys(SHOCKS, 0) | {"up_shift": 270, "down_shift": 1_000})
+              shocks=NO_SHOCKS | {"up_shift": 270, "down_shift": 1_000})
 
 
 def past_20():
@@ -106,6 +107,18 @@ def both_fall(up_shift, down_shift):
     """C1 with one bond flow, at term 2, between pension flows at terms 1 and 3, and shifts: B - L falls on both curves, since the sums of
     flow × term are equal and the pensions lie further apart."""
     return c1(pension=[30_000_000, 0, 20_000_000], bonds=[0, 45_000_000], shocks=c1().shocks | {"up_shift": up_shift, "down_shift": down_shift})
+
+
+def apart(equity_correlation=437):
+    """The fund of up(), with equity classes that do not fall together: S2 is a root, which is no whole number of cents."""
+    return replace(up(), shocks=up().shocks | {"equity_correlation": equity_correlation})
+
+
+def four_classes(equity_correlation):
+    """A small fund that loses 2,107, 4,983, 2,691 and 2,567 tenths of a cent on its four equity classes."""
+    return c1(pension=[7], amounts=dict.fromkeys(AMOUNTS, 0) | {"mature": 7, "emerging": 11, "private": 13, "property": 17}, heads=1,
+              pension_age=0, mean_age=0, shocks=NO_SHOCKS | {"mature_fall": 301, "emerging_fall": 453, "private_fall": 207,
+                                                             "property_fall": 151, "equity_correlation": equity_correlation})
 
 
 def finer():
@@ -183,6 +196,17 @@ def random_days(rng, n, units=1):
     return [day() for _ in range(n)]
 
 
+def random_equity_correlation(rng):
+    """The ends, next to them, between, and any; 1,000, which a file may leave out, twice as often."""
+    drawn = rng.randint(0, DEFAULT_EQUITY_CORRELATION)
+    return rng.choice([0, 1, 250, 500, 999, DEFAULT_EQUITY_CORRELATION, DEFAULT_EQUITY_CORRELATION, drawn, drawn])
+
+
+def random_shocks(rng, one):
+    """Shocks of which one(least, most) draws each but the last."""
+    return {name: one(0, SHOCK_LIMITS[name]) for name in FIELD_SHOCKS} | {"equity_correlation": random_equity_correlation(rng)}
+
+
 def random_case(rng, days=None, rate_bytes=2):
     """A case within all limits; often with an end of a limit in it, and often near a border."""
     units = reference.UNITS[rate_bytes]
@@ -196,7 +220,7 @@ def random_case(rng, days=None, rate_bytes=2):
         case = Case(ufr=one(0, 5_000), days=random_days(rng, days or rng.choice([1, 1, 2, 2, 3, 3, 3, 7]), units),
                     pension=flows(one(1, 120)), bonds=flows(rng.choice([0, 0, rng.randint(1, 60)])),
                     amounts=dict(zip(AMOUNTS, amounts)),
-                    shocks={name: one(0, SHOCK_LIMITS[name]) for name in SHOCKS},
+                    shocks=random_shocks(rng, one),
                     heads=one(1, 1_000_000), pension_age=one(0, 1_200), mean_age=one(0, 1_200), rate_bytes=rate_bytes)
         # Clamped rates may break refusal 6; such a draw is thrown away.
         if reference.growths_within_limits(case.days, units):
@@ -214,4 +238,5 @@ def near_border(rng, case):
 def presence(rng, case):
     """Which optional fields to write: all that are not at their absent value, and some of the others."""
     return (case.ufr != 4_200 or rng.random() < 0.5, bool(case.bonds),
-            any(case.amounts.values()) or rng.random() < 0.5)
+            any(case.amounts.values()) or rng.random() < 0.5,
+            case.shocks["equity_correlation"] != DEFAULT_EQUITY_CORRELATION or rng.random() < 0.5)

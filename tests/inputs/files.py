@@ -6,9 +6,10 @@ from itertools import combinations
 
 from tests.inputs import examples, limits
 from tests.reference import reference
-from tests.reference.reference import AMOUNTS, DAYS_BITS, LOWER, SHOCK_LIMITS, SHOCKS, UNITS, UPPER, Case, Rounded, encode
+from tests.reference.reference import (AMOUNTS, DAYS_BITS, EQUITY_BIT, FIELD_SHOCKS, LOWER, SHOCK_LIMITS, SHOCKS, UNITS, UPPER, Case,
+                                       Rounded, encode)
 
-LONGEST = {2: 9_223, 4: 17_623}  # bytes of the longest file, by the bytes of a rate
+LONGEST = {2: 9_225, 4: 17_625}  # bytes of the longest file, by the bytes of a rate
 
 
 def file_of(rng, case):
@@ -22,13 +23,14 @@ def random_files(rng, count, rate_bytes=2):
 # ---------------------------------------------------------------- four-byte days
 
 def rewritten(data):
-    """A file with bit 1, "rewritten to bit 7 with every rate times 100": the same other fields, and the days behind them. Its days field
-    must be complete."""
+    """A file with bit 1, "rewritten to bit 7 with every rate times 100": the same other fields, and the days behind them, but ahead of the
+    equity correlation. Its days field must be complete, and so must an equity correlation."""
     bits, count_at = int.from_bytes(data[:2], "big"), 4 if data[1] & 1 else 2
     rates_end = count_at + 1 + 120 * data[count_at]
+    equity = len(data) - (2 if bits & EQUITY_BIT else 0)
     rates = struct.unpack(f">{60 * data[count_at]}h", data[count_at + 1:rates_end])
     days = data[count_at:count_at + 1] + struct.pack(f">{len(rates)}i", *(100 * rate for rate in rates))
-    return (bits ^ 0x82).to_bytes(2, "big") + data[2:count_at] + data[rates_end:] + days
+    return (bits ^ 0x82).to_bytes(2, "big") + data[2:count_at] + data[rates_end:equity] + days + data[equity:]
 
 
 def rewritten_case(case):
@@ -52,12 +54,12 @@ def in_form(case, rate_bytes):
 
 def fewest_fields(rate_bytes=2):
     """The shortest acceptable file, of 160 bytes, or with four-byte days 280."""
-    return encode(examples.c1(amounts=dict.fromkeys(AMOUNTS, 0), rate_bytes=rate_bytes), False, False, False)
+    return encode(examples.c1(amounts=dict.fromkeys(AMOUNTS, 0), rate_bytes=rate_bytes), False, False, False, False)
 
 
 def all_fields(days=1, rate_bytes=2):
     """A file in which every field stands, and every number is another."""
-    return encode(in_form(replace(examples.up(), days=examples.up().days[:days]), rate_bytes), True, True, True)
+    return encode(in_form(replace(examples.apart(), days=examples.apart().days[:days]), rate_bytes), True, True, True, True)
 
 
 def rate_bytes_of(data):
@@ -75,13 +77,18 @@ def places(data):
     return n_at, n_at + 1, m_at, m_at + 1, k_at, k_at + 1, amounts_at, amounts_at + 64, amounts_at + 88
 
 
+def equity_at(data):
+    """Where the equity correlation stands in such a file: behind the people, or behind four-byte days."""
+    return places(data)[-1] + 8 if rate_bytes_of(data) == 2 else field_of_days(data)[1]
+
+
 def map_patches(bits):
     """A map in which all fields stand, with the days field of this map: a bit missing, a bit too many, both or neither of bits 1 and 7, the
-    other of them, and no optional field."""
+    other of them, no equity correlation, and no optional field."""
     days, other = (DAYS_BITS[2], DAYS_BITS[4]) if bits & DAYS_BITS[2] else (DAYS_BITS[4], DAYS_BITS[2])
     missing = [bits ^ bit for bit in (days, 1 << 2, 1 << 5, 1 << 6)]
-    standing = [bits | bit for bit in (other, *(1 << bit for bit in range(8, 16)))]
-    return [*missing, *standing, bits ^ 0x19, bits ^ days ^ other]
+    standing = [bits | bit for bit in (other, *(1 << bit for bit in range(9, 16)))]
+    return [*missing, *standing, bits ^ EQUITY_BIT, bits ^ EQUITY_BIT ^ 0x19, bits ^ days ^ other]
 
 
 def days_patches(data):
@@ -99,7 +106,7 @@ def patches(data):
     """Changes (offset, bytes) of a file in which all fields stand; nearly every one breaks one rule of the case file."""
     _, _, m_at, pension, k_at, bonds, amounts, shocks, people = places(data)
     number = lambda value, length: value.to_bytes(length, "big")
-    changed = [(0, number(bits, 2)) for bits in map_patches(data[1])]
+    changed = [(0, number(bits, 2)) for bits in map_patches(int.from_bytes(data[:2], "big"))]
     changed += [(2, number(ufr, 2)) for ufr in (5_000, 5_001, 0xFFFF)]
     changed += days_patches(data)
     changed += [(m_at, number(m, 1)) for m in (0, 120, 121, 255)]
@@ -108,8 +115,9 @@ def patches(data):
                 for flow in (100_000_000, 100_000_001, 0xFFFFFFFF)]
     changed += [(amounts + 8 * i, number(amount, 8)) for i in range(8)
                 for amount in (10 ** 11, 10 ** 11 + 1, 1 << 63, (1 << 64) - 1)]
-    changed += [(shocks + 2 * i, number(SHOCK_LIMITS[name] + more, 2)) for i, name in enumerate(SHOCKS)
+    changed += [(shocks + 2 * i, number(SHOCK_LIMITS[name] + more, 2)) for i, name in enumerate(FIELD_SHOCKS)
                 for more in (0, 1)]
+    changed += [(equity_at(data), number(thousandths, 2)) for thousandths in (0, 1, 999, 1_000, 1_001, 0xFFFF)]
     changed += [(people, number(heads, 4)) for heads in (0, 1, 1_000_000, 1_000_001, 0xFFFFFFFF)]
     return changed + [(people + at, number(age, 2)) for at in (4, 6) for age in (1_200, 1_201, 0xFFFF)]
 
@@ -151,7 +159,7 @@ def other_bytes(data, values, first=0, end=None):
 def long_files(rng):
     """Files of up to 100,000 bytes, refused for their first fault and not for their length."""
     for rate_bytes, longest in LONGEST.items():
-        full = encode(full_case(rng, rate_bytes), True, True, True)
+        full = encode(full_case(rng, rate_bytes), True, True, True, True)
         assert len(full) == longest
         mean_age = places(full)[-1] + 6
         for length in (1, 2, 777, 100_000 - longest):
@@ -159,7 +167,7 @@ def long_files(rng):
                 yield data + bytes(length)
     around = [longest + more for longest in LONGEST.values() for more in (-1, 0, 1)]
     for length in (*around, 20_000, 65_535, 65_536, 99_999, 100_000):
-        for start in (b"", b"\x00\x76", b"\x00\x7f\x00\x00\x46", b"\x00\x66\x01", b"\x00\xe4\x01", b"\x00\xfd\x00\x00\x78"):
+        for start in (b"", b"\x00\x76", b"\x01\x7f\x00\x00\x46", b"\x00\x66\x01", b"\x01\xe4\x01", b"\x01\xfd\x00\x00\x78"):
             yield start + bytes(length - len(start))
             yield start + rng.randbytes(length - len(start))
 
@@ -205,9 +213,11 @@ def extreme_case(rng, days=None, rate_bytes=2):
 
 
 def full_case(rng, rate_bytes=2):
-    """70 days, 120 pension flows and 60 bond flows."""
+    """70 days, 120 pension flows and 60 bond flows, and equity classes that do not fall together."""
     flows = lambda count: [rng.randint(1, 100_000_000) for _ in range(count)]
-    return replace(examples.random_case(rng, days=70, rate_bytes=rate_bytes), pension=flows(120), bonds=flows(60))
+    case = examples.random_case(rng, days=70, rate_bytes=rate_bytes)
+    return replace(case, pension=flows(120), bonds=flows(60),
+                   shocks=case.shocks | {"equity_correlation": rng.choice([0, 999, rng.randint(0, 999)])})
 
 
 def ends(rate_bytes=2):

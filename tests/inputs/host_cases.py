@@ -8,13 +8,13 @@ from dataclasses import replace
 
 from tests.inputs import examples, limits
 from tests.inputs.limits import AGE, AMOUNT, FLOW, HEADS, LEAST_RATE, MOST_RATE, MOST_UFR
-from tests.reference.reference import AMOUNTS, DEFAULT_UFR, SHOCK_LIMITS, SHOCKS, UNITS, Given
+from tests.reference.reference import AMOUNTS, DEFAULT_UFR, FIELD_SHOCKS, NO_SHOCKS, SHOCK_LIMITS, SHOCKS, UNITS, Given
 
 NO_AMOUNTS = dict.fromkeys(AMOUNTS, 0)
 NO_RATE_BYTES = [3, 0, 1, 5, 8, 256 + 2, (1 << 32) + 4, 1 << 63, (1 << 64) - 1]  # no rate has this many bytes; some pass by their lower bytes
 
 # One day, one flow, nothing that is not left out: 160 bytes, and 280 with four bytes a rate.
-SMALL = Given(ufr=DEFAULT_UFR, rates=[0] * 60, pension=[7], bonds=[], amounts=NO_AMOUNTS, shocks=dict.fromkeys(SHOCKS, 0), heads=1,
+SMALL = Given(ufr=DEFAULT_UFR, rates=[0] * 60, pension=[7], bonds=[], amounts=NO_AMOUNTS, shocks=NO_SHOCKS, heads=1,
               pension_age=0, mean_age=0)
 SMALL_FOUR = replace(SMALL, rate_bytes=4)
 
@@ -117,19 +117,23 @@ OF_OTHER_FIELDS = [  # the faults between the UFR and the people
     ("8 of the bonds", [changing("bonds", change) for change in (
         lambda bonds: [FLOW + 1, *bonds[1:]], lambda bonds: [*bonds[:-1], 1 << 32])]),
     ("10", [putting("amounts", name, AMOUNT + 1) for name in AMOUNTS]),
-    ("11", [putting("shocks", name, SHOCK_LIMITS[name] + 1) for name in SHOCKS]),
+    ("11", [putting("shocks", name, SHOCK_LIMITS[name] + 1) for name in FIELD_SHOCKS]),
     ("12", [putting("heads", None, 0), putting("heads", None, HEADS + 1), putting("pension_age", None, AGE + 1),
             putting("mean_age", None, AGE + 1)]),
 ]
 
 
+OF_EQUITY = ("11 of the equity correlation", [putting("shocks", "equity_correlation", value) for value in (1_001, 1 << 16, (1 << 64) - 1)])
+
+
 def faults(rate_bytes):
     """(refusal, the ways to be refused with it), in the order of checks of a case with this many bytes a rate: the days stand behind the UFR,
-    or behind the people."""
+    or behind the people; the equity correlation stands behind them all."""
     days, six = faults_of_days(rate_bytes)
     first = [("3", [putting("rate_bytes", None, value) for value in NO_RATE_BYTES]),
              ("9", [putting("ufr", None, MOST_UFR + 1), putting("ufr", None, (1 << 64) - 1)])]
-    return [*first, *days, *OF_OTHER_FIELDS, six] if rate_bytes == 2 else [*first, *OF_OTHER_FIELDS, *days, six]
+    fields = [*days, *OF_OTHER_FIELDS] if rate_bytes == 2 else [*OF_OTHER_FIELDS, *days]
+    return [*first, *fields, OF_EQUITY, six]
 
 
 FAULTS, FOUR_BYTE_FAULTS = faults(2), faults(4)
@@ -150,5 +154,5 @@ def random_case(rng, pool, rate_bytes=2):
                  rates=[rate for _ in range(rng.randint(1, 70)) for rate in rng.choice(pool)],
                  pension=flows(rng.randint(1, 120)), bonds=flows(rng.choice([0, rng.randint(1, 60)])),
                  amounts=rng.choice([NO_AMOUNTS, {name: one(0, AMOUNT) for name in AMOUNTS}]),
-                 shocks={name: one(0, SHOCK_LIMITS[name]) for name in SHOCKS},
+                 shocks=examples.random_shocks(rng, one),
                  heads=one(1, HEADS), pension_age=one(0, AGE), mean_age=one(0, AGE), rate_bytes=rate_bytes)

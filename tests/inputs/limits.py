@@ -6,9 +6,9 @@ A number that passes its check is mostly shown by a file that ends after the fie
 with four-byte days have groups of their own. Their days are the last field: a rate that passes 5 is shown by what comes after it, 0 or 6.
 """
 
-from tests.reference.reference import DAYS_BITS, REQUIRED_BITS, SHOCK_LIMITS, SHOCKS
+from tests.reference.reference import DAYS_BITS, EQUITY_BIT, FIELD_SHOCKS, REQUIRED_BITS, SHOCK_LIMITS
 
-UFR, BONDS, AMOUNTS = 1 << 0, 1 << 3, 1 << 4  # the bits of the optional fields
+UFR, BONDS, AMOUNTS, EQUITY = 1 << 0, 1 << 3, 1 << 4, EQUITY_BIT  # the bits of the optional fields
 REQUIRED = REQUIRED_BITS | DAYS_BITS[2]
 FLOW, AMOUNT, HEADS, AGE = 100_000_000, 100_000_000_000, 1_000_000, 1_200
 MOST_UFR, LEAST_RATE, MOST_RATE = 5_000, -1_000, 10_000  # the rates in steps
@@ -47,6 +47,7 @@ TO_BONDS = bits(BONDS) + DAYS + PENSION
 TO_AMOUNTS = bits(AMOUNTS) + DAYS + PENSION
 TO_SHOCKS = bits() + DAYS + PENSION
 TO_PEOPLE = TO_SHOCKS + SHOCKS_FIELD
+MOST_EQUITY = SHOCK_LIMITS["equity_correlation"]
 
 
 def put(values, at, value):
@@ -62,7 +63,7 @@ def map_rows():
     for bit in range(7, 16):
         yield f"bit {bit} standing", number(REQUIRED | 1 << bit, 2)
     yield "the map alone", bits()
-    yield "all optional bits", bits(UFR, BONDS, AMOUNTS)
+    yield "all optional bits", bits(UFR, BONDS, AMOUNTS, EQUITY)
 
 
 def ufr_rows():
@@ -101,7 +102,7 @@ def amount_rows():
 
 
 def shock_rows():
-    for at, name in enumerate(SHOCKS):
+    for at, name in enumerate(FIELD_SHOCKS):
         for shock in (SHOCK_LIMITS[name], SHOCK_LIMITS[name] + 1):
             yield f"{name}: {shock}", TO_SHOCKS + run(2, *put([0] * 12, at, shock))
     yield "short, and the first too high", TO_SHOCKS + run(2, 1_001, *[0] * 11)[:-1]
@@ -115,6 +116,27 @@ def people_rows():
     yield f"pension age {AGE + 1}", TO_PEOPLE + people(1, AGE + 1, 0)
     yield f"mean age {AGE + 1}", TO_PEOPLE + people(1, 0, AGE + 1)
     yield "short, and no head", TO_PEOPLE + people(0)[:-1]
+
+
+def equity_rows(front):
+    """The equity correlation behind all other fields; one that passes its check is the end of an accepted file."""
+    yield "nothing of it", front
+    yield "one byte of it, too high", front + b"\xff"
+    for thousandths in (0, MOST_EQUITY, MOST_EQUITY + 1, 0xFFFF):
+        yield f"{thousandths}", front + number(thousandths, 2)
+
+
+def equity_order_rows(front, behind):
+    """Two faults each, one of which is of the equity correlation: front is the other fields ahead of the people, behind is the days where
+    they come later."""
+    high, ending = number(MOST_EQUITY + 1, 2), people() + behind
+    yield "11 of the shocks before the equity correlation", front + run(2, *[0] * 11, 501) + ending + high
+    yield "12 before the missing equity correlation", front + SHOCKS_FIELD + people(0) + behind
+    yield "12 before 11 of the equity correlation", front + SHOCKS_FIELD + people(0) + behind + high
+    yield "1 before 11 of the equity correlation", front + SHOCKS_FIELD + ending + high[1:]
+    yield "11 of the equity correlation before 2", front + SHOCKS_FIELD + ending + high + b"\0"
+    yield "2 behind the equity correlation", front + SHOCKS_FIELD + ending + number(0, 2) + b"\0"
+    yield "2 for an equity correlation without its bit", number(front[0] & 0xFE, 1) + front[1:] + SHOCKS_FIELD + ending + number(0, 2)
 
 
 def order_rows():
@@ -136,6 +158,13 @@ def order_rows():
     yield "2 before 6", bits() + steep + PENSION + SHOCKS_FIELD + people() + b"\0"
     yield "2 alone", TO_PEOPLE + people() + b"\0"
     yield "none", TO_PEOPLE + people()
+    with_equity = bits(EQUITY)
+    yield from equity_order_rows(with_equity + DAYS + PENSION, b"")
+    yield "3 before 9, with the equity correlation", number(0x201 | EQUITY | REQUIRED, 2) + high
+    yield "5 before 11 of the equity correlation", (with_equity + rates(put(FLAT, 59, 10_001)) + PENSION + SHOCKS_FIELD + people()
+                                                    + number(MOST_EQUITY + 1, 2))
+    yield "11 of the equity correlation before 6", with_equity + steep + PENSION + SHOCKS_FIELD + people() + number(MOST_EQUITY + 1, 2)
+    yield "6 behind the equity correlation", with_equity + steep + PENSION + SHOCKS_FIELD + people() + number(0, 2)
 
 
 def steep_days(n, term, forward):
@@ -178,6 +207,7 @@ def part_rows():
 
 LEAST, MOST = -100_000, 1_000_000  # of a rate of four bytes
 TO_DAYS = bits(rate_bytes=4) + PENSION + SHOCKS_FIELD + people()  # the front of a file without the optional fields, up to its days
+TO_DAYS_WITH_EQUITY = bits(EQUITY, rate_bytes=4) + PENSION + SHOCKS_FIELD + people()  # and of one with an equity correlation behind them
 
 
 def four(*days):
@@ -195,7 +225,7 @@ def four_map_rows():
         yield f"bit {bit} missing", number(right ^ 1 << bit, 2)
     for bit in range(8, 16):
         yield f"bit {bit} standing", number(right | 1 << bit, 2)
-    yield "all optional bits", bits(UFR, BONDS, AMOUNTS, rate_bytes=4)
+    yield "all optional bits", bits(UFR, BONDS, AMOUNTS, EQUITY, rate_bytes=4)
     yield "all optional bits and both", number(right | bit_1 | UFR | BONDS | AMOUNTS, 2)
 
 
@@ -243,6 +273,21 @@ def four_order_rows():
     yield "6 alone", TO_DAYS + steep
     yield "2 alone", TO_DAYS + four(FLAT) + b"\0"
     yield "none", TO_DAYS + four(FLAT)
+    yield from four_equity_order_rows(high, steep)
+
+
+def four_equity_order_rows(high, steep):
+    """Two faults each, one of which is of the equity correlation, or of the days before it."""
+    equity = number(MOST_EQUITY + 1, 2)
+    yield from equity_order_rows(bits(EQUITY, rate_bytes=4) + PENSION, four(FLAT))
+    yield "1 of the count before 11 of the equity correlation", TO_DAYS_WITH_EQUITY
+    yield "4 before 11 of the equity correlation", TO_DAYS_WITH_EQUITY + b"\0" + equity
+    yield "1 of the rates before 11 of the equity correlation", TO_DAYS_WITH_EQUITY + four(FLAT)[:-3] + equity
+    yield "5 before the missing equity correlation", TO_DAYS_WITH_EQUITY + high
+    yield "5 before 11 of the equity correlation", TO_DAYS_WITH_EQUITY + high + equity
+    yield "11 of the equity correlation before 6", TO_DAYS_WITH_EQUITY + steep + equity
+    yield "6 behind the equity correlation", TO_DAYS_WITH_EQUITY + steep + number(0, 2)
+    yield "none, with an equity correlation", TO_DAYS_WITH_EQUITY + four(FLAT) + number(MOST_EQUITY, 2)
 
 
 def groups():
@@ -258,15 +303,18 @@ def groups():
     yield "amounts", "Each amount: 0 to 100,000,000,000.", list(amount_rows())
     yield "shocks", "Each shock, by its own limit.", list(shock_rows())
     yield "people", "H: 1 to 1,000,000; ages: 0 to 1,200.", list(people_rows())
+    yield "equity-correlation", "The equity correlation: 0 to 1,000.", list(equity_rows(bits(EQUITY) + TO_PEOPLE[2:] + people()))
     yield "forwards", "Error 6, one below and one above its limits.", list(forward_rows())
     yield "order", "The order of checks: two faults each.", list(order_rows())
 
 
 def four_byte_groups():
     """Likewise, of files with four-byte days."""
-    yield "four-map", "\"Exactly one of bits 1 and 7 stands, otherwise it's 3.\" Bits 8 to 15 must not.", list(four_map_rows())
+    yield "four-map", "\"Exactly one of bits 1 and 7 stands, otherwise it's 3.\" Bits 9 to 15 must not.", list(four_map_rows())
     yield "four-counts", "n: 1 to 70, behind the people.", list(count_rows(TO_DAYS, 70))
     yield "four-rates", "Each rate: -100,000 to 1,000,000.", list(four_rate_rows())
+    with_days = TO_DAYS_WITH_EQUITY + four(FLAT)
+    yield "four-equity-correlation", "The equity correlation: 0 to 1,000, behind the days.", list(equity_rows(with_days))
     yield "four-forwards", "Error 6, one below and one above its limits times 100.", list(four_forward_rows())
     yield "four-order", "The order of checks: two faults each.", list(four_order_rows())
 
@@ -282,12 +330,15 @@ QUICK = {
     "amounts": [f"amount 8: {AMOUNT + 1}", "short, and the first too high"],
     "shocks": ["spread: 10000", "duration: 501"],
     "people": ["all at their limits", f"{HEADS + 1} heads"],
+    "equity-correlation": ["one byte of it, too high", f"{MOST_EQUITY + 1}"],
     "forwards": ["1 days, term 2: 12001", "2 days, term 3: 24000"],
-    "order": ["3 before 9", "9 before 4", "4 before the missing rates", "12 before 2", "2 before 6"],
+    "order": ["3 before 9", "9 before 4", "4 before the missing rates", "12 before 2", "2 before 6",
+              "12 before 11 of the equity correlation", "11 of the equity correlation before 2"],
     "four-counts": ["no count", "71"],
     "four-rates": [f"{LEAST - 1}, day 1, term 1", f"{MOST + 1}, day 1, term 1", "short, and the first too high"],
+    "four-equity-correlation": [],
     "four-forwards": ["1 days, term 2: 1200000"],
-    "four-order": [],
+    "four-order": ["5 before 11 of the equity correlation"],
 }
 
 QUICK_PARTS = (1, 3, 4, 5, 6, 9)

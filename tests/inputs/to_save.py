@@ -13,7 +13,7 @@ from tests.inputs.host_cases import (FAULTS, NO_AMOUNTS, NO_RATE_BYTES, SMALL, S
                                      steep, values)
 from tests.inputs.limits import AMOUNT, FLOW, MOST_RATE
 from tests.reference import reference
-from tests.reference.reference import AMOUNTS, DEFAULT_UFR, SHOCKS
+from tests.reference.reference import AMOUNTS, DEFAULT_EQUITY_CORRELATION, DEFAULT_UFR, FIELD_SHOCKS
 
 # ---------------------------------------------------------------- at the limits
 
@@ -113,20 +113,25 @@ def order_rows(given=SMALL, faults=FAULTS):
 def omissions(given):
     """The case with what may be left out: there, left out, and close to it."""
     amounts = [NO_AMOUNTS, *(NO_AMOUNTS | {name: 1} for name in AMOUNTS), dict.fromkeys(AMOUNTS, AMOUNT)]
-    return [replace(given, ufr=ufr, bonds=bonds, amounts=one) for ufr in (DEFAULT_UFR, DEFAULT_UFR - 1, DEFAULT_UFR + 1, 0)
-            for bonds in ([], [0], [0] * 60) for one in amounts]
+    shocks = [given.shocks | {"equity_correlation": equity} for equity in (DEFAULT_EQUITY_CORRELATION, DEFAULT_EQUITY_CORRELATION - 1, 0)]
+    return [replace(given, ufr=ufr, bonds=bonds, amounts=one, shocks=other)
+            for ufr in (DEFAULT_UFR, DEFAULT_UFR - 1, DEFAULT_UFR + 1, 0) for bonds in ([], [0], [0] * 60)
+            for one in amounts for other in shocks]
 
 
 def omission_rows():
-    """A case with another number in every field, each combination of the three fields left out and there. A UFR that is there is one
-    step below 4,200 or one above it; a bond flow of 0 is no empty list; the amounts have a 0 in every place but the last."""
-    given = replace(SMALL, rates=flat(-500, 100), pension=[1_000_000, 7], shocks=dict(zip(SHOCKS, range(1, 13))), heads=100,
-                    pension_age=780, mean_age=460)
+    """A case with another number in every field, each combination of the four fields left out and there, but for those that differ in all
+    four from one that is among them in one. A UFR that is there is one step below 4,200 or one above it; a bond flow of 0 is no empty list;
+    the amounts have a 0 in every place but the last; an equity correlation is 0 or one below 1,000."""
+    given = replace(SMALL, rates=flat(-500, 100), pension=[1_000_000, 7], heads=100, pension_age=780, mean_age=460)
     for other, bonds, currency in product((False, True), ([], [0]), (0, 5)):
-        there = [name for name, stands in (("UFR", other), ("bonds", bonds), ("amounts", currency)) if stands]
+        equity = (other + len(bonds) + bool(currency)) % 2 == 1
+        there = [name for name, stands in (("UFR", other), ("bonds", bonds), ("amounts", currency), ("equity", equity)) if stands]
         ufr = DEFAULT_UFR + (0 if not other else 1 if bonds else -1)
+        correlation = DEFAULT_EQUITY_CORRELATION if not equity else 0 if bonds else DEFAULT_EQUITY_CORRELATION - 1
         yield "with " + (", ".join(there) or "no optional field"), replace(
-            given, ufr=ufr, bonds=bonds, amounts=NO_AMOUNTS | {"currency": currency})
+            given, ufr=ufr, bonds=bonds, amounts=NO_AMOUNTS | {"currency": currency},
+            shocks=dict(zip(FIELD_SHOCKS, range(1, 13))) | {"equity_correlation": correlation})
 
 
 # ---------------------------------------------------------------- numbers of any size

@@ -321,8 +321,8 @@ def four_value_rows():
 
 
 # Where the case's own checks begin and end. Their order among themselves is that of a case that is saved.
-QUICK = ["27 before 13", "13 before 3", "12 before 6", "6 before 4 of the window", "4 of the window before 6 of the window",
-         "6 of the window", "none"]
+QUICK = ["27 before 13", "13 before 3", "12 before 11 of the equity correlation", "11 of the equity correlation before 6",
+         "6 before 4 of the window", "4 of the window before 6 of the window", "6 of the window", "none"]
 
 
 def quick_value_rows():

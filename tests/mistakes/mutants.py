@@ -7,6 +7,7 @@ no proof touched.
     --list                  prints them and runs nothing
     --file Exact,Curve      those of some files (model/Exact, where two crates have one of that name)
     --kind up,order         those of some kinds of mistakes
+    --since COMMIT          those at lines that a commit does not have
     --part 2/5              every fifth, from the second on
     --minutes 30 --seed 7   in an order drawn by a seed, for half an hour; says what was not tried
     --only KEY              one of them, with all that the prover says
@@ -40,6 +41,7 @@ The programs (ginghamowl, command, report, batch, answers, searches) and their t
 
 import argparse
 import copy
+import functools
 import hashlib
 import json
 import os
@@ -69,7 +71,7 @@ DEFINITIONS = {
     "arith": "Rounding Root Brackets",
     "refusal": "Numbered Promises",
     "model": "Constants Numbers Case Limits Fields Layout Refusals Sizes Promises",
-    "method": "Fraction Brackets Curve Exact Rounded Margins Containment Buffers Window Listing FourBytes Bonds Sizes TwelveFiles Promises",
+    "method": "Fraction Brackets Curve Exact Rounded Margins Containment EquityClasses Buffers Window Listing FourBytes Bonds Sizes TwelveFiles Promises",
     "heldcase": "Held",
     "savingmodel": "Saving Forms Promises",
     "rollingmodel": "Rolling Promises",
@@ -612,6 +614,7 @@ def options(argv):
     parser.add_argument("--list-same", action="store_true")
     parser.add_argument("--file", metavar="NAME,..", type=lambda text: text.split(","))
     parser.add_argument("--kind", metavar="KIND,..", type=lambda text: text.split(","))
+    parser.add_argument("--since", metavar="COMMIT")
     parser.add_argument("--part", metavar="K/N", type=part)
     parser.add_argument("--only", metavar="KEY")
     which = parser.add_mutually_exclusive_group()
@@ -640,6 +643,16 @@ def all_mutants(args, deps):
     return mutant_edits.code_mutants(ROOT, set(deps))
 
 
+@functools.cache
+def lines_since(commit, path):
+    """The lines of a file that a commit does not have, or has otherwise."""
+    said = subprocess.run(["git", "-C", ROOT, "diff", "--no-color", "-U0", commit, "--", path], capture_output=True, text=True)
+    if said.returncode:
+        sys.exit(f"mutants: {said.stderr.strip()}")
+    hunks = re.findall(r"^@@ \S+ \+(\d+)(?:,(\d+))? @@", said.stdout, re.MULTILINE)
+    return {line for first, count in hunks for line in range(int(first), int(first) + int(count or 1))}
+
+
 def chosen(mutants, args):
     """The mutants that the words of the command name, in the order in which they are tried."""
     if args.only:
@@ -648,6 +661,8 @@ def chosen(mutants, args):
         mutants = [m for m in mutants if where(m.path) in args.file or where(m.path).rpartition("/")[2] in args.file]
     if args.kind:
         mutants = [m for m in mutants if m.kind in args.kind]
+    if args.since:
+        mutants = [m for m in mutants if m.line in lines_since(args.since, m.path)]
     if args.code is not None:
         mutants = random.Random(args.seed or 0).sample(mutants, min(args.code, len(mutants)))
     elif args.seed is not None:

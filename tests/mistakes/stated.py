@@ -61,10 +61,12 @@ def clause(texts, i):
 
 
 def types_alone(text):
-    """A file of code without its functions, and without what only they use."""
+    """A file of code without its functions, and without what only they use. What ghost code uses is kept where a type has ghost fields."""
     kept = [(word, item) for word, item in code_items(text) if word in KEPT or re.search(r"^impl\b[^{]*\bModel for\b", item)]
     words = set(re.findall(r"\w+", " ".join(item for word, item in kept if word != "use")))
-    items = [item for word, item in kept if word != "use" or (not item.startswith("ghost") and words & last_names(item))]
+    ghosts = any(word == "struct" and re.search(r"\bghost\b", item) for word, item in kept)
+    used = lambda item: ghosts if item.startswith("ghost") else bool(words & last_names(item))
+    items = [item for word, item in kept if word != "use" or used(item)]
     return "\n".join(["#![tactic(auto)]", *items]) + "\n"
 
 

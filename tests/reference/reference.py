@@ -3,7 +3,8 @@
 It has the case file and its refusals, saving a case, the exact working, the rounded working with bonds off the adjusted curve, the search
 for a zero rate, and containment and width. For rates in four bytes it rests on readings too (decisions 183 and 184), which it shares with
 the definitions: the days field of bit 7 comes after the people, and its checks come in that place; a case that a host hands in says by a
-number, 2 or 4, how many bytes its rates have, and any other number is refused with 3 ahead of the checks of the case.
+number, 2 or 4, how many bytes its rates have, and any other number is refused with 3 ahead of the checks of the case. Of the correlation
+between the equity classes it shares the reading that its field is the last one of a file, behind four-byte days too, and is checked there.
 Whole numbers and fractions only; no float occurs.
 Command line: python3 -m tests.reference.reference FILE   (- reads standard input)
 """
@@ -12,20 +13,25 @@ import sys
 from dataclasses import dataclass
 from fractions import Fraction
 from functools import cached_property
+from itertools import combinations
 from math import isqrt
 from typing import NamedTuple
 
 # ---------------------------------------------------------------- the case file
 
 AMOUNTS = "mature emerging private property commodities credit cash currency".split()
-SHOCKS = ("up_shift down_shift mature_fall emerging_fall private_fall property_fall currency_fall "
-          "commodities_fall spread_rise correlation spread duration").split()
-# Shifts in steps; eight in thousandths; the spread in steps; the duration in tenths of a year.
-SHOCK_LIMITS = dict(zip(SHOCKS, [1_000, 1_000] + [1_000] * 8 + [10_000, 500]))
+FIELD_SHOCKS = ("up_shift down_shift mature_fall emerging_fall private_fall property_fall currency_fall "
+                "commodities_fall spread_rise correlation spread duration").split()  # those of bit 5
+SHOCKS = [*FIELD_SHOCKS, "equity_correlation"]  # the last one has a field of its own, of bit 8
+# Shifts in steps; eight in thousandths; the spread in steps; the duration in tenths of a year; the last one in thousandths.
+SHOCK_LIMITS = dict(zip(SHOCKS, [1_000, 1_000] + [1_000] * 8 + [10_000, 500, 1_000]))
 DEFAULT_UFR = 4_200  # "A file without this field has a UFR of 4,200."
+DEFAULT_EQUITY_CORRELATION = 1_000  # that of a file without its field: the equity classes fall together
+NO_SHOCKS = dict.fromkeys(FIELD_SHOCKS, 0) | {"equity_correlation": DEFAULT_EQUITY_CORRELATION}  # nothing falls or moves
 STEPS = 100_000  # "A rate step is 0.00001", so 1 is 100,000 steps.
 REQUIRED_BITS = 0b0110_0100  # "Bits 1, 2, 5 and 6 must stand", without bit 1, which bit 7 may take the place of
-FORBIDDEN_BITS = 0xFF00  # "bits 7 to 15 must not", without bit 7
+FORBIDDEN_BITS = 0xFE00  # bits 9 to 15
+EQUITY_BIT = 1 << 8  # of the correlation between the equity classes: two bytes, the last field of a file
 # The two days fields, by the bytes of a rate.
 DAYS_BITS = {2: 1 << 1, 4: 1 << 7}  # "Bit 7 announces a days field of the same form whose rates are four bytes"
 UNITS = {2: 1, 4: 100}  # how many units of a rate are a step: its unit is 0.00001, or "steps of 0.0000001"
@@ -137,7 +143,13 @@ def check_amounts(amounts):
 
 
 def check_shocks(shocks):
-    refuse_unless(all(shocks[name] <= SHOCK_LIMITS[name] for name in SHOCKS), 11)
+    """Those of bit 5."""
+    refuse_unless(all(shocks[name] <= SHOCK_LIMITS[name] for name in FIELD_SHOCKS), 11)
+
+
+def check_equity_correlation(thousandths):
+    """In the place of its field: behind the people and behind four-byte days."""
+    refuse_unless(thousandths <= SHOCK_LIMITS["equity_correlation"], 11)
 
 
 def check_people(heads, pension_age, mean_age):
@@ -191,9 +203,16 @@ def read_amounts(cursor):
 
 
 def read_shocks(cursor):
-    shocks = dict(zip(SHOCKS, cursor.numbers(12, 2)))
+    """The twelve of bit 5; the thirteenth has its absent value."""
+    shocks = dict(zip(FIELD_SHOCKS, cursor.numbers(12, 2)))
     check_shocks(shocks)
-    return shocks
+    return NO_SHOCKS | shocks
+
+
+def read_equity_correlation(cursor):
+    [thousandths] = cursor.numbers(1, 2)
+    check_equity_correlation(thousandths)
+    return thousandths
 
 
 def read_people(cursor):
@@ -220,6 +239,8 @@ def read_fields(data):
     people = read_people(cursor)
     if stands(7):
         days, part = read_days(cursor, rate_bytes)
+    if stands(8):
+        shocks["equity_correlation"] = read_equity_correlation(cursor)
     refuse_unless(cursor.offset == len(data), 2)
     check_growths(days, UNITS[rate_bytes])
     return Case(ufr, days, pension, bonds, amounts, shocks, *people, rate_bytes), part
@@ -247,16 +268,21 @@ def rates_part(data: bytes) -> tuple[int, int]:
     return read_with_part(data)[1]
 
 
-def encode(case: Case, ufr_present: bool, bonds_present: bool, amounts_present: bool) -> bytes:
-    """The case file of a case. Checks no limits, so that bad files can be built as well."""
+def encode(case: Case, ufr_present: bool, bonds_present: bool, amounts_present: bool, equity_present: bool | None = None) -> bytes:
+    """The case file of a case; where nothing is said of the equity correlation, its field stands where it must. Checks no limits, so that
+    bad files can be built as well."""
+    equity = case.shocks["equity_correlation"]
+    if equity_present is None:
+        equity_present = equity != DEFAULT_EQUITY_CORRELATION
     if not ((ufr_present or case.ufr == DEFAULT_UFR) and (bonds_present or not case.bonds)
-            and (amounts_present or not any(case.amounts.values()))):
+            and (amounts_present or not any(case.amounts.values())) and (equity_present or equity == DEFAULT_EQUITY_CORRELATION)):
         raise ValueError("a field left out does not have its absent value")
     number = lambda value, length: value.to_bytes(length, "big")
     flows = lambda values: number(len(values), 1) + b"".join(number(flow, 4) for flow in values)
     days = number(len(case.days), 1)
     days += b"".join(rate.to_bytes(case.rate_bytes, "big", signed=True) for day in case.days for rate in day)
-    out = number(REQUIRED_BITS | DAYS_BITS[case.rate_bytes] | ufr_present << 0 | bonds_present << 3 | amounts_present << 4, 2)
+    out = number(REQUIRED_BITS | DAYS_BITS[case.rate_bytes] | ufr_present << 0 | bonds_present << 3 | amounts_present << 4
+                 | equity_present * EQUITY_BIT, 2)
     if ufr_present:
         out += number(case.ufr, 2)
     if case.rate_bytes == 2:
@@ -266,9 +292,11 @@ def encode(case: Case, ufr_present: bool, bonds_present: bool, amounts_present: 
         out += flows(case.bonds)
     if amounts_present:
         out += b"".join(number(case.amounts[name], 8) for name in AMOUNTS)
-    out += b"".join(number(case.shocks[name], 2) for name in SHOCKS)
+    out += b"".join(number(case.shocks[name], 2) for name in FIELD_SHOCKS)
     out += number(case.heads, 4) + number(case.pension_age, 2) + number(case.mean_age, 2)
-    return out + days if case.rate_bytes == 4 else out
+    if case.rate_bytes == 4:
+        out += days
+    return out + number(equity, 2) if equity_present else out
 
 
 # ---------------------------------------------------------------- saving a case: METHOD, Saving a case
@@ -331,6 +359,7 @@ def check_case(given):
     check_people(given.heads, given.pension_age, given.mean_age)
     if given.rate_bytes == 4:
         check_given_days(given.rates, units)
+    check_equity_correlation(given.shocks["equity_correlation"])
     check_growths(in_days(given.rates), units)
 
 
@@ -345,8 +374,9 @@ def case_refusal(given: Given) -> int:
 
 def needed_fields(case):
     """Which optional fields stand, as encode takes them: "A UFR of 4,200, an all-zero amounts field and an empty bond list are left
-    out"."""
-    return case.ufr != DEFAULT_UFR, bool(case.bonds), any(case.amounts.values())
+    out", and an equity correlation of 1,000."""
+    return (case.ufr != DEFAULT_UFR, bool(case.bonds), any(case.amounts.values()),
+            case.shocks["equity_correlation"] != DEFAULT_EQUITY_CORRELATION)
 
 
 def shortest(given: Given) -> bytes:
@@ -457,8 +487,35 @@ def exact_nsa_squared(case):
     return Fraction(3_600, case.heads)
 
 
+@dataclass(frozen=True)
+class Surd:
+    """The number plain + factor x root(radicand), of fractions; factor and radicand are not below 0. It is compared with fractions alone:
+    what they exceed the plain part by is compared with the rest, through squares."""
+    plain: Fraction
+    factor: Fraction
+    radicand: Fraction
+
+    @property
+    def rest_squared(self):
+        return self.factor ** 2 * self.radicand
+
+    def __ge__(self, x):
+        return at_most_root(x - self.plain, self.rest_squared)
+
+    def __le__(self, x):
+        return root_at_most(self.rest_squared, x - self.plain)
+
+
+EQUITY = "mature", "emerging", "private", "property"  # the four classes of S2
+
+
+def pairs_product_sum(losses):
+    """The products of all pairs, each pair once: six of four losses."""
+    return sum(one * other for one, other in combinations(losses, 2))
+
+
 class Exact:
-    """The exact working of one case: money in cents, S6 and S as their squares."""
+    """The exact working of one case: money in cents, S2, S6 and S as their squares."""
 
     def __init__(self, case):
         self.case = case
@@ -491,8 +548,11 @@ class Exact:
         return Fraction(100 * self.case.amounts[name] * self.case.shocks[name + "_fall"], 1_000)
 
     @cached_property
-    def S2(self):
-        return sum(self.loss(name) for name in ("mature", "emerging", "private", "property"))
+    def S2_squared(self):
+        """The squares of the four losses, and twice the equity correlation times each pair's product."""
+        losses = [self.loss(name) for name in EQUITY]
+        correlation = Fraction(self.case.shocks["equity_correlation"], 1_000)
+        return sum(loss ** 2 for loss in losses) + 2 * correlation * pairs_product_sum(losses)
 
     @cached_property
     def S3(self):
@@ -516,26 +576,31 @@ class Exact:
 
     @cached_property
     def S_squared(self):
+        """"the root of S1^2 + S2^2 + 2 x correlation x S1 x S2 + S3^2 + S4^2 + S5^2 + S6^2": in the mixed term S2 is a root."""
         correlation = Fraction(self.case.shocks["correlation"], 1_000)
-        small = self.S2 ** 2 + self.S3 ** 2 + self.S4 ** 2 + self.S5 ** 2
-        return self.S1 ** 2 + 2 * correlation * self.S1 * self.S2 + small + self.S6_squared
+        squares = self.S1 ** 2 + self.S2_squared + self.S3 ** 2 + self.S4 ** 2 + self.S5 ** 2 + self.S6_squared
+        return Surd(squares, 2 * correlation * self.S1, self.S2_squared)
 
     @cached_property
     def verdict(self):
-        if 20 * self.A < 21 * self.L:
-            return DEKKINGSTEKORT
-        if not root_at_most(self.S_squared, self.A - self.L):  # A < L + S
-            return RESERVETEKORT
-        return VRIJ_VERMOGEN
+        return exact_verdict(self.A, self.L, self.S_squared)
+
+
+def exact_verdict(A, L, S_squared):
+    if 20 * A < 21 * L:
+        return DEKKINGSTEKORT
+    if not root_at_most(S_squared, A - L):  # A < L + S
+        return RESERVETEKORT
+    return VRIJ_VERMOGEN
 
 
 def at_most_root(x, square):
-    """x <= root(square), through squares."""
-    return x <= 0 or x * x <= square
+    """x <= root(square), through squares. A square that is a surd is compared by squaring once more."""
+    return x <= 0 or square >= x * x
 
 
 def root_at_most(square, x):
-    """root(square) <= x, through squares."""
+    """root(square) <= x, likewise."""
     return x >= 0 and square <= x * x
 
 
@@ -544,6 +609,8 @@ def root_at_most(square, x):
 ONE = 10 ** 12  # "Factors count 10^-12"
 LOWER, UPPER = ENDS = 0, 1  # a bracket is the pair (lower, upper)
 MONEY = "L B A S1 S2 S3 S4 S5 S6 S".split()
+ROOTS = "S2 S6 S".split()  # in general no fractions: Exact has their squares
+EXACT = [f"{name}_squared" if name in ROOTS else name for name in MONEY]  # what Exact has of each figure
 
 
 def divide(a, b, end):
@@ -734,8 +801,17 @@ def rounded_S1(falls):
 
 
 def rounded_once(numerator, denominator):
-    """"S2 to S5 round once": both ends of one quotient."""
+    """S3 to S5: both ends of one quotient."""
     return tuple(divide(numerator, denominator, end) for end in ENDS)
+
+
+def rounded_S2(losses, correlation):
+    """Both ends of one root, of whole tenths of a cent and thousandths: 1,000 x 10^2 of a cent squared.
+
+    The quotient may be rounded before the root: floor(root x) = floor(root(floor x)), likewise up.
+    """
+    square = 1_000 * sum(loss ** 2 for loss in losses) + 2 * correlation * pairs_product_sum(losses)
+    return tuple(root(divide(square, 100_000, end), end) for end in ENDS)
 
 
 def rounded_S6(L, case):
@@ -791,8 +867,7 @@ class Rounded:
                       for name, shift in shifts(case).items() if name != "base"}
         self.S1 = rounded_S1(self.falls.values())
         # A euro's thousandth is a tenth of a cent.
-        self.S2 = rounded_once(sum(amounts[name] * shocks[name + "_fall"]
-                                   for name in ("mature", "emerging", "private", "property")), 10)
+        self.S2 = rounded_S2([amounts[name] * shocks[name + "_fall"] for name in EQUITY], shocks["equity_correlation"])
         self.S3 = rounded_once(amounts["currency"] * shocks["currency_fall"], 10)
         self.S4 = rounded_once(amounts["commodities"] * shocks["commodities_fall"], 10)
         # 100 cents, over tenths of a year, rate steps and thousandths: 10 x 100,000 x 1,000 / 100.
@@ -811,10 +886,19 @@ class Rounded:
 
 # ---------------------------------------------------------------- containment and width
 
+def in_bracket(exact, name, bracket):
+    """Whether the exact figure of that name lies in a bracket; a root through its square."""
+    lower, upper = bracket
+    if name in ROOTS:
+        square = getattr(exact, f"{name}_squared")
+        return at_most_root(lower, square) and root_at_most(square, upper)
+    return lower <= getattr(exact, name) <= upper
+
+
 def containment_and_width(case: Case, exact=None, rounded=None) -> list[str]:
     """The sentences of containment and width that the case breaks; none when all hold.
 
-    "S6, S and a zero rate are compared with other numbers through squares or t-th powers".
+    S2, S6, S and a zero rate are compared with other numbers through squares or t-th powers.
     """
     exact, rounded = exact or Exact(case), rounded or Rounded(case)
     broken = []
@@ -836,12 +920,8 @@ def containment_and_width(case: Case, exact=None, rounded=None) -> list[str]:
         check(Fraction(STEPS + lower, STEPS) ** t <= product <= Fraction(STEPS + upper, STEPS) ** t,
                f"exact zero rate {t} lies in its bracket")
         narrow((lower, upper), 2, f"zero rate {t}")
-    for name in MONEY[:8]:
-        lower, upper = getattr(rounded, name)
-        check(lower <= getattr(exact, name) <= upper, f"exact {name} lies in its bracket")
-    for name, square in (("S6", exact.S6_squared), ("S", exact.S_squared)):
-        lower, upper = getattr(rounded, name)
-        check(at_most_root(lower, square) and root_at_most(square, upper), f"exact {name} lies in its bracket")
+    for name in MONEY:
+        check(in_bracket(exact, name, getattr(rounded, name)), f"exact {name} lies in its bracket")
     WL, WB = rounded.WL, rounded.WB
     narrow(rounded.L, WL, "L")
     narrow(rounded.B, WB, "B")

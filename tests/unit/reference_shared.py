@@ -19,9 +19,9 @@ V VRIJ VERMOGEN
 """
 
 # A file with every field, n = 3, m = 3, k = 5.
-FULL_FILE = encode(examples.up(), True, True, True)
+FULL_FILE = encode(examples.apart(), True, True, True)
 # Offsets of its fields after the map, and of the end.
-UFR, DAYS, PENSION, BONDS, VALUES, SHOCKS_AT, PEOPLE, END = 2, 4, 365, 378, 399, 463, 487, 495
+UFR, DAYS, PENSION, BONDS, VALUES, SHOCKS_AT, PEOPLE, EQUITY, END = 2, 4, 365, 378, 399, 463, 487, 495, 497
 
 # (refusal, offset, wrong bytes, least length at which the fault is seen); in the order of checks
 FAULTS = [
@@ -29,7 +29,7 @@ FAULTS = [
     (5, DAYS + 1, b"\xfc\x17", PENSION), (7, PENSION, b"\x79", PENSION + 1),
     (8, PENSION + 1, b"\x05\xf5\xe1\x01", BONDS), (7, BONDS, b"\x3d", BONDS + 1),
     (8, BONDS + 17, b"\xff\xff\xff\xff", VALUES), (10, VALUES + 56, b"\x80" + bytes(7), SHOCKS_AT),
-    (11, SHOCKS_AT + 22, b"\x01\xf5", PEOPLE), (12, PEOPLE, bytes(4), END), (2, END, b"\x00", END + 1),
+    (11, SHOCKS_AT + 22, b"\x01\xf5", PEOPLE), (12, PEOPLE, bytes(4), EQUITY), (11, EQUITY, b"\x03\xe9", END), (2, END, b"\x00", END + 1),
     # rates 10,000 at term 60 of all three days, the others being far lower
     (6, DAYS + 1, None, END),
 ]

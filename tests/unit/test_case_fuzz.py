@@ -16,7 +16,8 @@ sys.path[:0] = [str(ROOT / "tools")]
 from casetext import Fault, Wrong, explain, from_toml, month_warnings, months, read, template, to_toml, warnings_of, write
 
 UP = read((ROOT / "cases" / "up.case").read_bytes())
-FOUR = replace(UP, rate_bytes=4, days=[[100 * rate + 37 * term % 100 for term, rate in enumerate(day)] for day in UP.days])
+FOUR = replace(UP, rate_bytes=4, days=[[100 * rate + 37 * term % 100 for term, rate in enumerate(day)] for day in UP.days],
+               equity_correlation=250)
 DAYS = (ROOT / "cases" / "fund-days.csv").read_text("utf-8")
 FUND = (ROOT / "cases" / "fund.toml").read_text("utf-8")
 FUND_FOUR = FUND.replace('unit = "%"', 'rate_bytes = 4\nunit = "%"')
@@ -26,7 +27,7 @@ FLOWS = ["term;flow\n1;31.415.927\n2;27182818\n3;€ 16.180.339,00\n", "1;2;3\n3
 PIECES = ["", "0", "1", "-1", "25", "4.2", "1.000", "1,000", "1.000.000", "nan", "inf", "1e999999999", "0x" + "f" * 50, "9" * 60,
           "true", "[]", "{}", "[[", '"', "'", '"""', "\\", "\\u0000", "#", "=", ",", ";", "\t", "\n", "\r", "\x00", "\x1b", "\ufeff",
           "é", "€", "%", " %", '"25 %"', '"25"', '"1 step"', '"66 years 3 months"', '"5 euros"', "2025-01-02", "[days]",
-          "[flows]", "rate_bytes = 4\n", "rate_bytes = 2\n", "0.22613", "22.613",
+          "[flows]", "rate_bytes = 4\n", "rate_bytes = 2\n", 'equity_correlation = "50 %"\n', "0.22613", "22.613",
           "unit", "csv", "header = true\n", "labels = true\n", 'lines = "terms"\n', 'unit = "bp"\n', "1;2;3\n",
           ";".join(map(str, range(1, 61))) + "\n", "term", "\u2212", "\u0663", "½", "\u2028"]
 

@@ -39,8 +39,44 @@ class Texts(unittest.TestCase):
         for line in ('ufr = "4.2 %"', 'unit = "%"', 'up_shift = "0.71 %"', 'mature_fall = "25 %"', 'spread_rise = "40 %"',
                      'correlation = "50 %"', 'spread = "1.24 %"', 'duration = "5.3 years"', 'pension_age = "66 years"',
                      'mean_age = "45 years 11 months"', "heads = 4180", "[amounts]  # in euros", "cash = 4850000"):
-            self.assertIn(line + "\n", text)
+            self.assertIn("\n" + line + "\n", text)
         self.assertNotRegex(text, "steps|thousandths|tenths")
+
+    def test_equity_correlation(self):
+        """Written exactly where the file has the field, with a comment that tells it from the other correlation; left out it is absent."""
+        comment = "  # between the four equity and property classes, in the field of bit 8"
+        without = to_toml(replace(read(UP), equity_correlation=None))
+        self.assertNotIn("equity_correlation", without)
+        self.assertIsNone(from_toml(without).equity_correlation)
+        for correlation, said in ((0, "0 %"), (1, "0.1 %"), (250, "25 %"), (999, "99.9 %"), (1_000, "100 %")):
+            for case in (read(UP), FOUR):
+                case = replace(case, equity_correlation=correlation)
+                text = to_toml(case)
+                self.assertIn(f'\nduration = "7.3 years"\nequity_correlation = "{said}"{comment}\n\n[people]\n', text)
+                self.assertEqual((from_toml(text), read(write(from_toml(text)))), (case, case))
+
+    def with_correlation(self, value):
+        without = to_toml(replace(read(UP), equity_correlation=None))
+        return self.changed(("[people]", f"equity_correlation = {value}\n[people]"), text=without)
+
+    def test_equity_correlation_in_other_units(self):
+        for value, thousandths in (('"50 %"', 500), ('"500 thousandths"', 500), ('"37,5 procent"', 375), ('"1 thousandth"', 1),
+                                   ('"0 %"', 0)):
+            self.assertEqual(from_toml(self.with_correlation(value)).equity_correlation, thousandths)
+
+    def test_faults_of_the_equity_correlation(self):
+        advice = 'write it in % or thousandths, such as "50 %"'
+        for value, said in (("50", f"is 50 without a unit; {advice}"), ("0", f"is 0 without a unit; {advice}"),
+                            ("true", f"is true; {advice}"), ('"100.1 %"', "is 100.1 %; it must be 0 % to 100 %"),
+                            ('"-0.1 %"', "is -0.1 %; it must be 0 % to 100 %"),
+                            ('"0.05 %"', "is 0.05 %, which is no whole number of thousandths; the nearest are 0 % and 0.1 %"),
+                            ('""', f"is empty; {advice}, or delete the line: without it the four classes fall together, which is 100 %")):
+            self.assertEqual(self.faults(self.with_correlation(value)), [f"shocks.equity_correlation {said}"])
+        for key in ("equity_corelation", "equity_correlaton", "equitycorrelation"):
+            [fault] = self.faults(self.with_correlation('"50 %"').replace("equity_correlation", key))
+            self.assertEqual(fault, f"shocks.{key} is no key of a case; did you mean shocks.equity_correlation?")
+        [fault] = self.faults('equity_correlation = "50 %"\n' + to_toml(replace(read(UP), equity_correlation=None)))
+        self.assertEqual(fault, "equity_correlation is no key of a case; did you mean shocks.equity_correlation?")
 
     def test_four_bytes(self):
         """decode says the form and writes each decimal of a rate; nothing else of the text is another."""
@@ -290,7 +326,7 @@ class Texts(unittest.TestCase):
     def test_all_faults_at_once(self):
         faults = self.faults(self.changed(
             ('ufr = "4.321 %"', "ufr = 4.2"), ('mature_fall = "25.1 %"', "mature_fall = 25"),
-            ("correlation =", "corelation ="), ('duration = "7.3 years"', 'duration = "73 months"'), ("heads = 1237", ""),
+            ("\ncorrelation =", "\ncorelation ="), ('duration = "7.3 years"', 'duration = "73 months"'), ("heads = 1237", ""),
             ('pension_age = "67 years"', 'pension_age = "67"'), ("cash = 111213", "cash = 1.0"), ("27182818", "-1"),
             ("0.206, 0.225,", '0.206, "?",')))
         starts = ["shocks.corelation is no key of a case; did you mean shocks.correlation?", "ufr is 4.2 without a unit",
@@ -305,7 +341,7 @@ class Texts(unittest.TestCase):
         faults = self.faults("")
         for key in ["days.rates", "flows.pension", *("shocks." + key for key in KEYS["shocks"]),
                     *("people." + key for key in KEYS["people"])]:
-            self.assertEqual(sum(fault.startswith(f"{key} is missing") for fault in faults), 1, key)
+            self.assertEqual(sum(fault.startswith(f"{key} is missing") for fault in faults), key != "shocks.equity_correlation", key)
         self.assertEqual(len(faults), 17)
         faults = self.faults("days = 1\nflows = []\nshocks = 'x'\npeople = 2025-01-01\namounts = 1.5")
         for name in ("days", "flows", "shocks", "people", "amounts"):
@@ -419,7 +455,8 @@ class Template(unittest.TestCase):
                       "Optional; without it the UFR is 4.2 %", "optional; without it there are none",
                       "without this table all eight are 0", "0 % to 5 %", "-1 % to 10 %", "0 % to 100 %", "0 years to 50 years",
                       "0 years to 100 years", "1 to 1,000,000", "0 euros to 100,000,000,000 euros", "1 to 120 flows",
-                      "%, bp or steps", "% or thousandths", "years or months", '"fraction" (0.00226 is 0.226 %)'):
+                      "%, bp or steps", "% or thousandths", "years or months", '"fraction" (0.00226 is 0.226 %)',
+                      "without it this is 100 %: mature, emerging and private equity and property", "S2 is the sum of their losses"):
             self.assertIn(words, text)
 
     def test_filled_in(self):
@@ -430,7 +467,9 @@ class Template(unittest.TestCase):
         case = from_toml(text)
         self.assertEqual(from_toml(text.replace("[days]", "[days]\nrate_bytes = 4")), replace(case, rate_bytes=4, days=[[22_600] * 60]))
         self.assertEqual((case.rate_bytes, case.ufr, case.shocks["mature_fall"], case.people["pension_age"]), (2, 4_200, 250, 795))
+        self.assertEqual(case.equity_correlation, 500)
         self.assertIsNone(case.bonds)
+        self.assertEqual(from_toml(re.sub("(?m)^equity_correlation.*\n", "", text)), replace(case, equity_correlation=None))
 
 
 if __name__ == "__main__":

@@ -57,6 +57,15 @@ class Warnings(unittest.TestCase):
                 self.warned(self.holding(case, **{held: 0}))
                 self.warned(self.holding(case, **{held: 1}), f"shocks.{name} is ", f"amounts.{held} is ")
 
+    def test_equity_correlation(self):
+        """A file without the field has 100 %."""
+        slip = "; was a percentage typed in thousandths, or left at 0, which gives the smallest buffer?"
+        for correlation, said in ((None, ()), (1_000, ()), (250, ()), (249, ("is 24.9 %, below 25 %",)), (50, ("is 5 %, below 25 %",)),
+                                  (0, ("is 0 %, below 25 %",))):
+            self.warned(replace(FUND, equity_correlation=correlation), *(f"shocks.equity_correlation {words}{slip}" for words in said))
+        self.warned(replace(UP, equity_correlation=249), "shocks.equity_correlation is 24.9 %")
+        self.warned(replace(UP, equity_correlation=0, amounts=None))  # nothing is lost
+
     def test_slips_of_the_seen_defect(self):
         """Percentages in thousandths, years as months or tenths, basis points as steps: every slip is warned of."""
         shocks = {name: value // 10 for name, value in FUND.shocks.items()}
@@ -228,7 +237,7 @@ class Warnings(unittest.TestCase):
     def test_never_refused(self):
         """A case with as many warnings as can be is accepted, there and back."""
         case = replace(FUND, ufr=0, days=flat(0), pension=FUND.pension[:40] * 2, shocks=dict.fromkeys(FUND.shocks, 0),
-                       people={"heads": 10 ** 6, "pension_age": 0, "mean_age": 1}, bonds=None,
+                       people={"heads": 10 ** 6, "pension_age": 0, "mean_age": 1}, bonds=None, equity_correlation=0,
                        amounts=dict.fromkeys(FUND.amounts, 10 ** 11) | {"cash": 0})
         self.assertEqual(from_toml(to_toml(case)), case)
         self.assertEqual(read(write(case)), case)

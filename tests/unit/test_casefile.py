@@ -18,7 +18,7 @@ from unittest import mock
 from tests import ROOT
 from tests.inputs import examples
 from tests.reference import reference
-from tests.unit.reference_shared import FAULTS
+from tests.unit.reference_shared import FAULTS, FULL_FILE
 
 HERE = Path(__file__).resolve().parent
 TOOL = ROOT / "tools" / "casefile"
@@ -37,10 +37,16 @@ TWO, FOUR = DAYS_FIELDS[2], DAYS_FIELDS[4]
 def in_four_bytes(data, more=lambda place: 0):
     """A file of two-byte rates with each rate in four bytes instead: 100 times the rate, and some hundredths of a step more."""
     at = 5 if data[1] & 1 else 3
-    end = at + 120 * data[at - 1]
+    end, behind = at + 120 * data[at - 1], len(data) - 2 * (data[0] & 1)
     rates = struct.unpack(f">{60 * data[at - 1]}h", data[at:end])
     finer = [100 * rate + more(place) for place, rate in enumerate(rates)]
-    return bytes([data[0], data[1] ^ 0x82]) + data[2:at - 1] + data[end:] + data[at - 1:at] + struct.pack(f">{len(rates)}i", *finer)
+    return (bytes([data[0], data[1] ^ 0x82]) + data[2:at - 1] + data[end:behind] + data[at - 1:at]
+            + struct.pack(f">{len(rates)}i", *finer) + data[behind:])
+
+
+def with_correlation(data, thousandths):
+    """A file with this correlation between the equity classes, as its last field."""
+    return bytes([data[0] | 1]) + data[1:len(data) - 2 * (data[0] & 1)] + struct.pack(">H", thousandths)
 
 
 def with_rates(data, rates):
@@ -68,6 +74,7 @@ class Files(unittest.TestCase):
         rng = random.Random(17)
         good = [C1, UP, *(data for _, data in accepted(18, 6))]
         good += [in_four_bytes(data) for data in good]
+        good += [with_correlation(data, 250 * place % 1_250) for place, data in enumerate(good)]
         seen = Counter()
         for _ in range(6_000):
             data = bytearray(rng.choice(good))
@@ -82,6 +89,7 @@ class Files(unittest.TestCase):
             number = number_of(data)
             seen[number] += 1
             seen["four bytes"] += number == 0 and data[1] >= 0x80
+            seen["correlation"] += number == 0 and data[0] == 1
             self.assertEqual(refusal(data), number, data.hex())
             if number:
                 with self.assertRaises(Fault) as caught:
@@ -89,8 +97,8 @@ class Files(unittest.TestCase):
                 self.assertLessEqual(caught.exception.byte, len(data))
             else:
                 self.assertEqual(write(read(data)), data)
-        self.assertEqual(set(seen), {*range(13), "four bytes"})
-        self.assertGreater(min(seen[0], seen["four bytes"]), 100)
+        self.assertEqual(set(seen), {*range(13), "four bytes", "correlation"})
+        self.assertGreater(min(seen[0], seen["four bytes"], seen["correlation"]), 100)
 
     def test_accepted_files(self):
         for case, data in accepted(19, 60):
@@ -98,7 +106,9 @@ class Files(unittest.TestCase):
             self.assertEqual((held.rate_bytes, held.days), (2, case.days))
             self.assertEqual((held.pension, held.bonds or []), (case.pension, case.bonds))
             self.assertEqual(held.amounts or dict.fromkeys(reference.AMOUNTS, 0), case.amounts)
-            self.assertEqual((4_200 if held.ufr is None else held.ufr, held.shocks), (case.ufr, case.shocks))
+            correlation = {"equity_correlation": 1_000 if held.equity_correlation is None else held.equity_correlation}
+            self.assertEqual((4_200 if held.ufr is None else held.ufr, held.shocks | correlation),
+                             (case.ufr, {"equity_correlation": 1_000} | case.shocks))
             self.assertEqual(list(held.people.values()), [case.heads, case.pension_age, case.mean_age])
             self.assertEqual(from_toml(to_toml(held)), held)
             self.assertEqual(write(from_toml(to_toml(held))), data)
@@ -121,8 +131,8 @@ class Files(unittest.TestCase):
 
     def test_longest_file(self):
         largest = read((ROOT / "cases" / "largest.case").read_bytes())
-        for rate_bytes, length in ((2, 9_223), (4, 17_623)):
-            case = replace(largest, rate_bytes=rate_bytes)
+        for rate_bytes, length in ((2, 9_225), (4, 17_625)):
+            case = replace(largest, rate_bytes=rate_bytes, equity_correlation=1_000)
             data = write(case)
             self.assertEqual((len(data), refusal(data + b"\0"), refusal(data[:-1])), (length, 2, 1))
             self.assertEqual(write(from_toml(to_toml(read(data)))), data)
@@ -132,7 +142,7 @@ class Files(unittest.TestCase):
         self.assertEqual((len(write(case)), write(case)[:2], read(write(case))), (280, b"\x00\xe4", case))
 
     def test_decode_of_every_value(self):
-        """Each value of a share, an age and a duration, and values of rates, there and back."""
+        """Each value of a share, of either correlation, of an age and of a duration, and values of rates, there and back."""
         case = read(UP)
         for value in range(1_001):
             shocks = {name: min(value, 500) if name == "duration" else value for name in case.shocks}
@@ -141,14 +151,14 @@ class Files(unittest.TestCase):
                                      (4, [[(7_919 * value + term) % 1_000_001 - 100_000 for term in range(60)]])):
                 if value % 20 or forwards_out_of_limits(days, DAYS_FIELDS[rate_bytes]):
                     days = [[value] * 60]
-                changed = Case(rate_bytes, value, days, [value], None, None, shocks, people)
+                changed = Case(rate_bytes, value, days, [value], None, None, shocks, people, 1_000 - value)
                 self.assertEqual(from_toml(to_toml(changed)), changed)
 
     def test_which_byte(self):
         for number, at, wrong, _ in FAULTS:
             if wrong is None:
                 continue
-            data = bytearray(UP)
+            data = bytearray(FULL_FILE)
             data[at:at + len(wrong)] = wrong
             with self.assertRaises(Fault) as caught:
                 read(bytes(data))
@@ -169,7 +179,7 @@ class Files(unittest.TestCase):
         steep = struct.pack(">i", 900_000)  # at term 1 of one of three days, before rates near 0.2 %
         no_heads = put(UP_FOUR, people, bytes(4))
         for data, number, byte in (
-                (put(UP_FOUR, 1, b"\xff"), 3, 1), (put(UP_FOUR, 1, b"\x7d"), 3, 1), (put(UP_FOUR, 0, b"\x01"), 3, 0),
+                (put(UP_FOUR, 1, b"\xff"), 3, 1), (put(UP_FOUR, 1, b"\x7d"), 3, 1), (put(UP_FOUR, 0, b"\x02"), 3, 0),
                 (UP_FOUR[:count], 1, count), (put(UP_FOUR, count, b"\0"), 4, count), (put(UP_FOUR, count, b"\x47"), 4, count),
                 (put(UP_FOUR, count, b"\x04"), 1, len(UP_FOUR)), (put(UP_FOUR, count, b"\x02"), 2, count + 481),
                 (put(UP_FOUR, first, low), 5, first), (put(UP_FOUR, first + 716, high), 5, first + 716),
@@ -186,6 +196,33 @@ class Files(unittest.TestCase):
                     self.assertEqual(caught.exception.byte, byte)
         for cut in range(len(C1_FOUR)):
             self.assertEqual(refusal(C1_FOUR[:cut]), 1)
+
+    def test_which_byte_of_the_correlation(self):
+        """It comes behind the people, and behind the four-byte days; then 2, then 6."""
+        for data, people in ((C1, len(C1) - 8), (C1_FOUR, len(C1_FOUR) - 249)):
+            at, above = len(data), with_correlation(data, 1_001)
+            no_heads = above[:people] + bytes(4) + above[people + 4:]
+            for wrong, number, byte in (
+                    (above, 11, at), (with_correlation(data, 65_535), 11, at), (with_correlation(data, 1_000)[:-1], 1, at + 1),
+                    (above[:-1], 1, at + 1), (above[:-2], 1, at), (with_correlation(data, 1_000) + b"\0", 2, at + 2),
+                    (above + b"\0", 11, at), (no_heads, 12, people), (b"\3" + above[1:], 3, 0), (b"\x81" + above[1:], 3, 0),
+                    (b"\0" + above[1:], 2, at)):
+                with self.subTest(number=number, byte=byte), self.assertRaises(Fault) as caught:
+                    read(wrong)
+                self.assertEqual((caught.exception.number, caught.exception.byte), (number, byte))
+        steep = with_rates(C1_FOUR, [0] + [600_001] * 59)
+        high = with_rates(C1_FOUR, [1_000_001] * 60)
+        for data, correlation, number in ((STEEP, 1_001, 11), (STEEP, 1_000, 6), (steep, 1_001, 11), (steep, 0, 6), (high, 1_001, 5)):
+            self.assertEqual(refusal(with_correlation(data, correlation)), number)
+
+    def test_every_correlation(self):
+        """Each within its limits, as the last field of either form; a file that holds 1,000 keeps it."""
+        for data in (C1, C1_FOUR):
+            for correlation in range(1_001):
+                file = with_correlation(data, correlation)
+                case = replace(read(data), equity_correlation=correlation)
+                self.assertEqual((read(file), write(case)), (case, file))
+            self.assertIsNone(read(data).equity_correlation)
 
     def test_limits_in_four_bytes(self):
         for rates, number in (([-100_000] * 60, 0), ([1_000_000] * 60, 0), ([-100_001] * 60, 5), ([1_000_001] * 60, 5),
@@ -219,7 +256,8 @@ class Files(unittest.TestCase):
 
 class Explained(unittest.TestCase):
     def test_every_byte_once(self):
-        for data in (C1, UP, C1_FOUR, UP_FOUR, *(data for _, data in accepted(20, 10))):
+        for data in (C1, UP, C1_FOUR, UP_FOUR, with_correlation(C1, 0), with_correlation(UP_FOUR, 1_000),
+                     *(data for _, data in accepted(20, 10))):
             text, good = explain(data)
             self.assertTrue(good and text.endswith(f"\naccepted: {len(data):,} bytes\n"))
             reader = Reader(data)
@@ -257,7 +295,30 @@ class Explained(unittest.TestCase):
                                        "exactly one of them must stand"),
                 (b"\x00\x74" + C1[2:], "are both missing; exactly one of them must stand"),
                 (b"\x00\x72" + C1[2:], "bit 2 of the map, pension flows, is missing; bits 2, 5 and 6 must stand"),
-                (b"\x01\x76" + C1[2:], "refused, 3, at byte 0: bit 8 of the map stands; bits 8 to 15 must not")):
+                (b"\x02\x76" + C1[2:], "refused, 3, at byte 0: bit 9 of the map stands; bits 9 to 15 must not")):
+            text, good = explain(data)
+            self.assertFalse(good)
+            self.assertIn(sentence, text)
+
+    def test_words_of_the_correlation(self):
+        """Its place, its two bytes, thousandths and percent; S2 of the fund, as worked by hand, with and without it."""
+        absent = "                equity correlation absent: 100 %, so that S2 is the sum of its losses\n"
+        self.assertIn(absent, explain(C1)[0])
+        for data, form in ((FUND, "people"), (FUND_FOUR, "people, days in four bytes")):
+            text = explain(with_correlation(data, 500))[0]
+            self.assertIn(f"shocks, {form}, equity correlation\n", text.replace("\n" + " " * 18, " "))
+            self.assertIn(f"\n{len(data):6}       2  equity_correlation: 500 thousandths, 50 %\n", text)
+            self.assertNotIn(absent, text)
+            self.assertTrue(text.endswith("                S2 without relief, the sum of its losses: 25,640,000.00 euros\n"
+                                          "                S2 with it: 21,382,004.70 to 21,382,004.71 euros\n\n"
+                                          f"accepted: {len(data) + 2:,} bytes\n"), text[-400:])
+            self.assertNotIn("relief", explain(with_correlation(data, 1_000))[0] + explain(data)[0])
+        self.assertTrue(explain(with_correlation(C1, 999))[0].endswith(" losses: 0.00 euros\n                S2 with it: 0.00 euros\n\n"
+                                                                       "accepted: 226 bytes\n"))
+        for data, sentence in ((with_correlation(C1, 1_001), "refused, 11, at byte 224: equity_correlation is 1,001 thousandths, 100.1 %; "
+                                                             "it must be 0 to 1,000 thousandths"),
+                               (with_correlation(C1, 1_000)[:-1], "refused, 1, at byte 225: the file ends here, but its equity correlation "
+                                                                  "would end with byte 225; ")):
             text, good = explain(data)
             self.assertFalse(good)
             self.assertIn(sentence, text)

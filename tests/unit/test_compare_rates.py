@@ -124,6 +124,8 @@ def finished(cursor, bits, ufr, days, part, data):
     bonds = reference.read_flows(cursor, 60) if bits & 8 else []
     amounts = reference.read_amounts(cursor) if bits & 16 else dict.fromkeys(reference.AMOUNTS, 0)
     shocks, people = reference.read_shocks(cursor), reference.read_people(cursor)
+    if bits & reference.EQUITY_BIT:
+        shocks["equity_correlation"] = reference.read_equity_correlation(cursor)
     refuse_unless(cursor.offset == len(data), 2)
     reference.check_growths(days, 100)
     return Case(ufr, days, pension, bonds, amounts, shocks, *people, 4), part
@@ -245,7 +247,7 @@ def rounded_off(data):
     if isinstance(case, reference.Refusal):
         return data
     tidy = replace(case, days=[[rate // 100 * 100 for rate in day] for day in case.days])
-    other = encode(tidy, bool(data[1] & 1), bool(case.bonds), bool(data[1] & 16))
+    other = encode(tidy, bool(data[1] & 1), bool(case.bonds), bool(data[1] & 16), bool(data[0] & 1))
     return other if reference.refusal(other) == 0 else data
 
 
@@ -255,7 +257,8 @@ WRONG = {
     "in_place_of_bit_1": engine(read_fields=in_place_of_bit_1),
     **{wrong.__name__: engine(twos_complement=wrong) for wrong in (unsigned, lower_half, little_endian)},
     **{wrong.__name__: engine(rate_bytes_in=wrong) for wrong in (any_bit, bit_1_counts, neither_bit)},
-    **{f"bit {bit} let pass": engine(FORBIDDEN_BITS=FORBIDDEN_BITS ^ 1 << bit) for bit in (8, 15)},
+    **{f"bit {bit} let pass": engine(FORBIDDEN_BITS=FORBIDDEN_BITS ^ 1 << bit) for bit in (9, 15)},
+    "bit 8 not let pass": engine(FORBIDDEN_BITS=FORBIDDEN_BITS | 1 << 8),
     **{f"bit {bit} not needed": engine(REQUIRED_BITS=REQUIRED_BITS ^ 1 << bit) for bit in (2, 5, 6)},
     **{f"rates of {least} to {most}": engine(rates_within_limits=limits_by(least, most)) for least, most in (
         (-1_000, 10_000), (-100_001, 1_000_000), (-99_999, 1_000_000), (-100_000, 1_000_001), (-100_000, 999_999))},
@@ -343,7 +346,7 @@ class Reported(unittest.TestCase):
         made, _, _ = trials()
         old, new = made[0]
         n = old[compare_rates.count_at(old)]
-        right = (compare_rates.count_at(old) + 1, 120 * n), (len(new) - 240 * n, 240 * n)
+        right = (compare_rates.count_at(old) + 1, 120 * n), (len(new) - 240 * n - 2 * (new[0] & 1), 240 * n)
         self.assertEqual(right, (reference.rates_part(old), reference.rates_part(new)))
         self.assertEqual(list(compare_rates.part_faults(old, new, *right)), [])
         for wrong in (((3, 120 * n), right[1]), (right[0], (right[1][0], 120 * n)), (right[0], (right[1][0] - 1, 240 * n))):
@@ -425,7 +428,7 @@ class Made(unittest.TestCase):
         """Every byte of the field is changed, and every cut of it is there."""
         rich = files.all_fields(1, 4)
         first, end = files.field_of_days(rich)
-        self.assertEqual((end - first, end), (241, len(rich)))
+        self.assertEqual((end - first, end), (241, len(rich) - 2))
         made = set(compare_rates.damaged(rich, [0, 255]))
         self.assertTrue(all(rich[:length] in made for length in range(first, end)))
         changed = {at for data in made if len(data) == len(rich) for at in range(first, end) if data[at] != rich[at]}

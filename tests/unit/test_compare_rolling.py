@@ -488,7 +488,8 @@ class Windows(unittest.TestCase):
         return rolling.value(call.window, call.given, *([0] * length for length in call.lengths)).refusal
 
     def test_order(self):
-        expected = {2: [27, 13, 3, 9, 4, 5, 7, 8, 7, 8, 10, 11, 12, 6, 4, 6], 4: [27, 13, 3, 9, 7, 8, 7, 8, 10, 11, 12, 4, 5, 6, 4, 6]}
+        expected = {2: [27, 13, 3, 9, 4, 5, 7, 8, 7, 8, 10, 11, 12, 11, 6, 4, 6],
+                    4: [27, 13, 3, 9, 7, 8, 7, 8, 10, 11, 12, 4, 5, 11, 6, 4, 6]}
         bases = windows.bases(random.Random(4))
         self.assertEqual([base.given.rate_bytes for base in bases], [2, 2, 4])
         for base in bases:
@@ -512,9 +513,10 @@ class Windows(unittest.TestCase):
         self.assertEqual([rolling.add(window, day).refusal for _, window, day in windows.add_rows()], [5, 27, 27])
         self.assertEqual([rolling.add(window, day).refusal for _, window, day in windows.full_rows()], [15, 0])
         self.assertEqual([rolling.drop(window).refusal for _, window in windows.drop_rows()], [16, 27])
-        self.assertEqual([self.refusal(call) for _, call in windows.value_rows()], [27, 13, 3, 9, 4, 5, 7, 8, 7, 8, 10, 11, 12, 6, 4, 6, 0])
+        self.assertEqual([self.refusal(call) for _, call in windows.value_rows()],
+                         [27, 13, 3, 9, 4, 5, 7, 8, 7, 8, 10, 11, 12, 11, 6, 4, 6, 0])
         self.assertEqual([self.refusal(call) for _, call in windows.four_value_rows()], [5, 0, 0, 5, 0, 6, 0, 6, 3, 12, 6, 6])
-        self.assertEqual([self.refusal(call) for _, call in windows.quick_value_rows()], [27, 13, 12, 6, 4, 6, 0])
+        self.assertEqual([self.refusal(call) for _, call in windows.quick_value_rows()], [27, 13, 12, 11, 6, 4, 6, 0])
 
     def test_steep(self):
         """As many at the limits as one past them."""

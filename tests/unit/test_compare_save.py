@@ -6,6 +6,7 @@ import io
 import random
 import unittest
 from dataclasses import replace
+from unittest import mock
 
 from tests.compare import save as compare_save
 from tests.compare.lending import HostFields, HostPart, HostSaved, HostValuation, given_from
@@ -58,7 +59,12 @@ def with_fields(needed):
 
 
 def every_field(given):
-    return True, bool(given.bonds), True
+    return True, bool(given.bonds), True, True
+
+
+def equity_always(given):
+    """The equity correlation is written where it is 1,000 too."""
+    return *reference.needed_fields(given)[:3], True
 
 
 def no_empty_looking_bonds(given):
@@ -72,9 +78,37 @@ def reversed_days(given):
 
 
 def little_endian_shocks(given):
+    """Of two-byte days, where the shocks stand ahead of the people."""
     data = reference.shortest(given)
-    pairs = [data[-32:-8][at:at + 2][::-1] for at in range(0, 24, 2)]
-    return data[:-32] + b"".join(pairs) + data[-8:]
+    if given.rate_bytes == 4:
+        return data
+    end = len(data) - 8 - 2 * reference.needed_fields(given)[3]
+    pairs = [data[at:at + 2][::-1] for at in range(end - 24, end, 2)]
+    return data[:end - 24] + b"".join(pairs) + data[end:]
+
+
+def with_equity(given, value):
+    return replace(given, shocks=given.shocks | {"equity_correlation": value})
+
+
+def equity_in_front_of_the_people(given):
+    """The equity correlation stands behind the other shocks, in files whose days have two bytes."""
+    data = reference.shortest(given)
+    stands = given.rate_bytes == 2 and reference.needed_fields(given)[3]
+    return data[:-10] + data[-2:] + data[-10:-2] if stands else data
+
+
+def equity_in_front_of_the_days(given):
+    """The equity correlation stands behind the people, ahead of four-byte days."""
+    data, length = reference.shortest(given), 1 + 4 * len(given.rates)
+    stands = given.rate_bytes == 4 and reference.needed_fields(given)[3]
+    return data[:-length - 2] + data[-2:] + data[-length - 2:-2] if stands else data
+
+
+def no_equity_of_999(given):
+    """999 is taken for 1,000."""
+    equity = given.shocks["equity_correlation"]
+    return reference.shortest(with_equity(given, 1_000 if equity == 999 else equity))
 
 
 def wiped(given, held):
@@ -104,9 +138,34 @@ def early_14(given, held):
     return Saved(14, 0, held) if len(held) < 160 else reference.save(given, held)
 
 
-def six_before_twelve(given, held):
-    sound = replace(given, heads=1, pension_age=0, mean_age=0)
-    return Saved(6, 0, held) if reference.case_refusal(sound) == 6 else reference.save(given, held)
+def six_before_eleven(given, held):
+    """6 ahead of 11 of the equity correlation."""
+    return Saved(6, 0, held) if reference.case_refusal(with_equity(given, 0)) == 6 else reference.save(given, held)
+
+
+def eleven_before_twelve(given, held):
+    """The equity correlation is checked with the other shocks, ahead of the people."""
+    late = given.shocks["equity_correlation"] > 1_000 and reference.case_refusal(given) == 12
+    return Saved(11, 0, held) if late else reference.save(given, held)
+
+
+def eleven_before_the_days(given, held):
+    """The equity correlation is checked behind the people, ahead of four-byte days."""
+    late = given.rate_bytes == 4 and given.shocks["equity_correlation"] > 1_000 and reference.case_refusal(given) in (4, 5)
+    return Saved(11, 0, held) if late else reference.save(given, held)
+
+
+def equity_of_sixteen_bits(given, held):
+    """The equity correlation without its upper bytes."""
+    return reference.save(with_equity(given, given.shocks["equity_correlation"] % (1 << 16)), held)
+
+
+def equity_up_to(most):
+    """Another limit of the equity correlation."""
+    def saving(given, held):
+        with mock.patch.dict(reference.SHOCK_LIMITS, equity_correlation=most):
+            return reference.save(given, held)
+    return saving
 
 
 def rates_by_whole_days(given, held):
@@ -139,7 +198,8 @@ def days_in_front(given):
     if given.rate_bytes == 2:
         return data
     front, length = 4 if data[1] & 1 else 2, 1 + 4 * len(given.rates)
-    return data[:front] + data[-length:] + data[front:-length]
+    at = len(data) - length - 2 * reference.needed_fields(given)[3]
+    return data[:front] + data[at:at + length] + data[front:at] + data[at + length:]
 
 
 def bit_1_kept(given):
@@ -151,8 +211,9 @@ def little_endian_rates(given):
     data = reference.shortest(given)
     if given.rate_bytes == 2:
         return data
-    at = len(data) - 4 * len(given.rates)
-    return data[:at] + b"".join(data[place:place + 4][::-1] for place in range(at, len(data), 4))
+    end = len(data) - 2 * reference.needed_fields(given)[3]
+    at = end - 4 * len(given.rates)
+    return data[:at] + b"".join(data[place:place + 4][::-1] for place in range(at, end, 4)) + data[end:]
 
 
 def taking(change):
@@ -197,9 +258,14 @@ def limits_of_two_bytes(given, held):
 OF_FOUR_BYTES = [*map(writing, (two_bytes_kept, shortest_days, days_in_front, bit_1_kept, little_endian_rates)),
                  *map(taking, (any_number_of_bytes, lower_byte, at_least_two)), three_after_nine, days_before_the_flows, limits_of_two_bytes]
 
-WRONG = [*OF_FOUR_BYTES, writing(reference.shortest, room=1), writing(reference.shortest, room=-1), writing(with_fields(every_field)),
-         writing(no_empty_looking_bonds), writing(reversed_days), writing(little_endian_shocks), wiped, byte_on_refusal, count_on_refusal,
-         one_byte_past, early_14, six_before_twelve, rates_by_whole_days, sixteen_bits]
+OF_EQUITY = [writing(with_fields(equity_always)),
+             *map(writing, (equity_in_front_of_the_people, equity_in_front_of_the_days, no_equity_of_999)),
+             six_before_eleven, eleven_before_twelve, eleven_before_the_days, equity_of_sixteen_bits,
+             equity_up_to(999), equity_up_to(1_001)]
+
+WRONG = [*OF_FOUR_BYTES, *OF_EQUITY, writing(reference.shortest, room=1), writing(reference.shortest, room=-1),
+         writing(with_fields(every_field)), writing(no_empty_looking_bonds), writing(reversed_days), writing(little_endian_shocks), wiped,
+         byte_on_refusal, count_on_refusal, one_byte_past, early_14, rates_by_whole_days, sixteen_bits]
 
 
 # ---------------------------------------------------------------- what is reported
@@ -232,8 +298,8 @@ class Reported(unittest.TestCase):
             self.assertIn("DIFFERENT", printed)
 
     def test_size(self):
-        """That of the struct in C: the number of bytes of a rate, the UFR, 8 amounts, 12 shocks, 3 numbers of people."""
-        self.assertEqual(ctypes.sizeof(HostFields), 8 * 25)
+        """That of the struct in C: the number of bytes of a rate, the UFR, 8 amounts, 13 shocks, 3 numbers of people."""
+        self.assertEqual(ctypes.sizeof(HostFields), 8 * 26)
         self.assertEqual(HostFields.rate_bytes.offset, 0)
 
     def test_changed_list(self):

@@ -102,6 +102,37 @@ class Table(unittest.TestCase):
         self.assertEqual(str(ginghamowl.Refused(20)), f"refused, 20: {NO_REFUSAL}")
 
 
+class Initialisers(unittest.TestCase):
+    """What a C or C++ host fills its structs with first: no struct of zeros, which would ask for the smallest buffer."""
+
+    PROGRAM = ('#include <stdio.h>\n#include <string.h>\n#include "ginghamowl.h"\n'
+               "int main(void) { ginghamowl_shocks shocks = GINGHAMOWL_SHOCKS_DEFAULT; "
+               "ginghamowl_case_fields fields = GINGHAMOWL_CASE_FIELDS_DEFAULT; uint64_t numbers[39]; size_t i; "
+               "memcpy(numbers, &shocks, sizeof shocks); memcpy(numbers + 13, &fields, sizeof fields); "
+               'for (i = 0; i < 39; i++) printf("%lu ", (unsigned long)numbers[i]); return 0; }\n')
+
+    def printed(self, *compiler):
+        with tempfile.TemporaryDirectory() as folder:
+            subprocess.run([*compiler, "-pedantic", "-Wall", "-Wextra", "-Werror", f"-I{ROOT}/include", "-", "-o", f"{folder}/program"],
+                           input=self.PROGRAM, text=True, check=True)
+            return subprocess.run([f"{folder}/program"], capture_output=True, text=True, check=True).stdout
+
+    def prints_defaults(self, *compiler):
+        """The shocks, and then the fields of a case: the bytes of a rate, the UFR, the amounts, the shocks, the people."""
+        shocks = [0] * 12 + [1_000]
+        self.assertEqual(list(map(int, self.printed(*compiler).split())), [*shocks, 2, 4_200, *[0] * 8, *shocks, *[0] * 3])
+
+    @unittest.skipUnless(shutil.which("gcc"), "gcc is not installed")
+    def test_c(self):
+        for standard in ("c99", "c11"):
+            self.prints_defaults("gcc", f"-std={standard}", "-x", "c")
+
+    @unittest.skipUnless(shutil.which("g++"), "g++ is not installed")
+    def test_cpp(self):
+        for standard in ("c++11", "c++20"):
+            self.prints_defaults("g++", f"-std={standard}", "-x", "c++")
+
+
 class Version(unittest.TestCase):
     def test_header(self):
         header = text("include/ginghamowl.h")

@@ -6,8 +6,10 @@ import io
 import json
 import os
 import re
+import subprocess
 import tempfile
 import unittest
+import unittest.mock
 
 from tests.mistakes import mutant_edits, mutants
 from tests.mistakes.mutant_edits import Definitions, Type
@@ -277,6 +279,23 @@ class Chosen(unittest.TestCase):
         self.assertEqual(self.chosen("--file", "Large,model/Small"), self.chosen())
         self.assertEqual(self.chosen("--file", "mall"), [])
         self.assertEqual(self.chosen("--kind", "operator,end"), ["model/Small:sized:+#1→-", "model/Small:chosen:high#2→low"])
+
+    def test_since_a_commit(self):
+        """A line that was changed, one that was added, and none that went or stayed."""
+        with tempfile.TemporaryDirectory() as folder, unittest.mock.patch.object(mutants, "ROOT", folder):
+            git = lambda *words: subprocess.run(["git", "-C", folder, "-c", "user.name=a", "-c", "user.email=a@b.example", *words],
+                                                check=True, capture_output=True)
+            path = os.path.join(folder, "A.antt")
+            git("init", "-q")
+            for text in ("a\nb\nc\nd\n", "a\nB\nd\ne\nf\n"):
+                with open(path, "w", encoding="utf-8") as file:
+                    file.write(text)
+                git("add", "A.antt")
+                git("commit", "-qm", "a")
+            self.assertEqual(mutants.lines_since("HEAD~1", path), {2, 4, 5})
+            self.assertEqual(mutants.lines_since("HEAD", path), set())
+            with self.assertRaises(SystemExit):
+                mutants.lines_since("nothing", path)
 
 
 class Resumed(unittest.TestCase):

@@ -244,7 +244,7 @@ class Office(Checkout):
         amounts = sum(FUND.amounts.values()) - FUND.amounts["currency"]
         expected = {"ufr": 4_200, "ufr_from": "file", "rate_bytes": 2, "days": 20, "first_day": "2012-09-03", "last_day": "2012-09-28",
                     "pension_flows": 80, "pension_sum": sum(FUND.pension), "bond_flows": 25, "bond_sum": sum(FUND.bonds),
-                    "assets_sum": amounts}
+                    "assets_sum": amounts, "equity_correlation": 1_000}
         self.assertEqual({key: row[key] for key in expected}, expected)
         line, = csv.DictReader(io.StringIO(self.run_text("--csv").stdout))
         self.assertEqual({key: line[key] for key in expected}, {key: str(value) for key, value in expected.items()})
@@ -256,6 +256,30 @@ class Office(Checkout):
         (self.folder / "bad.case").write_bytes(b"")
         row = json.loads(self.value("--json", "bad.case", cwd=self.folder).stdout)["valuations"][0]
         self.assertEqual({row[key] for key in expected}, {None})
+
+    def test_relief(self):
+        """S2 with the relief for spread over the classes, as worked by hand; beside it S2 without, which a file without the field has."""
+        before = json.loads(self.run_text("--json").stdout)["valuations"][0]
+        self.edit('duration = "5.3 years"', 'duration = "5.3 years"\nequity_correlation = "50 %"')
+        row = json.loads(self.assertSilent("--json", "fund.toml").stdout)["valuations"][0]
+        self.assertEqual((before["equity_correlation"], before["S2_without_relief"]), (1_000, None))
+        self.assertEqual((row["equity_correlation"], row["S2_without_relief"]), (500, before["figures"]["S2"]))
+        self.assertEqual(row["figures"]["S2"], [2_138_200_470, 2_138_200_471])
+        self.assertLess(row["figures"]["S"][1], before["figures"]["S"][0])
+        self.assertEqual({name: row["figures"][name] for name in "L B A S1 S3 S4 S5 S6".split()},
+                         {name: before["figures"][name] for name in "L B A S1 S3 S4 S5 S6".split()})
+        line, = csv.DictReader(io.StringIO(self.run_text("--csv").stdout))
+        self.assertEqual((line["equity_correlation"], line["S2_without_relief_lower"]), ("500", str(before["figures"]["S2"][0])))
+
+    def test_a_relief_that_is_a_slip(self):
+        """50 for 50 %, typed in thousandths."""
+        self.edit('duration = "5.3 years"', 'duration = "5.3 years"\nequity_correlation = "50 thousandths"')
+        self.assertWarned(["fund.toml"], "shocks.equity_correlation is 5 %, below 25 %; was a percentage typed in thousandths")
+
+    def test_no_relief_that_is_typed(self):
+        """100 % gives the listing of a text without the key."""
+        self.edit('duration = "5.3 years"', 'duration = "5.3 years"\nequity_correlation = "100 %"')
+        self.assertEqual(self.assertSilent("fund.toml").stdout, self.listing)
 
     # ------------------------------------------------------------ confusion
 

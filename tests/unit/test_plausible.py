@@ -5,6 +5,7 @@ import unittest
 from dataclasses import replace
 from datetime import date, timedelta
 from fractions import Fraction
+from itertools import combinations
 
 from tests import ROOT
 
@@ -122,8 +123,8 @@ def edges():
     for name, form in (("fifth decimal (0.001 %)", DaysForm.TWO_BYTES), ("seventh decimal (0.00001 %)", DaysForm.FOUR_BYTES)):
         found[f"the share of rates in days with a {name}", "least"] = tuple(
             of(days=[*FUND.days, [10 * term + (term <= whole) for term in range(1, 61)]], days_form=form) for whole in (30, 29))
-    for name, limit in ({fall: 50 for fall in FALLS} | {"spread_rise": 100, "correlation": 100, "up_shift": 100, "down_shift": 100,
-                                                        "spread": 300, "duration": 10}).items():
+    for name, limit in ({fall: 50 for fall in FALLS} | {"spread_rise": 100, "correlation": 100, "equity_correlation": 250, "up_shift": 100,
+                                                        "down_shift": 100, "spread": 300, "duration": 10}).items():
         found[f"shocks.{name}", "least"] = shocked(**{name: limit}), shocked(**{name: limit - 1})
     for name, most in (("pension", 3), ("bonds", 5)):
         block = [10 ** 6 + flow for flow in range(most + 1)]
@@ -248,6 +249,21 @@ class Meanings(unittest.TestCase):
         self.assertTrue(RULE["shocks.correlation"].warning(Looked(replace(case, amounts=replace(FUND.amounts, **equities)))))
         self.assertIsNone(RULE["shocks.correlation"].warning(
             Looked(replace(case, amounts=replace(FUND.amounts, **equities, property=0)))))
+
+    def test_equity_correlation_without_effect(self):
+        """It joins losses, so that there must be two; a class without an amount has none, and neither has one that does not fall."""
+        rule, classes = RULE["shocks.equity_correlation"], list(FALLS.items())[:4]
+        shocks = replace(FUND.shocks, equity_correlation=0)
+        for count in range(5):
+            for losing in combinations(classes, count):
+                other = [pair for pair in classes if pair not in losing]
+                for changes in ({"amounts": replace(FUND.amounts, **{held: 0 for _, held in other}), "shocks": shocks},
+                                {"shocks": replace(shocks, **{fall: 0 for fall, _ in other})}):
+                    self.assertEqual(rule.measure(of(**changes)), 0 if count > 1 else None, losing)
+                    self.assertEqual(bool(rule.warning(of(**changes))), count > 1, losing)
+        # The falls of what is not in S2 do not count.
+        alone = {fall: 0 for fall, _ in classes[1:]}
+        self.assertIsNone(rule.measure(of(shocks=replace(shocks, **alone, currency_fall=1_000, commodities_fall=1_000))))
 
     def test_a_ufr_that_is_not_used(self):
         """Months give another UFR, and that one is judged."""

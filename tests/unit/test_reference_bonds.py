@@ -29,7 +29,7 @@ def figures(case):
     exact, rounded = Exact(case), Rounded(case)
     found = {name: getattr(rounded, name) for name in (*reference.MONEY, "verdict", "WL", "WB")}
     found |= {f"exact {name}": getattr(exact, name)
-              for name in (*reference.MONEY[:8], "S6_squared", "S_squared", "verdict")}
+              for name in (*reference.EXACT, "verdict")}
     return found | {"falls": rounded.falls, "buffers": reference.buffers(rounded)}
 
 

@@ -34,7 +34,7 @@ class Reading(unittest.TestCase):
 
     def test_good(self):
         self.assertEqual(len(FULL_FILE), END)
-        self.assertEqual(read(FULL_FILE), examples.up())
+        self.assertEqual(read(FULL_FILE), examples.apart())
         self.assertEqual(reference.rates_part(FULL_FILE), (5, 360))
 
     def test_each_fault(self):
@@ -66,7 +66,7 @@ class Reading(unittest.TestCase):
     def test_every_map(self):
         for bits in range(0x10000):
             data = bits.to_bytes(2, "big") + FULL_FILE[2:]
-            if bits & 0xFFE6 in (0x0066, 0x00E4):  # bit 1, or bit 7
+            if bits & 0xFEE6 in (0x0066, 0x00E4):  # bit 1, or bit 7
                 self.assertNotEqual(number_of(data), 3)
             else:
                 self.assertEqual(number_of(data), 3)
@@ -139,7 +139,8 @@ class Reading(unittest.TestCase):
             if isinstance(answer, Refusal):
                 self.assertIn(answer.number, range(1, 13))
             else:
-                self.assertEqual(encode(answer, *(bool(data[1] >> bit & 1) for bit in (0, 3, 4))), data)
+                bits = int.from_bytes(data[:2], "big")
+                self.assertEqual(encode(answer, *(bool(bits >> bit & 1) for bit in (0, 3, 4, 8))), data)
             seen[number_of(bytes(data))] += 1
         self.assertGreater(seen[0], 100)
 

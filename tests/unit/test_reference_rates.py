@@ -69,7 +69,7 @@ class Bytes(unittest.TestCase):
 
     def test_longest(self):
         most = files.rewritten(encode(files.full_case(random.Random(2)), True, True, True))
-        self.assertEqual(len(most), 17_623)
+        self.assertEqual(len(most), 17_625)
         self.assertEqual(number_of(most), 0)
 
     def test_round_trip(self):
@@ -79,16 +79,18 @@ class Bytes(unittest.TestCase):
             present = examples.presence(rng, case)
             data = encode(case, *present)
             self.assertEqual(read(data), case)
-            self.assertEqual(reference.rates_part(data), (len(data) - 240 * len(case.days), 240 * len(case.days)))
+            length, behind = 240 * len(case.days), 2 * present[3]
+            self.assertEqual(reference.rates_part(data), (len(data) - length - behind, length))
 
 
 class Refused(unittest.TestCase):
     GOOD = by_hand(bytes(240))
 
     def test_map(self):
-        """Bits 2, 5 and 6 and exactly one of bits 1 and 7; none of bits 8 to 15."""
-        for bits, number in ((0x00E4, 1), (0x0066, 1), (0x00E6, 3), (0x0064, 3), (0x00E0, 3), (0x00C4, 3), (0x00A4, 3), (0x01E4, 3),
-                             (0x80E4, 3), (0x00FD, 1), (0x00FF, 3)):
+        """Bits 2, 5 and 6 and exactly one of bits 1 and 7; none of bits 9 to 15."""
+        for bits, number in ((0x00E4, 1), (0x0066, 1), (0x00E6, 3), (0x0064, 3), (0x00E0, 3), (0x00C4, 3), (0x00A4, 3),
+                             (0x01E4, 1), (0x0166, 1), (0x01E6, 3), (0x02E4, 3), (0x03E4, 3),
+                             (0x80E4, 3), (0x00FD, 1), (0x01FD, 1), (0x00FF, 3), (0x01FF, 3)):
             self.assertEqual(number_of(bits.to_bytes(2, "big")), number, hex(bits))
 
     def test_limits_of_a_rate(self):
@@ -214,7 +216,7 @@ class BothForms(unittest.TestCase):
 
     def test_same_answers(self):
         rng = random.Random(71)
-        cases = [examples.bent(), examples.up(), examples.down(), examples.long(), examples.deepest(), *files.ends(),
+        cases = [examples.bent(), examples.up(), examples.down(), examples.long(), examples.deepest(), examples.apart(), *files.ends(),
                  *(examples.random_case(rng) for _ in range(30))]
         for case in cases:
             present = examples.presence(rng, case)
@@ -227,9 +229,9 @@ class BothForms(unittest.TestCase):
             self.assertEqual((new.Bs, new.falls, new.WL, new.WB), (old.Bs, old.falls, old.WL, old.WB))
 
     def test_same_exact_figures(self):
-        case = examples.up()
+        case = examples.apart()
         old, new = Exact(case), Exact(rewritten_case(case))
-        for name in (*reference.MONEY[:8], "S6_squared", "S_squared", "verdict"):
+        for name in (*reference.EXACT, "verdict"):
             self.assertEqual(getattr(new, name), getattr(old, name), name)
 
     def test_part(self):
@@ -237,14 +239,15 @@ class BothForms(unittest.TestCase):
             data = files.all_fields(days)
             (offset, length), (new_offset, new_length) = reference.rates_part(data), reference.rates_part(rewritten(data))
             self.assertEqual((offset, length, new_length), (5, 120 * days, 240 * days))
-            self.assertEqual(new_offset, len(data) - 120 * days)
+            self.assertEqual(new_offset, len(data) - 120 * days - 2)  # the equity correlation comes behind
 
     def test_same_refusal(self):
         """Of a case with one fault."""
         good = examples.up()
         wrong = [{"ufr": 5_001}, {"days": []}, {"days": flat(*[0] * 71)}, {"days": flat(-1_001)}, {"days": flat(10_001)}, {"pension": []},
                  {"pension": [10 ** 8 + 1]}, {"bonds": [0] * 61}, {"bonds": [10 ** 8 + 1]}, {"amounts": good.amounts | {"cash": 10 ** 11 + 1}},
-                 {"shocks": good.shocks | {"duration": 501}}, {"heads": 0}, {"days": [[0] + [6_001] * 59]}, {"days": [[1] + [-1_000] * 59]}]
+                 {"shocks": good.shocks | {"duration": 501}}, {"shocks": good.shocks | {"equity_correlation": 1_001}}, {"heads": 0},
+                 {"days": [[0] + [6_001] * 59]}, {"days": [[1] + [-1_000] * 59]}]
         for changes in wrong:
             data = encode(replace(good, **changes), True, True, True)
             self.assertNotEqual(number_of(data), 0)
@@ -260,7 +263,7 @@ class Saving(unittest.TestCase):
         (9, {"ufr": 5_001}), (7, {"pension": [0] * 121}), (8, {"pension": [100_000_001]}), (7, {"bonds": [0] * 61}),
         (8, {"bonds": [100_000_001]}), (10, {"amounts": GOOD.amounts | {"currency": 10 ** 11 + 1}}),
         (11, {"shocks": GOOD.shocks | {"duration": 501}}), (12, {"heads": 0}), (4, {"rates": [0] * 61}), (5, {"rates": [1_000_001] * 60}),
-        (6, {"rates": STEEP}),
+        (11, {"shocks": GOOD.shocks | {"equity_correlation": 1_001}}), (6, {"rates": STEEP}),
     ]
 
     def check(self, number, **changes):

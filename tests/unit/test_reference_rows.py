@@ -21,15 +21,26 @@ class LimitRows(unittest.TestCase):
         self.assertEqual(self.refusals("amounts"), [1, 10] * 8 + [1])
         self.assertEqual(self.refusals("shocks"), [1, 11] * 12 + [1])
         self.assertEqual(self.refusals("rates"), [5, 1, 1, 5] * 4 + [1])
+        self.assertEqual(self.refusals("equity-correlation"), [1, 1, 0, 0, 11, 11])
         self.assertEqual(self.refusals("forwards"), [0, 6] * (len(self.refusals("forwards")) // 2))
+
+    def test_maps(self):
+        """Bit 8 may stand, bit 9 may not."""
+        self.assertEqual(self.refusals("map"), [1, 1] + [3] * 4 + [3, 1] + [3] * 7 + [1, 1])
+
+    def test_order(self):
+        of_equity = [11, 12, 12, 1, 11, 2, 2]
+        self.assertEqual(self.refusals("order"), [3, 9, 4, 5, 7, 8, 8, 10, 11, 12, 12, 2, 2, 0, *of_equity, 3, 5, 11, 6])
+        self.assertEqual(self.refusals("four-order")[17:], [*of_equity, 1, 4, 1, 5, 5, 11, 6, 0])
 
     def test_four_bytes(self):
         """A rate that passes 5 is refused by 6, or by nothing."""
-        self.assertEqual(self.refusals("four-map"), [1] + [3] * 13 + [1, 3])
+        self.assertEqual(self.refusals("four-map"), [1] + [3] * 5 + [1] + [3] * 7 + [1, 3])
         self.assertEqual(self.refusals("four-counts"), [1, 4, 1, 1, 4, 4])
         self.assertEqual(self.refusals("four-rates"), [5, 0, 6, 5, 5, 6, 6, 5, 5, 5, 0, 0, 5, 5, 1, 1])
         self.assertEqual(self.refusals("four-forwards"), [0, 6] * 8)
-        self.assertEqual(self.refusals("four-order"), [3, 9, 7, 8, 7, 8, 10, 11, 12, 12, 12, 4, 5, 2, 6, 2, 0])
+        self.assertEqual(self.refusals("four-equity-correlation"), [1, 1, 0, 0, 11, 11])
+        self.assertEqual(self.refusals("four-order")[:17], [3, 9, 7, 8, 7, 8, 10, 11, 12, 12, 12, 4, 5, 2, 6, 2, 0])
 
     def test_every_refusal(self):
         for groups in (limits.groups(), limits.four_byte_groups()):
@@ -61,13 +72,13 @@ class SaveRows(unittest.TestCase):
         return [case_refusal(given) for _, given in rows]
 
     def test_both_sides(self):
-        self.assertEqual(self.refusals(to_save.limit_rows()), [0, 0, 9] + [5] * 6 + [8] * 2 + [10] * 8 + [11] * 12 + [12] * 4)
+        self.assertEqual(self.refusals(to_save.limit_rows()), [0, 0, 9] + [5] * 6 + [8] * 2 + [10] * 8 + [11] * 13 + [12] * 4)
         self.assertEqual(self.refusals(to_save.count_rows()), [4, 4, 4, 4, 5, 7, 0, 7, 8, 0, 0, 7, 8])
         self.assertEqual(self.refusals(to_save.forward_rows()), [0, 6] * 3)
 
     def test_order(self):
-        for given, expected in ((host_cases.SMALL, [3, 9, 4, 5, 7, 8, 7, 8, 10, 11, 12, 6]),
-                                (host_cases.SMALL_FOUR, [3, 9, 7, 8, 7, 8, 10, 11, 12, 4, 5, 6])):
+        for given, expected in ((host_cases.SMALL, [3, 9, 4, 5, 7, 8, 7, 8, 10, 11, 12, 11, 6]),
+                                (host_cases.SMALL_FOUR, [3, 9, 7, 8, 7, 8, 10, 11, 12, 4, 5, 11, 6])):
             faults = host_cases.faults_of(given)
             numbers = [int(name.split()[0]) for name, _ in faults]
             self.assertEqual(numbers, expected)
@@ -91,6 +102,11 @@ class SaveRows(unittest.TestCase):
         self.assertEqual(self.refusals(to_save.omission_rows()), [0] * 8)
         self.assertEqual({shortest(given)[1] for given in rows}, {0x66 | ufr | bonds | amounts for ufr in (0, 1) for bonds in (0, 8)
                                                                   for amounts in (0, 16)})
+        # with the equity correlation any three of the four fields are met in each combination
+        maps = [int.from_bytes(shortest(given)[:2], "big") for given in rows]
+        for left in (0, 3, 4, 8):
+            others = [bit for bit in (0, 3, 4, 8) if bit != left]
+            self.assertEqual(len({tuple(bits >> bit & 1 for bit in others) for bits in maps}), 8)
 
 
 if __name__ == "__main__":

@@ -21,7 +21,7 @@ class Saving(unittest.TestCase):
         (9, {"ufr": 5_001}), (4, {"rates": [0] * 61}), (5, {"rates": [10_001] * 60}), (7, {"pension": [0] * 121}),
         (8, {"pension": [100_000_001]}), (7, {"bonds": [0] * 61}), (8, {"bonds": [100_000_001]}),
         (10, {"amounts": GOOD.amounts | {"currency": 10 ** 11 + 1}}), (11, {"shocks": GOOD.shocks | {"duration": 501}}), (12, {"heads": 0}),
-        (6, {"rates": STEEP}),
+        (11, {"shocks": GOOD.shocks | {"equity_correlation": 1_001}}), (6, {"rates": STEEP}),
     ]
 
     def check(self, number, **changes):

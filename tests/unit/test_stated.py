@@ -82,6 +82,12 @@ impl Model for Ends {
 }
 """)
 
+    def test_ghost_fields(self):
+        """What they are told by stays, and goes where no type has one."""
+        use, told = "ghost use Rattle.a.Ends.{small};\n", "pub struct Small {\n    pub ghost is: { small },\n}\n"
+        self.assertEqual(stated.types_alone(use + told), "#![tactic(auto)]\n" + use + told)
+        self.assertEqual(stated.types_alone(use + "pub struct Low;\n"), "#![tactic(auto)]\npub struct Low;\n")
+
 
 class Tree(unittest.TestCase):
     def setUp(self):

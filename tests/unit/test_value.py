@@ -411,15 +411,16 @@ class Several(Checkout):
         self.assertIn(b"not allowed with", self.value("--json", "--csv=;", self.c1).stderr)
 
     def test_what_is_handed_in(self):
-        """The first bytes of a file, which decide; the longest that can be accepted is whole among them."""
+        """The first bytes of a file, which decide; the longest that can be accepted, with every field, is whole among them."""
         self.stand_in(b"R 1\n", refused(1), 1)
         self.list_crates("another program")
-        largest = in_four_bytes((ROOT / "cases/largest.case").read_bytes())
-        self.assertEqual(len(largest), 17_623)
-        for data in (largest, bytes(17_624), bytes(17_625), bytes(40_000)):
+        case = casetext.read(in_four_bytes((ROOT / "cases/largest.case").read_bytes()))
+        largest = casetext.write(replace(case, equity_correlation=999))
+        self.assertEqual(len(largest), 17_625)
+        for data in (largest, bytes(17_626), bytes(17_627), bytes(40_000)):
             (self.folder / "long.case").write_bytes(data)
             self.value("--csv", self.folder / "long.case")
-            self.assertEqual((self.rt / "input").read_bytes(), data[:17_624])
+            self.assertEqual((self.rt / "input").read_bytes(), data[:17_626])
 
 
 class Texts(Checkout):
@@ -556,7 +557,7 @@ class Months(Checkout):
             for case, case_bytes in files[0].items():
                 for history, history_bytes in files[1].items():
                     self.with_months(*form, case, history=history, start=258)
-                    self.assertEqual(handed(), [case_bytes[:17_624], history_bytes[:241], b"258\n"])
+                    self.assertEqual(handed(), [case_bytes[:17_626], history_bytes[:241], b"258\n"])
         self.with_months("short.case", history="a.csv", start=119)
         self.assertEqual(handed(), [b"ab", months.write(self.rates, 119), b"119\n"])
         for start in (-1, 2 ** 64, 10 ** 40):

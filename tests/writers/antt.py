@@ -2,10 +2,11 @@
 
 from itertools import groupby
 
-from tests.reference.reference import AMOUNTS, LOWER, SHOCKS, UPPER
+from tests.reference.reference import AMOUNTS, LOWER, NO_SHOCKS, SHOCKS, UPPER
 
 ENDS = ((LOWER, "low"), (UPPER, "high"))
 PEOPLE = ("heads", "pension_age", "mean_age")
+PRESENT = "ufr", "bonds", "amounts", "equity"  # the fields that a file need not have, in its order
 SHORTEST_RUN = 4  # this many pairs of bytes, or numbers of a list, in a row are written as one
 
 
@@ -81,8 +82,8 @@ def list_term(values, term=str):
 
 def given_term(case):
     """A case as it is handed in. `fields_of`, `amounts_of` and `shocks_of` take the numbers in order."""
-    amounts, shocks = (f"{name}_of {' '.join(map(str, values))}" if any(values) else f"no_{name}"
-                       for name, values in (("amounts", case.amounts.values()), ("shocks", case.shocks.values())))
+    numbers = lambda name, values, absent: f"no_{name}" if values == absent else " ".join([f"{name}_of", *map(str, values.values())])
+    amounts, shocks = numbers("amounts", case.amounts, dict.fromkeys(AMOUNTS, 0)), numbers("shocks", case.shocks, NO_SHOCKS)
     fields = f"fields_of {case.rate_bytes} {case.ufr} {argument(amounts)} {argument(shocks)} {case.heads} {case.pension_age} {case.mean_age}"
     lists = list_term(case.rates, integer), list_term(case.pension), list_term(case.bonds)
     return " ".join(["given", *map(argument, (fields, *lists))])
@@ -106,6 +107,11 @@ def window_term(window, names):
     """A rolling window; `window_of` takes its numbers in order. names: of days, as tuples."""
     rates, sums = argument(ring_term(window.rates, names)), argument(day_or_name(window.sums, names))
     return f"window_of {window.count} {window.start} {rates} {sums}"
+
+
+def present_term(*present):
+    """Which of the fields that a file need not have are there."""
+    return "record { " + "; ".join(f"{name} = {str(there).lower()}" for name, there in zip(PRESENT, present, strict=True)) + " }"
 
 
 def record(fields, indent="  "):
@@ -146,20 +152,36 @@ def case_definition(name, case, comment):
     return f"-- {comment}\nabbrev pub {name} : FileCase\n{name} = {case_term(case)}\n"
 
 
-def computed(name, *equations):
-    """A statement that both sides of each equation compute to the same."""
-    statement = equations[0] if len(equations) == 1 else "\n    × ".join(f"({one})" for one in equations)
-    proof = "refl" if len(equations) == 1 else "(" + ", ".join("refl" for _ in equations) + ")"
+def proved(name, *parts):
+    """A statement of parts (proposition, proof), each of which is computed."""
+    propositions, proofs = zip(*parts)
+    statement = propositions[0] if len(parts) == 1 else "\n    × ".join(f"({one})" for one in propositions)
+    proof = proofs[0] if len(parts) == 1 else "(" + ", ".join(proofs) + ")"
     return f"{name} : {statement}\nunfolding all\n{name} = {proof}\n"
 
 
+def computed(name, *equations):
+    """A statement that both sides of each equation compute to the same."""
+    return proved(name, *((equation, "refl") for equation in equations))
+
+
+def fraction_part(term, x):
+    """That a term is this fraction: neither has a denominator of 0, and crosswise they are the same."""
+    return f"{term} ≐ {fraction(x)}", "(lit< tt, lit< tt, refl)"
+
+
 def computed_fraction(name, term, x):
-    return f"{name} : {term} ≐ {fraction(x)}\nunfolding all\n{name} = (lit< tt, lit< tt, refl)\n"
+    return proved(name, fraction_part(term, x))
+
+
+COMPARED = "lit≤ tt"  # the proof of a computed comparison
+COMPARED_TWICE = f"({COMPARED}, {COMPARED})"
 
 
 def holds(name, proposition, fields):
-    """A record whose fields are computed comparisons."""
-    return f"{name} : {proposition}\nunfolding all\n{name} = record {{ " + "; ".join(f"{field} = lit≤ tt" for field in fields) + " }\n"
+    """A record whose fields are computed comparisons; fields are their proofs by name."""
+    proofs = "; ".join(f"{field} = {proof}" for field, proof in fields.items())
+    return f"{name} : {proposition}\nunfolding all\n{name} = record {{ {proofs} }}\n"
 
 
 def refuted(name, proposition, field):

@@ -74,12 +74,12 @@ def funds():
                         ("deepest", "the lowest rates, and one bond flow, at term 60, which stays on the unadjusted curve")):
         case = getattr(examples, name)()
         yield Example(name, reference.encode(case, True, bool(case.bonds), True), title)
-    largest = replace(examples.up(), days=flat(*range(70)), pension=[10 ** 8] * 120, bonds=[10 ** 8] * 60)
+    largest = replace(examples.apart(), days=flat(*range(70)), pension=[10 ** 8] * 120, bonds=[10 ** 8] * 60)
     yield Example("largest", reference.encode(largest, True, True, True),
-                  "the longest file of two-byte rates: 70 days, 120 and 60 flows")
+                  "the longest file of two-byte rates: every field, 70 days, 120 and 60 flows")
     longest = replace(largest, days=flat(*range(0, 70 * 101, 101)), rate_bytes=4)
     yield Example("longest", reference.encode(longest, True, True, True),
-                  "the longest file: 70 days of four-byte rates, 120 and 60 flows")
+                  "the longest file: every field, 70 days of four-byte rates, 120 and 60 flows")
     yield Example("shortage", plain(**cash(1_049_999)), "C1 with one euro less than 105 percent of L")
     data = casetext.write(by_hand("fund.toml"))
     yield Example("fund", data, "a realistic small fund, written by hand as text; start here")
@@ -87,6 +87,10 @@ def funds():
     undecided = replace(fund, amounts=fund.amounts | {"cash": 19_260_330})
     yield Example("fund_undecided", reference.encode(undecided, True, True, True),
                   "the fund with cash that brings it within two euros of a border")
+    spread = replace(fund, shocks=fund.shocks | {"equity_correlation": 500})
+    assert reference.Rounded(spread).S2 < reference.Rounded(fund).S2
+    yield Example("fund_spread", reference.encode(spread, True, True, True),
+                  "the fund with a correlation of 50 percent between its equity classes, which makes its buffer smaller")
     days = [list(day) for day in fund.days]
     days[12][29] *= 10
     yield Example("fund_refused", reference.encode(replace(fund, days=days), True, True, True),

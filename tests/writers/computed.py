@@ -7,7 +7,7 @@ Command line: python3 -m tests.writers.computed           writes the files
 
 import sys
 
-from tests.writers import (figures, four_byte_figures, four_bytes, host_answers, margins, month_histories, reading, rolling_windows,
+from tests.writers import (equity, figures, four_byte_figures, four_bytes, host_answers, margins, month_histories, reading, rolling_windows,
                            saving, search)
 from tests.writers.stored import asked_to_check, write_or_check
 
@@ -21,6 +21,7 @@ MODULES = [
     month_histories,
     four_bytes,
     four_byte_figures,
+    equity,
     host_answers,
 ]
 

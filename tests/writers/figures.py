@@ -27,7 +27,7 @@ use Rattle.model.specs.Numbers.{table}
 use Rattle.model.specs.Constants.{last_term}
 use Rattle.model.specs.Case.{FileCase, s}
 use Rattle.model.specs.Layout.{file_of}
-use Rattle.method.specs.Fraction.{◌//◌, ◌≐◌, whole}
+use Rattle.method.specs.Fraction.{◌//◌, ◌≐◌, whole, Rooted}
 use Rattle.method.specs.Curve.{Curve, base, up, down, curve, P, weight}
 use Rattle.method.specs.Exact as Exact
 use Rattle.method.specs.Rounded as Rounded
@@ -77,11 +77,12 @@ def fund_statements(name, case):
     for figure in MONEY:
         moved = " base" if figure in "LB" else ""
         out.append(computed(f"{name}-{figure}", *both_ends(f"Rounded.{figure} {name}_case{moved} {{e}}", getattr(rounded, figure))))
-    for figure in MONEY[:8]:
+    for figure, held in list(zip(MONEY, reference.EXACT))[:-1]:
+        term = f"{figure}²" if figure in reference.ROOTS else figure
         moved = " base" if figure in "LB" else ""
-        out.append(computed_fraction(f"{name}-exact-{figure}", f"Exact.{figure} {name}_case{moved}", getattr(exact, figure)))
-    out.append(computed_fraction(f"{name}-exact-S6²", f"Exact.S6² {name}_case", exact.S6_squared))
-    out.append(computed_fraction(f"{name}-exact-S²", f"Exact.S² {name}_case", exact.S_squared))
+        out.append(computed_fraction(f"{name}-exact-{term}", f"Exact.{term} {name}_case{moved}", getattr(exact, held)))
+    for part, x in (("plain", exact.S_squared.plain), ("factor", exact.S_squared.factor), ("under", exact.S_squared.radicand)):
+        out.append(computed_fraction(f"{name}-exact-S²-{part}", f"(Exact.S² {name}_case).{part}", x))
     out.append(verdict_statement(name, name + "_case", case))
     return out
 

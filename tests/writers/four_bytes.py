@@ -18,7 +18,7 @@ FOUR_HEAD = """\
 """ + WRITTEN + """\
 use Prim.Native.Nat.{ℕ, zero, suc}
 use mathlib.Core.Path.{◌≡◌, refl}
-use mathlib.Core.Bool.{true}
+use mathlib.Core.Bool.{true, false}
 use mathlib.Core.List.{List, [], ◌∷◌, ◌++◌, map}
 use lib.IntN.{pos, neg_ℤ}
 use Rattle.std.specs.Prelude.{None}

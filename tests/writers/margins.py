@@ -6,8 +6,8 @@ from types import SimpleNamespace
 
 from tests.inputs import examples
 from tests.reference import reference
-from tests.reference.reference import Exact, Rounded
-from tests.writers.antt import case_term, computed, holds, refuted
+from tests.reference.reference import Exact, Rounded, Surd
+from tests.writers.antt import COMPARED, COMPARED_TWICE, case_term, computed, definition, holds, refuted
 from tests.writers.statements import WRITTEN
 
 BORDERS_HEAD = """\
@@ -47,23 +47,36 @@ UndecidedNear k (Ok v) = v.verdict ≡ Onbeslist → Near k
 
 FAR_FUNDS = {  # by the cash: what the fund is, and the field that is false of it at each border
     "short": (900_000, "below the first border", "below", "positive"),
-    "middling": (1_075_000, "above the first border and below the second", "above", "below"),
+    "middling": (1_075_000, "above the first border and below the second", "above", "below.0"),
     "rich": (1_200_000, "above both borders", "above", "above"),
 }
 
 
-def within_margins(A, L, S, WL, WB):
+ROOTED = {  # squares that hold a root, by the number of cents that they are the square of, under the names of the statements
+    7 * 10 ** 8: ("seven_million²", "The square of an S of 700,000,000 cents, a part of it as a root, and that of an S of 0.",
+                  Surd(Fraction(48 * 10 ** 16), Fraction(5 * 10 ** 15), Fraction(4))),
+    0: ("none²", None, Surd(Fraction(0), Fraction(0), Fraction(0))),
+}
+
+
+def rooted_definitions():
+    term = lambda surd: f"record {{ plain = whole {surd.plain}; factor = whole {surd.factor}; under = whole {surd.radicand} }}"
+    assert all(S * S <= surd <= S * S for S, (_, _, surd) in ROOTED.items())
+    return [definition(name, "Rooted", term(surd), what) for name, what, surd in ROOTED.values()]
+
+
+def within_margins(A, L, S_squared, WL, WB):
     """The reference's own answer for figures in whole cents."""
-    return reference.within_margins(SimpleNamespace(A=Fraction(A), L=Fraction(L), S_squared=Fraction(S * S)), WL, WB)
+    return reference.within_margins(SimpleNamespace(A=Fraction(A), L=Fraction(L), S_squared=S_squared), WL, WB)
 
 
 def near_statement(name, kind, figures, fields, widths):
     """That figures are within the margin, or that they are not, as the reference says."""
     A, L, S, failing = figures
     margin = {"NearFirst": "(first_margin long)", "NearSecond": "(second_margin long)"}[kind]
-    root = f" (whole {S * S})" if kind == "NearSecond" else ""
-    proposition = f"{kind} {margin} (whole {A}) (whole {L}){root}"
-    assert within_margins(A, L, S, *widths) == (failing is None)
+    root, _, S_squared = ROOTED[S] if kind == "NearSecond" else ("", None, Fraction(S * S))
+    proposition = f"{kind} {margin} (whole {A}) (whole {L}) {root}".rstrip()
+    assert within_margins(A, L, S_squared, *widths) == (failing is None)
     return holds(name, proposition, fields) if failing is None else refuted(name, proposition, failing)
 
 
@@ -84,12 +97,14 @@ def margin_statements():
         """A and L with A - L - S = over, and 20 × A far from 21 × L."""
         return (10 ** 9 + S + over, 10 ** 9, S)
 
+    fields = dict.fromkeys(("above", "below"), COMPARED)
     for name, over, failing in (("within-above", first, None), ("within-below", -first, None), ("beyond-above", first + 1, "above"),
                                 ("beyond-below", -first - 1, "below")):
-        out.append(near_statement(f"first-border-{name}", "NearFirst", (*at_first(over), failing), ("above", "below"), widths))
-    fields = ("above", "positive", "below")
+        out.append(near_statement(f"first-border-{name}", "NearFirst", (*at_first(over), failing), fields, widths))
+    out += rooted_definitions()
+    fields = {"above": COMPARED, "positive": COMPARED, "below": COMPARED_TWICE}  # the plain part, then the part that holds the root
     for name, over, S, failing in (("within-above", second, 7 * 10 ** 8, None), ("within-below", -second, 7 * 10 ** 8, None),
-                                   ("beyond-above", second + 1, 7 * 10 ** 8, "above"), ("beyond-below", -second - 1, 7 * 10 ** 8, "below"),
+                                   ("beyond-above", second + 1, 7 * 10 ** 8, "above"), ("beyond-below", -second - 1, 7 * 10 ** 8, "below.1"),
                                    ("within-without-S", -second, 0, None), ("beyond-without-S", -second - 1, 0, "positive")):
         out.append(near_statement(f"second-border-{name}", "NearSecond", (*at_second(over, S), failing), fields, widths))
     return out

@@ -3,7 +3,7 @@ crates/monthscases/proofs/Months.antt."""
 
 from fractions import Fraction
 
-from tests.inputs import histories
+from tests.inputs import examples, histories
 from tests.reference import months, reference
 from tests.writers.antt import argument, both_ends, computed, definition, file_term, integer, list_term, long_list, short_list
 from tests.writers.statements import NAMES, WRITTEN, integers, number_table, strings
@@ -175,6 +175,13 @@ def months_listing(name, file):
             computed(f"{name}-listing", f"listing (answer_of (months_valuation {name}_file found_history 119 240 240)) ≡ text {name}_listing")]
 
 
+def classes_listing():
+    """Likewise, of a file with losses in four equity classes, whose correlation is 500: its field is behind the UFR that is put in."""
+    data = reference.shortest(reference.given_of(examples.four_classes(500)))
+    return [definition("classes_file", "List ℕ", file_term(data), "Losses in four equity classes, whose correlation is 500."),
+            *months_listing("classes", data)]
+
+
 def factor_21(name, file, start):
     """The first factor that has the UFR in it."""
     into, factors, _ = with_months(with_found(file, start))
@@ -197,7 +204,7 @@ def months_refused():
     return "\n".join([MONTHS_TABLE_HEAD, *month_statements(), *ufr_statements(),
                       *number_table("months-order", [months_row(*row) for row in rows.items()],
                                     "The order of checks from the end of the file on."),
-                      *months_listing("plain", histories.PLAIN), *months_listing("own_ufr", histories.OWN_UFR), *months_buffers(),
+                      *months_listing("plain", histories.PLAIN), *months_listing("own_ufr", histories.OWN_UFR), *classes_listing(), *months_buffers(),
                       untouched_statement("untouched-on-1", dict(histories.quick_value_rows())["1 before 17"]),
                       untouched_statement("untouched-on-19", rows["19, from another start"]),
                       *number_table("four-months", [months_row(*row) for row in histories.four_value_rows()],

@@ -1,6 +1,6 @@
 """Rolling windows: crates/rollingmodel/proofs/RollingCases.antt, and what takes longer to compute, crates/rollingcases/proofs/Rolling.antt."""
 
-from tests.inputs import host_cases, windows
+from tests.inputs import examples, host_cases, windows
 from tests.reference import reference, rolling
 from tests.reference.reference import encode
 from tests.writers.antt import argument, computed, day_or_name, definition, given_term, integer, list_term, short_list, window_term
@@ -42,7 +42,7 @@ use Rattle.rollingmodel.specs.declared.RollingWindow.{RollingWindow}
 use Rattle.rollingmodel.specs.declared.ChangedWindow.{ChangedWindow}
 use Rattle.method.proofs.Computing.{text}
 use Rattle.rollingmodel.proofs.Computing.{all}
-use Rattle.savingmodel.proofs.SavedCases.{fields_of, no_amounts, no_shocks, small}
+use Rattle.savingmodel.proofs.SavedCases.{amounts_of, shocks_of, fields_of, no_amounts, no_shocks, small}
 """
 
 ROLLING_TABLE_HEAD = """\
@@ -175,15 +175,26 @@ def into_buffers(*lengths):
     return f"flat_days small {argument(list_term(held[0]))} {argument(list_term(held[1], integer))}", valued.factors, valued.rates
 
 
+def flat_lines(given):
+    """The listing of a case with the days of flat_days."""
+    case = rolling.case_with(given, rolling.days_held(windows.FLAT))
+    return reference.listing(encode(case, *reference.needed_fields(case))).decode().splitlines()
+
+
+def listing_statements(name, given, what=None):
+    """What is printed of a valuation with flat_days."""
+    return [definition(f"{name}_listing", "List String", strings(flat_lines(given)), what),
+            computed(f"{name}-listing", f"listing (answer_of (rolling_valuation flat_days {case_argument(given)} 240 240)) ≡ text {name}_listing")]
+
+
 def value_statements():
-    """The answer and both buffers, except zero rates, which take longer."""
-    case = rolling.case_with(host_cases.SMALL, rolling.days_held(windows.FLAT))
-    lines = reference.listing(encode(case, *reference.needed_fields(case))).decode().splitlines()
+    """The answer and both buffers, except zero rates, which take longer; and the answer for equity classes that do not fall together."""
     long, factors, rates = into_buffers(242, 241)
     short_rates, same_factors, _ = into_buffers(240, 239)
     short_factors, _, same_rates = into_buffers(239, 240)
-    return [definition("flat_listing", "List String", strings(lines)),
-            computed("flat-listing", "listing (answer_of (rolling_valuation flat_days small 240 240)) ≡ text flat_listing"),
+    spread = reference.given_of(examples.four_classes(500))
+    return [*listing_statements("flat", host_cases.SMALL),
+            *listing_statements("classes", spread, "A case with losses in four equity classes, whose correlation is 500."),
             computed("window-factors", f"take 2 (rolling_factors_after {long}) ≡ {list_term(factors[:2])}"),
             computed("window-kept", f"drop 240 (rolling_factors_after {long}) ≡ {list_term(factors[240:])}",
                      f"drop 240 (rolling_rates_after {long}) ≡ {list_term(rates[240:], integer)}"),

@@ -2,9 +2,9 @@
 
 from tests.inputs import host_cases, to_save
 from tests.reference import reference
-from tests.reference.reference import AMOUNTS, SHOCKS
+from tests.reference.reference import AMOUNTS, NO_SHOCKS, SHOCKS
 from tests.writers.antt import PEOPLE, argument, computed, definition, file_term, given_term, record, short_list
-from tests.writers.statements import WRITTEN, after_equation, answer_equation, case_group, cases_definition, listed, maker
+from tests.writers.statements import LETTERS, WRITTEN, after_equation, answer_equation, case_group, cases_definition, listed, maker
 
 SAVED_HEAD = """\
 -- Saving a case: which number it is refused with, its shortest bytes, the answer and the lent buffer afterwards, as computed statements about
@@ -29,14 +29,15 @@ use Rattle.savingmodel.proofs.Computing.{all}
 
 def makers():
     """The records of a case, each number by its name."""
-    named = lambda names, letters="abcdefghijkl": list(zip(names, letters))
+    named = lambda names, letters=LETTERS: list(zip(names, letters))
     people = record(named(PEOPLE, "efg"), "    ")
     return [maker("amounts_of", ["ℕ"] * 8 + ["Amounts"], named(AMOUNTS), "eight amounts, in the file's order"),
-            maker("shocks_of", ["ℕ"] * 12 + ["Shocks"], named(SHOCKS), "twelve shocks, likewise"),
+            maker("shocks_of", ["ℕ"] * 13 + ["Shocks"], named(SHOCKS), "thirteen shocks, as the record has them"),
             maker("fields_of", ["ℕ", "ℕ", "Amounts", "Shocks", "ℕ", "ℕ", "ℕ", "CaseFields"],
                   [("rate_bytes", "a"), ("ufr", "b"), ("amounts", "c"), ("shocks", "d"), ("people", people)],
                   "the number of bytes of a rate, UFR, amounts, shocks, head count, pension age and mean age"),
-            definition("no_amounts", "Amounts", "amounts_of" + " 0" * 8), definition("no_shocks", "Shocks", "shocks_of" + " 0" * 12)]
+            definition("no_amounts", "Amounts", "amounts_of" + " 0" * 8),
+            definition("no_shocks", "Shocks", " ".join(["shocks_of", *map(str, NO_SHOCKS.values())]), "the equity classes fall together")]
 
 
 def case_groups():
@@ -49,7 +50,8 @@ def case_groups():
 def shortest_statements():
     rows = list(to_save.omission_rows())
     terms = listed([(row, argument(file_term(reference.shortest(given)))) for row, given in rows])
-    return [cases_definition("short_cases", rows, "\"A UFR of 4,200, an all-zero amounts field and an empty bond list are left out.\""),
+    what = "A UFR of 4,200, an all-zero amounts field, an empty bond list and an equity correlation of 1,000 are left out."
+    return [cases_definition("short_cases", rows, what),
             definition("short_files", "List (List ℕ)", terms, "their bytes"),
             computed("shortest-bytes", "map shortest short_cases ≡ short_files")]
 

@@ -6,7 +6,7 @@ from tests.inputs import examples, files, windows
 from tests.reference import reference, rolling
 from tests.reference.reference import AMOUNTS, LOWER, UPPER, Exact, ExactCurve, Rounded, encode, refusal
 from tests.writers.antt import (argument, both_ends, case_definition, computed, computed_fraction, definition, file_term, given_term,
-                                integer, list_term, record, short_list)
+                                integer, list_term, present_term, record, short_list)
 
 VERDICTS = {reference.DEKKINGSTEKORT: "Dekkingstekort", reference.RESERVETEKORT: "Reservetekort",
             reference.VRIJ_VERMOGEN: "VrijVermogen"}  # of the exact working
@@ -58,9 +58,12 @@ def strings(lines):
 
 # ---------------------------------------------------------------- records and lists of refusals
 
+LETTERS = "abcdefghijklm"
+
+
 def maker(name, kinds, fields, comment):
     """A function that makes a record of its arguments, which are called a, b, c and so on."""
-    letters = " ".join("abcdefghijkl"[:len(kinds) - 1])
+    letters = " ".join(LETTERS[:len(kinds) - 1])
     return f"-- {comment}\nabbrev pub {name} : {' → '.join(kinds)}\n{name} {letters} = {record(fields)}\n"
 
 
@@ -75,11 +78,10 @@ def number_table(name, rows, what):
 
 def read_statements(name, case, data):
     """The file, its case by name, and that the case gives the file. The other way is `case_statement`, which takes longer."""
-    bonds = "true" if case.bonds else "false"
+    present = present_term(True, bool(case.bonds), True, case.shocks["equity_correlation"] != reference.DEFAULT_EQUITY_CORRELATION)
     return [definition(f"{name}_file", "List ℕ", file_term(data), TITLES[name]),
             case_definition(name + "_case", case, "the case that it holds"),
-            computed(f"{name}-layout",
-                     f"file_of (record {{ ufr = true; bonds = {bonds}; amounts = true }}) {name}_case ≡ {name}_file")]
+            computed(f"{name}-layout", f"file_of ({present}) {name}_case ≡ {name}_file")]
 
 
 def case_statement(name):

@@ -11,7 +11,7 @@ from dataclasses import replace
 from tests.compare import programs
 from tests.inputs import examples, files
 from tests.inputs.examples import c1, flat
-from tests.reference.reference import encode, refusal
+from tests.reference.reference import SHOCK_LIMITS, encode, refusal
 from tests.writers.stored import asked_to_check, write_or_check
 
 SEED = 2012
@@ -51,7 +51,16 @@ def vector_files():
     rich = files.all_fields()
     damaged = some_damaged(rng, rich, 14) + [rich[:-1], rich + b"\0", rich[:1]]
     stored = worked() + [files.file_of(rng, case) for case in cases] + damaged + list(files.long_files(rng))[:3]
-    return stored + four_byte_files(rng)
+    return stored + four_byte_files(rng) + equity_files(2) + equity_files(4)
+
+
+def equity_files(rate_bytes):
+    """Files with an equity correlation: at its limits and between them, one past them, cut off inside, a byte behind it, and bit 9."""
+    case = files.in_form(examples.up(), rate_bytes)
+    values = [0, 1, 500, 999, SHOCK_LIMITS["equity_correlation"], SHOCK_LIMITS["equity_correlation"] + 1]
+    made = [encode(replace(case, shocks=case.shocks | {"equity_correlation": value}), True, True, True, True) for value in values]
+    half = made[2]
+    return [*made, half[:-2], half[:-1], half + b"\0", bytes([half[0] | 2]) + half[1:]]
 
 
 def four_byte_files(rng):

@@ -10,7 +10,7 @@ from ginghamowl._hints import hint
 
 from .answer import Answer, History, NoAnswer
 
-MOST_BYTES, MOST_HISTORY_BYTES = 17_624, 241  # the longest acceptable file and history have a byte less, so these decide
+MOST_BYTES, MOST_HISTORY_BYTES = 17_626, 241  # the longest acceptable file and history have a byte less, so these decide
 LARGEST_TEXT, LARGEST_FILE = 16_000_000, 1 << 30  # bytes; more is no case, and an endless input must end
 
 

@@ -4,9 +4,10 @@ import textwrap
 import tomllib
 from pathlib import Path
 
-from .fields import DEFAULT_UFR
+from .fields import DEFAULT_EQUITY_CORRELATION, DEFAULT_UFR, Case
 from .filebytes import Fault, Reader
-from .units import RATE, shown
+from .relief import Ends, relieved
+from .units import RATE, SHARE, shown
 
 WORDS = Path(__file__).resolve().parents[2] / "hosts" / "words.toml"  # the table of refusal sentences
 WIDTH = 118
@@ -31,7 +32,24 @@ def explain(data: bytes) -> tuple[str, bool]:
                                subsequent_indent=" " * 18)
     if fault:
         return "\n".join([*lines, "", str(fault), f"refusal {fault.number}: {sentence_of(fault.number)}", ""]), False
-    absent = [f"{name} absent: {meaning}" for name, held, meaning in (
-        ("UFR", case.ufr, shown(DEFAULT_UFR, RATE)), ("bond flows", case.bonds, "none"),
-        ("amounts", case.amounts, "all 0")) if held is None]
-    return "\n".join([*lines, *(" " * 16 + line for line in absent), "", f"accepted: {len(data):,} bytes", ""]), True
+    said = " " * 16
+    return "\n".join([*lines, *(said + line for line in [*absent(case), *relief_of(case)]), "", f"accepted: {len(data):,} bytes", ""]), True
+
+
+def absent(case: Case) -> list[str]:
+    """A line for each field that an accepted file does not have, with what holds then."""
+    return [f"{name} absent: {meaning}" for name, held, meaning in (
+        ("UFR", case.ufr, shown(DEFAULT_UFR, RATE)), ("bond flows", case.bonds, "none"), ("amounts", case.amounts, "all 0"),
+        ("equity correlation", case.equity_correlation, f"{shown(DEFAULT_EQUITY_CORRELATION, SHARE)}, so that S2 is the sum of its losses"))
+        if held is None]
+
+
+def relief_of(case: Case) -> list[str]:
+    """S2 without relief for spread and with it, where the case has any correlation below 100 %."""
+    both = relieved(case)
+    return [f"S2 without relief, the sum of its losses: {in_euros(both[0])}", f"S2 with it: {in_euros(both[1])}"] if both else []
+
+
+def in_euros(ends: Ends) -> str:
+    """A bracket in cents as people say it, its two ends where they differ."""
+    return " to ".join(f"{cents // 100:,}.{cents % 100:02}" for cents in sorted(set(ends))) + " euros"

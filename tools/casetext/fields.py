@@ -12,9 +12,11 @@ TERMS = 60  # of a day
 MOST_DAYS, MOST_PENSION, MOST_BONDS = 70, 120, 60
 FORWARD_LIMITS = -2_000, 12_000  # in steps, of the mean one-year forward rate
 DEFAULT_UFR = 4_200
+DEFAULT_EQUITY_CORRELATION = 1_000  # in thousandths: S2 is the sum of its four losses
 
-FIELDS = ["UFR", "days", "pension flows", "bond flows", "amounts", "shocks", "people", "days in four bytes"]  # by their bits
-REQUIRED, FORBIDDEN = (2, 5, 6), range(8, 16)  # and exactly one of the two days fields
+FIELDS = ["UFR", "days", "pension flows", "bond flows", "amounts", "shocks", "people", "days in four bytes",
+          "equity correlation"]  # by their bits
+REQUIRED, FORBIDDEN = (2, 5, 6), range(9, 16)  # and exactly one of the two days fields
 
 UFR_NUMBER = Number("ufr", 0, 5_000, RATE, "4.2 %")
 RATE_NUMBER = Number("rate", -1_000, 10_000, RATE, "0.226 %")
@@ -36,6 +38,7 @@ SHOCK_NUMBERS = [
     Number("spread", 0, 10_000, RATE, "1.24 %"),
     Number("duration", 0, 500, DURATION, "5.3 years"),
 ]
+EQUITY_CORRELATION_NUMBER = Number("equity_correlation", 0, 1_000, SHARE, "50 %")  # a shock in a text, a field of its own in a file
 PEOPLE_NUMBERS = [
     Number("heads", 1, 1_000_000, COUNT, "4180", 4),
     Number("pension_age", 0, 1_200, AGE, "66 years 3 months"),
@@ -69,6 +72,7 @@ class Case:
     amounts: dict[str, int] | None
     shocks: dict[str, int]
     people: dict[str, int]
+    equity_correlation: int | None = None
     dates: list[date] | None = field(default=None, compare=False)
     sheets: dict[str, str] = field(default_factory=dict, compare=False)
 

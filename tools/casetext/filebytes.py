@@ -1,12 +1,14 @@
 """The bytes of a case file: reading them in the order of the refusals (METHOD, Refusals), and writing them.
 
-The days are in one of two fields: with rates of two bytes after the UFR, or with rates of four after the people.
+The days are in one of two fields: with rates of two bytes after the UFR, or with rates of four after the people. Behind all of
+these stands the correlation between the equity classes.
 """
 
 from dataclasses import dataclass
 
-from .fields import (AMOUNT_NUMBERS, DAYS_FIELDS, FIELDS, FLOW_NUMBER, FORBIDDEN, MOST_BONDS, MOST_DAYS, MOST_PENSION,
-                     PEOPLE_NUMBERS, REQUIRED, SHOCK_NUMBERS, TERMS, UFR_NUMBER, Case, DaysField, forwards_out_of_limits)
+from .fields import (AMOUNT_NUMBERS, DAYS_FIELDS, EQUITY_CORRELATION_NUMBER, FIELDS, FLOW_NUMBER, FORBIDDEN, MOST_BONDS, MOST_DAYS,
+                     MOST_PENSION, PEOPLE_NUMBERS, REQUIRED, SHOCK_NUMBERS, TERMS, UFR_NUMBER, Case, DaysField,
+                     forwards_out_of_limits)
 from .units import COUNT, MONEY, Number, shown
 
 
@@ -56,7 +58,7 @@ class Reader:
             if bit in REQUIRED and bit not in standing:
                 raise Fault(3, byte, f"bit {bit} of the map, {FIELDS[bit]}, is missing; bits 2, 5 and 6 must stand")
             if bit in FORBIDDEN and bit in standing:
-                raise Fault(3, byte, f"bit {bit} of the map stands; bits 8 to 15 must not")
+                raise Fault(3, byte, f"bit {bit} of the map stands; bits 9 to 15 must not")
         if (1 in standing) == (7 in standing):
             which = "both stand" if 1 in standing else "are both missing"
             raise Fault(3, 1, f"bits 1 and 7 of the map, {FIELDS[1]} and {FIELDS[7]}, {which}; exactly one of them must stand")
@@ -130,11 +132,12 @@ class Reader:
         people = self.numbers("people", PEOPLE_NUMBERS, 12)
         if 7 in standing:
             days = self.days(field)
+        correlation = self.numbers("equity correlation", [EQUITY_CORRELATION_NUMBER], 11)["equity_correlation"] if 8 in standing else None
         if self.at != len(self.data):
             raise Fault(2, self.at, f"{len(self.data) - self.at:,} bytes follow the last field; the file must end here")
         for forward in forwards_out_of_limits(days, field):  # the first one refuses
             raise Fault(6, self.rates_at + rate_bytes * (forward.term - 1), str(forward))
-        return Case(rate_bytes, ufr, days, pension, bonds, amounts, shocks, people)
+        return Case(rate_bytes, ufr, days, pension, bonds, amounts, shocks, people, correlation)
 
 
 def in_file_and_words(value: int, number: Number) -> str:
@@ -175,12 +178,18 @@ def write(case: Case) -> bytes:
 
 def bytes_of(case: Case) -> bytes:
     """The bytes of a case, also of one that is refused. Each number fits its bytes."""
-    fields = {0: None if case.ufr is None else number_bytes([case.ufr], UFR_NUMBER), 2: flow_bytes(case.pension),
+    fields = {0: optional_bytes(case.ufr, UFR_NUMBER), 2: flow_bytes(case.pension),
               3: None if case.bonds is None else flow_bytes(case.bonds), 4: record_bytes(case.amounts, AMOUNT_NUMBERS),
               5: record_bytes(case.shocks, SHOCK_NUMBERS), 6: record_bytes(case.people, PEOPLE_NUMBERS),
-              case.days_field.bit: days_bytes(case.days, case.days_field)}
+              case.days_field.bit: days_bytes(case.days, case.days_field),
+              8: optional_bytes(case.equity_correlation, EQUITY_CORRELATION_NUMBER)}
     held = {bit: field for bit, field in sorted(fields.items()) if field is not None}
     return sum(1 << bit for bit in held).to_bytes(2, "big") + b"".join(held.values())
+
+
+def optional_bytes(value: int | None, number: Number) -> bytes | None:
+    """A field of one number; None where it is absent."""
+    return None if value is None else number_bytes([value], number)
 
 
 def number_bytes(values: list[int], number: Number) -> bytes:

@@ -8,10 +8,11 @@ from dataclasses import dataclass
 from datetime import date
 from pathlib import Path
 
-from .fields import (AMOUNT_NUMBERS, DAYS_FIELDS, DEFAULT_UFR, FLOW_NUMBER, MOST_BONDS, MOST_DAYS, MOST_PENSION,
-                     PEOPLE_NUMBERS, SHOCK_NUMBERS, TERMS, UFR_NUMBER, Case, DaysField, forwards_out_of_limits)
+from .fields import (AMOUNT_NUMBERS, DAYS_FIELDS, DEFAULT_EQUITY_CORRELATION, DEFAULT_UFR, EQUITY_CORRELATION_NUMBER, FLOW_NUMBER,
+                     MOST_BONDS, MOST_DAYS, MOST_PENSION, PEOPLE_NUMBERS, SHOCK_NUMBERS, TERMS, UFR_NUMBER, Case, DaysField,
+                     forwards_out_of_limits)
 from .sheets import Cell, Layout, Sheet, days_in, flows_in, read_bytes, sheet_of
-from .units import (COUNT, MONEY, RATE, Bad, Kind, NotWhole, Number, Unit, advice_for, could_be_fractions,
+from .units import (COUNT, MONEY, RATE, SHARE, Bad, Kind, NotWhole, Number, Unit, advice_for, could_be_fractions,
                     fraction_question, is_bare, listed, printable, shown, thousands_mark, whole)
 
 MOST_SHOWN = 40  # faults in a message; the list has all
@@ -26,7 +27,7 @@ KEYS = {
     "days": ["rate_bytes", "unit", "rates", "csv", "lines", "header", "labels"],
     "flows": ["pension", "pension_csv", "bonds", "bonds_csv"],
     "amounts": [number.name for number in AMOUNT_NUMBERS],
-    "shocks": [number.name for number in SHOCK_NUMBERS],
+    "shocks": [number.name for number in (*SHOCK_NUMBERS, EQUITY_CORRELATION_NUMBER)],
     "people": [number.name for number in PEOPLE_NUMBERS],
 }
 TABLES = [name for name in KEYS if name]
@@ -198,10 +199,14 @@ class Text:
                                    + (f"; did you mean {meant}?" if meant else ""))
 
     def case(self) -> Case:
-        ufr, rate_bytes = self.ufr(), self.rate_bytes()
-        case = Case(rate_bytes, ufr, self.days(rate_bytes), self.flows("pension", MOST_PENSION), self.flows("bonds", MOST_BONDS),
-                    self.numbers("amounts", AMOUNT_NUMBERS) if self.has_amounts else None,
-                    self.numbers("shocks", SHOCK_NUMBERS), self.numbers("people", PEOPLE_NUMBERS),
+        ufr = self.optional("", UFR_NUMBER, f"the UFR is {shown(DEFAULT_UFR, RATE)}")
+        rate_bytes = self.rate_bytes()
+        days, pension, bonds = self.days(rate_bytes), self.flows("pension", MOST_PENSION), self.flows("bonds", MOST_BONDS)
+        amounts = self.numbers("amounts", AMOUNT_NUMBERS) if self.has_amounts else None
+        shocks = self.numbers("shocks", SHOCK_NUMBERS)
+        correlation = self.optional("shocks", EQUITY_CORRELATION_NUMBER,
+                                    f"the four classes fall together, which is {shown(DEFAULT_EQUITY_CORRELATION, SHARE)}")
+        case = Case(rate_bytes, ufr, days, pension, bonds, amounts, shocks, self.numbers("people", PEOPLE_NUMBERS), correlation,
                     self.dates, {name: hashlib.sha256(data).hexdigest() for name, data in self.read.items()})
         if self.faults:
             raise RefusedText(self.faults, 6, case) if self.faults == self.refused else Wrong(self.faults)
@@ -221,13 +226,13 @@ class Text:
             self.faults.append(f"{key} {bad}")
             return 0
 
-    def ufr(self) -> int | None:
-        value = self.tables[""].get("ufr")
+    def optional(self, table: str, number: Number, otherwise: str) -> int | None:
+        """A number that may be left out; None where it is. `otherwise` says what holds then."""
+        key, value = dotted(table, number.name), self.tables[table].get(number.name)
         if value == "":
-            self.faults.append(f"ufr is empty; {UFR_NUMBER.advice}, or delete the line: without it the UFR is "
-                               f"{shown(DEFAULT_UFR, RATE)}")
+            self.faults.append(f"{key} is empty; {number.advice}, or delete the line: without it {otherwise}")
             return None
-        return None if value is None else self.value("ufr", value, UFR_NUMBER)
+        return None if value is None else self.value(key, value, number)
 
     def numbers(self, name: str, numbers: list[Number]) -> dict[str, int]:
         table, values = self.tables[name], {}

@@ -3,7 +3,7 @@
 import ginghamowl
 from ginghamowl._plausible import RULES, About, Looked, Rule, warnings
 
-from .fields import AMOUNT_NUMBERS, DEFAULT_UFR, Case
+from .fields import AMOUNT_NUMBERS, DEFAULT_EQUITY_CORRELATION, DEFAULT_UFR, Case
 from .months import Months
 
 PACKAGE_NAMES = {"private": "private_equity"}  # where the package has another name for an amount than a text
@@ -25,8 +25,13 @@ def in_package(case: Case) -> ginghamowl.Case:
     amounts = case.amounts or {number.name: 0 for number in AMOUNT_NUMBERS}
     return ginghamowl.Case(DEFAULT_UFR if case.ufr is None else case.ufr, case.days, case.pension, case.bonds or [],
                            ginghamowl.Amounts(**{PACKAGE_NAMES.get(name, name): amount for name, amount in amounts.items()}),
-                           ginghamowl.Shocks(**case.shocks), ginghamowl.People(**case.people),
+                           ginghamowl.Shocks(**case.shocks, equity_correlation=equity_correlation(case)), ginghamowl.People(**case.people),
                            ginghamowl.DaysForm(case.rate_bytes))
+
+
+def equity_correlation(case: Case) -> int:
+    """The correlation between the equity classes, in thousandths, also where the case has no field for it."""
+    return DEFAULT_EQUITY_CORRELATION if case.equity_correlation is None else case.equity_correlation
 
 
 def rules() -> str:

@@ -2,9 +2,9 @@
 
 from ginghamowl._shown import decimal_text
 
-from .fields import (AMOUNT_NUMBERS, DEFAULT_UFR, FLOW_NUMBER, MOST_BONDS, MOST_DAYS, MOST_PENSION, PEOPLE_NUMBERS,
-                     RATE_NUMBER, SHOCK_NUMBERS, TERMS, UFR_NUMBER, Case)
-from .units import COUNT, MONEY, RATE, Number, shown
+from .fields import (AMOUNT_NUMBERS, DEFAULT_EQUITY_CORRELATION, DEFAULT_UFR, EQUITY_CORRELATION_NUMBER, FLOW_NUMBER, MOST_BONDS,
+                     MOST_DAYS, MOST_PENSION, PEOPLE_NUMBERS, RATE_NUMBER, SHOCK_NUMBERS, TERMS, UFR_NUMBER, Case)
+from .units import COUNT, MONEY, RATE, SHARE, Number, shown
 
 
 def to_toml(case: Case) -> str:
@@ -26,6 +26,8 @@ def to_toml(case: Case) -> str:
         if values is not None:
             lines += ["", f"[{name}]{'  # in euros' if name == 'amounts' else ''}",
                       *(f"{number.name} = {value_text(values[number.name], number)}" for number in numbers)]
+        if name == "shocks" and case.equity_correlation is not None:
+            lines.append(equity_line(case.equity_correlation))
     return "\n".join(lines) + "\n"
 
 
@@ -34,6 +36,13 @@ def form_line(case: Case) -> str:
     field = case.days_field
     said = f"# rates to {shown(1, field.rate.kind)}, in the days field of bit {field.bit}"
     return said if case.rate_bytes == 2 else f"rate_bytes = {case.rate_bytes}  {said}"
+
+
+def equity_line(correlation: int) -> str:
+    """The correlation that a field of its own holds; the comment tells it from the one that stands above it."""
+    number = EQUITY_CORRELATION_NUMBER
+    return (f"{number.name} = {value_text(correlation, number)}"
+            "  # between the four equity and property classes, in the field of bit 8")
 
 
 def value_text(value: int, number: Number) -> str:
@@ -87,6 +96,10 @@ bonds = []  # 1 to {MOST_BONDS} flows; optional; without it there are none
 
 [shocks]
 {{shocks}}
+# Optional; without it this is {shown(DEFAULT_EQUITY_CORRELATION, SHARE)}: mature, emerging and private equity and property
+# fall together, and S2 is the sum of their losses. Lower gives relief for spread over these four, down to 0 %.
+# It is their correlation with each other; that of interest rates with all four is the key correlation above.
+{empty(EQUITY_CORRELATION_NUMBER)}
 
 [people]
 {{people}}

@@ -24,7 +24,11 @@ fn print_case<W: Write>(out: &mut W, c: Case) -> io::Result<()> {
     print_flows(out, &c.bonds)?;
     row(out, &amounts_in_order(&c.amounts))?;
     row(out, &shocks_in_order(&c.shocks))?;
-    row(out, &[c.shocks.spread, c.shocks.duration])?;
+    let shocks = c.shocks;
+    row(
+        out,
+        &[shocks.spread, shocks.duration, shocks.equity_correlation],
+    )?;
     let people = c.people;
     row(out, &[people.heads, people.pension_age, people.mean_age])
 }

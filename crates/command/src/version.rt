@@ -1,3 +1,3 @@
 // The version of the program.
 // Written by hosts/words from hosts/words.toml and VERSION: change those, and run it.
-pub const VERSION: &str = "0.9.0";
+pub const VERSION: &str = "0.10.0";

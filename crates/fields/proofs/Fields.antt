@@ -1,5 +1,6 @@
 -- The twelve numbers of the shocks.
 use Rattle.std.proofs.Common.{◌≡◌, ◌∙◌, ℕ, ◌+◌, List, get_or, ap, arith}
+use Rattle.model.specs.Constants.{default_equity_correlation}
 use Rattle.model.specs.Numbers.{number}
 use Rattle.model.specs.Fields.{number_of, value_all}
 use Rattle.model.specs.Layout.{shocks, shocks_from}
@@ -19,10 +20,11 @@ shocks_of v = record {
   correlation = get_or v 9 0;
   spread = get_or v 10 0;
   duration = get_or v 11 0;
+  equity_correlation = default_equity_correlation;
 }
 
-pub shocks-are : (v file : List ℕ) (at : ℕ) → v ≡ value_all (number_of 2 0 0) file at 12 → shocks_of v ≡ shocks.value file at
+pub shocks-are : (v file : List ℕ) (at : ℕ) → v ≡ value_all (number_of 2 0 0) file at 12 → shocks_of v ≡ shocks_from (shocks.value file at) default_equity_correlation
 shocks-are v file at is =
     let e : at + 2 + 2 + 2 + 2 + 2 + 2 + 2 + 2 + 2 + 2 ≡ at + 20 = omega arith in
     ap shocks_of is
-    ∙ ap (λ i. shocks_from (value_all (number_of 2 0 0) file at 10, (number file i 2, number file (i + 2) 2))) e
+    ∙ ap (λ i. shocks_from (value_all (number_of 2 0 0) file at 10, (number file i 2, number file (i + 2) 2)) default_equity_correlation) e

@@ -1,9 +1,9 @@
 -- The fields that a map announces are those of the definitions.
 use Rattle.std.proofs.Common.{◌≡◌, ◌∙◌, ℕ, Bool, true, false, not, cond, [], refl, sym}
 use Rattle.refusal.specs.declared.Refusal.TheVariants.{FlowCount, Flow, Ufr, Amount, Shock, People}
-use Rattle.model.specs.Constants.{default_ufr}
+use Rattle.model.specs.Constants.{default_ufr, default_equity_correlation}
 use Rattle.model.specs.Fields.{number_of, Field, field, counted, optional, ◌then◌}
-use Rattle.model.specs.Layout.{days, flow, amounts, no_amounts, shocks, people, stands, rate_bytes_in, present_in, FirstParts, Parts, layout}
+use Rattle.model.specs.Layout.{days, flow, amounts, no_amounts, shocks, people, equity_correlation, stands, rate_bytes_in, present_in, FirstParts, Parts, layout}
 use Rattle.fields.specs.Reading.{IfThere}
 
 abbrev pub first_laid : Bool → Bool → Bool → Bool → Field FirstParts
@@ -16,13 +16,15 @@ first_laid u s b a =
     then field Shock shocks
     then field People people
 
-abbrev pub laid : Bool → Bool → Bool → Bool → Bool → Field Parts
-laid u s b a l = first_laid u s b a then optional l [] (days 4)
+abbrev pub laid : Bool → Bool → Bool → Bool → Bool → Bool → Field Parts
+laid u s b a l e = first_laid u s b a then optional l [] (days 4) then optional e default_equity_correlation (field Shock equity_correlation)
 
-pub announced-are : (bits : ℕ) → laid (stands 0 bits) (not (stands 7 bits)) (stands 3 bits) (stands 4 bits) (stands 7 bits) ≡ layout (rate_bytes_in bits) (present_in bits)
+pub announced-are : (bits : ℕ)
+    → laid (stands 0 bits) (not (stands 7 bits)) (stands 3 bits) (stands 4 bits) (stands 7 bits) (stands 8 bits)
+    ≡ layout (rate_bytes_in bits) (present_in bits)
 announced-are bits = go (stands 7 bits)
   where
-    go : (t : Bool) → laid (stands 0 bits) (not t) (stands 3 bits) (stands 4 bits) t ≡ layout (cond t 4 2) (present_in bits)
+    go : (t : Bool) → laid (stands 0 bits) (not t) (stands 3 bits) (stands 4 bits) t (stands 8 bits) ≡ layout (cond t 4 2) (present_in bits)
     go true = refl
     go false = refl
 

@@ -16,7 +16,7 @@ use Rattle.fields.proofs.Bytes.{length_run}
 pub amounts-length : (a : Amounts) → length (amounts.bytes a) ≡ 64
 amounts-length a = length_run (number_of 8 0 100000000000) (length-bytes 8) (amounts_in_order a)
 
-pub shocks-length : (x : Shocks) → length (shocks.bytes x) ≡ 24
+pub shocks-length : (x : Shocks) → length (shocks.bytes (shocks_in_order x)) ≡ 24
 shocks-length x =
     let ten = bytes_all (number_of 2 0 1000) (shocks_in_order x).0 in
     let spread = bytes_of 2 x.spread in

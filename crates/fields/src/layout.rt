@@ -1,9 +1,10 @@
-// The case file: its fields in the order of their bits, but that the four-byte days come last.
+// The case file: its fields in the order of their bits.
 ghost use Rattle.std.specs.Prelude.{◌≡◌, not};
 ghost use Rattle.model.specs.Layout.{stands};
 
 use crate::amounts::Amounts;
 use crate::days::Days;
+use crate::equity::EquityCorrelation;
 use crate::field::{Optional, Then};
 use crate::flows::Flows;
 use crate::map::Map;
@@ -21,7 +22,7 @@ pub type FirstFields = Then<
     >,
 >;
 
-pub type Layout = Then<FirstFields, Optional<Days<FourBytes>>>;
+pub type Layout = Then<FirstFields, Then<Optional<Days<FourBytes>>, Optional<EquityCorrelation>>>;
 
 fn optional<F>(there: bool, field: F) -> Optional<F>
     ensures { result ≡ record { there = there; field = field } }
@@ -35,7 +36,8 @@ pub fn layout(map: Map) -> Layout
     ensures short { result.0.1.0.there ≡ not (stands 7 map.bits) }
     ensures bonds { result.0.1.1.1.0.there ≡ stands 3 map.bits }
     ensures amounts { result.0.1.1.1.1.0.there ≡ stands 4 map.bits }
-    ensures long { result.1.there ≡ stands 7 map.bits }
+    ensures long { result.1.0.there ≡ stands 7 map.bits }
+    ensures equity { result.1.1.there ≡ stands 8 map.bits }
 {
     Then(
         Then(
@@ -51,6 +53,9 @@ pub fn layout(map: Map) -> Layout
                 ),
             ),
         ),
-        optional(map.stands(7), Days(FourBytes)),
+        Then(
+            optional(map.stands(7), Days(FourBytes)),
+            optional(map.stands(8), EquityCorrelation),
+        ),
     )
 }

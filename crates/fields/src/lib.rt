@@ -6,6 +6,7 @@ pub mod amounts;
 pub mod check;
 pub mod cursor;
 pub mod days;
+pub mod equity;
 pub mod field;
 pub mod flows;
 pub mod given_days;

@@ -27,7 +27,7 @@ impl Map {
         (self.bits >> bit) % 2 == 1
     }
 
-    // One of the bits 1 and 7 is set, of the two days fields; bits 2, 5 and 6 are set, and none above bit 7.
+    // One of the bits 1 and 7 is set, of the two days fields; bits 2, 5 and 6 are set, and none above bit 8.
     #[tactic(auto, using(crate::proofs::Bits::bits_above))]
     fn is_right(self) -> bool
         ensures { result ≡ bits_right self.bits }
@@ -36,7 +36,7 @@ impl Map {
             && self.stands(2)
             && self.stands(5)
             && self.stands(6)
-            && self.bits < 256
+            && self.bits < 512
     }
 }
 

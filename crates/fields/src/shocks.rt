@@ -1,16 +1,19 @@
-// The shocks, the credit spread and the credit duration.
+// The shocks, the credit spread and the credit duration. The correlation between the equity classes, which the struct has too, is a field of
+// its own.
 #![tactic(auto, using(crate::proofs::Lengths::lengths, crate::proofs::Digits::all_right))]
 
 ghost use Rattle.std.specs.Prelude.{◌≡◌};
 ghost use Rattle.refusal.specs.declared.Refusal.TheVariants.{Shock};
+ghost use Rattle.model.specs.Constants.{default_equity_correlation};
 ghost use Rattle.model.specs.Fields.{field};
-ghost use Rattle.model.specs.Layout.{shocks, shocks_in_order};
+ghost use Rattle.model.specs.Layout.{shocks, shocks_from, shocks_in_order};
 
 use crate::check::check;
 use crate::cursor::Cursor;
 use crate::field::Field;
 use crate::numbers::all_at_most;
 use crate::writer::Writer;
+use heldcase::Case;
 use model::case;
 use refusal::Refusal;
 
@@ -34,7 +37,7 @@ pub fn shocks_in_order(x: &case::Shocks) -> [u64; 10]
 
 // Ten shocks of 0 to 1,000, a credit spread of 0 to 10,000 and a credit duration of 0 to 500.
 fn shocks_within(x: &case::Shocks) -> bool
-    ensures { result ≡ shocks.right x.now }
+    ensures { result ≡ shocks.right (shocks_in_order x.now) }
 {
     all_at_most(&shocks_in_order(x), 1_000) && x.spread <= 10_000 && x.duration <= 500
 }
@@ -47,14 +50,15 @@ impl<'a> Field<'a> for Shocks {
 
     type Given = case::Shocks;
 
-    type Value = case::Shocks;
+    type Value = ([u64; 10], (u64, u64));
 
     ghost told = { λ _. field Shock shocks };
 
-    ghost is_read = { λ _ _ _ v x. v ≡ x };
+    ghost is_read = { λ _ _ _ v x. v ≡ shocks_from x default_equity_correlation };
 
-    ghost said = { λ v. v };
+    ghost said = { shocks_in_order };
 
+    // With the correlation between the equity classes of a file without that field.
     fn read(&self, cursor: &mut Cursor<'a>) -> Result<case::Shocks, Refusal> {
         let [
             up_shift,
@@ -83,6 +87,7 @@ impl<'a> Field<'a> for Shocks {
             correlation,
             spread,
             duration,
+            equity_correlation: Case::DEFAULT_EQUITY_CORRELATION,
         };
         check(shocks_within(&shocks), Refusal::Shock)?;
         Ok(shocks)

@@ -10,7 +10,7 @@ padded room text = text ++ replicate (room - length text) 0
 abbrev pub engine_version : HostVersion
 engine_version = record {
   major = 0;
-  minor = 9;
+  minor = 10;
   patch = 0;
   kit = padded 32 (codes "rattle-kit-13f");
 }

@@ -1,7 +1,6 @@
 -- A case as the engine holds it, and the default case, at numbers, each computed. Assumes nothing.
-use Prim.Native.Nat.{ℕ}
 use mathlib.Core.Path.{◌≡◌, refl}
-use mathlib.Core.List.{List, [], ◌∷◌}
+use mathlib.Core.List.{[], ◌∷◌}
 use lib.ListN.{length, get_or, replicate}
 use lib.IntN.{pos}
 use Rattle.model.specs.Case.{FileCase}
@@ -18,7 +17,7 @@ one_day = record {
   pension = 7 ∷ [];
   bonds = 9 ∷ 8 ∷ [];
   amounts = no_amounts;
-  shocks = shocks_from (100 ∷ [], (0, 0));
+  shocks = shocks_from (100 ∷ [], (0, 0)) 500;
   people = record { heads = 1; pension_age = 0; mean_age = 0 };
 }
 
@@ -31,6 +30,10 @@ held-sums : (length (held one_day).sums ≡ 60) × (get_or (held one_day).sums 0
 unfolding held all
 held-sums = (refl, refl, refl)
 
+held-correlation : (held one_day).shocks.equity_correlation ≡ 500
+unfolding held
+held-correlation = refl
+
 held-flows : ((held one_day).pension ≡ 7 ∷ []) × ((held one_day).bonds ≡ 9 ∷ 8 ∷ [])
 unfolding held
 held-flows = (refl, refl)
@@ -39,9 +42,9 @@ default-numbers : (default_case.ufr ≡ 4200) × (default_case.per_step ≡ 0) �
 unfolding default_case
 default-numbers = (refl, refl, refl)
 
-default-shocks : (default_case.shocks.spread ≡ 0) × (default_case.shocks.duration ≡ 0)
+default-shocks : (default_case.shocks.spread ≡ 0) × (default_case.shocks.duration ≡ 0) × (default_case.shocks.equity_correlation ≡ 1000)
 unfolding default_case
-default-shocks = (refl, refl)
+default-shocks = (refl, refl, refl)
 
 default-people : (default_case.people.heads ≡ 0) × (default_case.people.pension_age ≡ 0) × (default_case.people.mean_age ≡ 0)
 unfolding default_case

@@ -3,7 +3,7 @@ use Rattle.std.specs.Prelude.{suc, [], replicate}
 use Rattle.model.specs.Constants.{default_ufr}
 use Rattle.model.specs.Numbers.{table}
 use Rattle.model.specs.Case.{FileCase, per_step}
-use Rattle.model.specs.Layout.{no_amounts, shocks_from}
+use Rattle.model.specs.Layout.{no_amounts, default_shocks}
 use Rattle.method.specs.Curve.{base, curve, P}
 use Rattle.heldcase.specs.declared.Case.{Case}
 
@@ -20,7 +20,8 @@ held k = record {
   people = k.people;
 }
 
--- the default case: the UFR of a file without that field, no bonds and no amounts, as a file that lacks them has, and all else 0
+-- the default case: the UFR and the correlation between the equity classes of a file without these fields, no bonds and no amounts, as a file
+-- that lacks them has, and all else 0
 unfoldable pub default_case : Case
 default_case = record {
   ufr = default_ufr;
@@ -29,6 +30,6 @@ default_case = record {
   pension = [];
   bonds = [];
   amounts = no_amounts;
-  shocks = shocks_from ([], (0, 0));
+  shocks = default_shocks;
   people = record { heads = 0; pension_age = 0; mean_age = 0 };
 }

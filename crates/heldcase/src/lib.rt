@@ -29,6 +29,9 @@ impl Case {
     // The UFR of a file without that field.
     pub const DEFAULT_UFR: u64 = 4_200;
 
+    // The correlation between the equity classes of a file without that field, in thousandths.
+    pub const DEFAULT_EQUITY_CORRELATION: u64 = 1_000;
+
     // The number of rate steps in 1: a step is 0.00001.
     pub const STEPS_PER_ONE: u64 = 100_000;
 
@@ -48,8 +51,8 @@ impl Case {
 impl Default for Case {
     ghost is_default = { λ c. c ≡ default_case };
 
-    // The case with the default UFR, no flows, and 0 in every other field. Not derived, since the default UFR is not 0. The goal stays open
-    // where the definition is not unfolded.
+    // The case with the default UFR and the default correlation between the equity classes, no flows, and 0 in every other field. Not
+    // derived, since these two are not 0. The goal stays open where the definition is not unfolded.
     #[tactic(auto, unfolding(crate::specs::Held::default_case))]
     fn default() -> Case {
         Case {
@@ -59,7 +62,21 @@ impl Default for Case {
             pension: Flows::default(),
             bonds: Flows::default(),
             amounts: Amounts::default(),
-            shocks: Shocks::default(),
+            shocks: Shocks {
+                up_shift: 0,
+                down_shift: 0,
+                mature_fall: 0,
+                emerging_fall: 0,
+                private_fall: 0,
+                property_fall: 0,
+                currency_fall: 0,
+                commodities_fall: 0,
+                spread_rise: 0,
+                correlation: 0,
+                spread: 0,
+                duration: 0,
+                equity_correlation: Case::DEFAULT_EQUITY_CORRELATION,
+            },
             people: People::default(),
         }
     }

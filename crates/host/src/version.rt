@@ -2,7 +2,7 @@
 // Written by hosts/words from hosts/words.toml and VERSION: change those, and run it.
 pub const MAJOR: u32 = 0;
 
-pub const MINOR: u32 = 9;
+pub const MINOR: u32 = 10;
 
 pub const PATCH: u32 = 0;
 

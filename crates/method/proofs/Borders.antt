@@ -63,6 +63,7 @@ with_cash cash = record {
     correlation = 0;
     spread = 0;
     duration = 0;
+    equity_correlation = 1000;
   };
   people = record {
     heads = 100;
@@ -91,7 +92,7 @@ middling-far-from-first near = not-le_of_lt (lit< tt) near.above
 
 middling-far-from-second : NearSecond (second_margin (with_cash 1075000)) (Exact.A (with_cash 1075000)) (Exact.L (with_cash 1075000) base) (Exact.S² (with_cash 1075000)) → ⊥
 unfolding all
-middling-far-from-second near = not-le_of_lt (lit< tt) near.below
+middling-far-from-second near = not-le_of_lt (lit< tt) near.below.0
 
 middling-decided : UndecidedNear (with_cash 1075000) (answered None (with_cash 1075000))
 unfolding all

@@ -11,6 +11,7 @@ use Rattle.method.specs.Exact as Exact
 use Rattle.method.specs.Rounded as Rounded
 use Rattle.method.specs.Margins.{weighted_sum}
 use Rattle.method.specs.Buffers.{valuation_refusal, by_term, factor_entries, factors_after, rates_after, rate_entries, valuation_of}
+use Rattle.method.specs.EquityClasses.{judge_by_fraction}
 use Rattle.method.specs.FourBytes.{rewritten_file}
 use Rattle.method.specs.Window.{window_point}
 use Rattle.method.specs.Listing.{ascii, digits, decimal, word, line, figure_lines, listing}
@@ -30,6 +31,6 @@ unfolding
     Rounded.scaled Rounded.growth Rounded.weighed Rounded.unadjusted Rounded.factor largest smallest Rounded.rate_of Rounded.worth Rounded.judge
     divide root root_of_digits size
     weighted_sum valuation_refusal by_term factor_entries rate_entries factors_after rates_after valuation_of window_point
-    rewritten_file
+    rewritten_file judge_by_fraction
     ascii digits decimal word line figure_lines listing
 all = 0

@@ -12,5 +12,8 @@ pub mod Widths
 pub mod Plain
 pub mod PlainSizes
 pub mod PlainBonds
+pub mod PlainEquity
 pub mod PlainFourBytes
 pub mod Borders
+pub mod EquityCases
+pub mod RootedCases

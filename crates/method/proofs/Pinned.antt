@@ -15,7 +15,7 @@ use Rattle.model.specs.Numbers.{table}
 use Rattle.model.specs.Constants.{last_term}
 use Rattle.model.specs.Case.{FileCase, s}
 use Rattle.model.specs.Layout.{file_of}
-use Rattle.method.specs.Fraction.{◌//◌, ◌≐◌, whole}
+use Rattle.method.specs.Fraction.{◌//◌, ◌≐◌, whole, Rooted}
 use Rattle.method.specs.Curve.{Curve, base, up, down, curve, P, weight}
 use Rattle.method.specs.Exact as Exact
 use Rattle.method.specs.Rounded as Rounded
@@ -103,6 +103,7 @@ bent_case = record {
     correlation = 0;
     spread = 0;
     duration = 0;
+    equity_correlation = 1000;
   };
   people = record {
     heads = 100;
@@ -111,7 +112,7 @@ bent_case = record {
   };
 }
 
-bent-layout : file_of (record { ufr = true; bonds = false; amounts = true }) bent_case ≡ bent_file
+bent-layout : file_of (record { ufr = true; bonds = false; amounts = true; equity = false }) bent_case ≡ bent_file
 unfolding all
 bent-layout = refl
 
@@ -255,6 +256,7 @@ up_case = record {
     correlation = 401;
     spread = 2345;
     duration = 73;
+    equity_correlation = 1000;
   };
   people = record {
     heads = 1237;
@@ -263,7 +265,7 @@ up_case = record {
   };
 }
 
-up-layout : file_of (record { ufr = true; bonds = true; amounts = true }) up_case ≡ up_file
+up-layout : file_of (record { ufr = true; bonds = true; amounts = true; equity = false }) up_case ≡ up_file
 unfolding all
 up-layout = refl
 
@@ -333,9 +335,9 @@ up-exact-S1 : Exact.S1 up_case ≐ 441812244531984515545410981888798674856646511
 unfolding all
 up-exact-S1 = (lit< tt, lit< tt, refl)
 
-up-exact-S2 : Exact.S2 up_case ≐ 447000567 // 5
+up-exact-S2² : Exact.S2² up_case ≐ 199809506898321489 // 25
 unfolding all
-up-exact-S2 = (lit< tt, lit< tt, refl)
+up-exact-S2² = (lit< tt, lit< tt, refl)
 
 up-exact-S3 : Exact.S3 up_case ≐ 28205213287 // 10
 unfolding all
@@ -353,9 +355,17 @@ up-exact-S6² : Exact.S6² up_case ≐ 29199471104113891817964485250067541841455
 unfolding all
 up-exact-S6² = (lit< tt, lit< tt, refl)
 
-up-exact-S² : Exact.S² up_case ≐ 2184189923395775883784794193202266610101016240870692246306451158013145723577213778082391822303829593776645095328082991674383715581132122712148411299026366615859154770044581554227702962074023 // 264643595858681143562482928318659749061562834132537287864928333930139057444510644493487991503319183955730837680531967748462774747017079500596080812324310417408000000000000
+up-exact-S²-plain : (Exact.S² up_case).plain ≐ 2183096975688926910026901926237130098292230318152161331065765793454448513098935459012522040617113663353850855649877369938264520186684801817973954606531583704441175684039964296627702962074023 // 264643595858681143562482928318659749061562834132537287864928333930139057444510644493487991503319183955730837680531967748462774747017079500596080812324310417408000000000000
 unfolding all
-up-exact-S² = (lit< tt, lit< tt, refl)
+up-exact-S²-plain = (lit< tt, lit< tt, refl)
+
+up-exact-S²-factor : (Exact.S² up_case).factor ≐ 141733368045860632586967842989926614894012200775821724760341146003352071920402173027625 // 3068118878092354130347486281376611656861411362343638974062467092577402997707264
+unfolding all
+up-exact-S²-factor = (lit< tt, lit< tt, refl)
+
+up-exact-S²-under : (Exact.S² up_case).under ≐ 199809506898321489 // 25
+unfolding all
+up-exact-S²-under = (lit< tt, lit< tt, refl)
 
 up-verdicts : (word (Rounded.verdict up_case) ≡ ascii "RESERVETEKORT")
     × (Exact.verdict up_case ≡ Reservetekort)
@@ -421,6 +431,7 @@ down_case = record {
     correlation = 613;
     spread = 8765;
     duration = 437;
+    equity_correlation = 1000;
   };
   people = record {
     heads = 4321;
@@ -429,7 +440,7 @@ down_case = record {
   };
 }
 
-down-layout : file_of (record { ufr = true; bonds = true; amounts = true }) down_case ≡ down_file
+down-layout : file_of (record { ufr = true; bonds = true; amounts = true; equity = false }) down_case ≡ down_file
 unfolding all
 down-layout = refl
 
@@ -499,9 +510,9 @@ down-exact-S1 : Exact.S1 down_case ≐ 79734404298281326561475142644959527845987
 unfolding all
 down-exact-S1 = (lit< tt, lit< tt, refl)
 
-down-exact-S2 : Exact.S2 down_case ≐ 874276515 // 1
+down-exact-S2² : Exact.S2² down_case ≐ 764359424680545225 // 1
 unfolding all
-down-exact-S2 = (lit< tt, lit< tt, refl)
+down-exact-S2² = (lit< tt, lit< tt, refl)
 
 down-exact-S3 : Exact.S3 down_case ≐ 2172001717 // 10
 unfolding all
@@ -519,9 +530,17 @@ down-exact-S6² : Exact.S6² down_case ≐ 3457280890298547635662345718738888024
 unfolding all
 down-exact-S6² = (lit< tt, lit< tt, refl)
 
-down-exact-S² : Exact.S² down_case ≐ 1234875575710765426925949233835776981888776792015642360414151426925723122848560953427089946963497252354080348872932491921867608597990427490599967502141895768055369 // 715350727752277830206841165892995540756292414674804632168243048667673462787686022326051430749895779747649632206102125039714654106710440000000000
+down-exact-S²-plain : (Exact.S² down_case).plain ≐ 1187359924977946754598815923819463744709178464393456626090547681278936752473777546644992815491303079188279860178449630261463419610839799580487581178077520768055369 // 715350727752277830206841165892995540756292414674804632168243048667673462787686022326051430749895779747649632206102125039714654106710440000000000
 unfolding all
-down-exact-S² = (lit< tt, lit< tt, refl)
+down-exact-S²-plain = (lit< tt, lit< tt, refl)
+
+down-exact-S²-factor : (Exact.S² down_case).factor ≐ 39101751867877162545747409953088152455672306317770946603534821939155597775 // 514668241084339761238937784595416466403894310551627899791641526968
+unfolding all
+down-exact-S²-factor = (lit< tt, lit< tt, refl)
+
+down-exact-S²-under : (Exact.S² down_case).under ≐ 764359424680545225 // 1
+unfolding all
+down-exact-S²-under = (lit< tt, lit< tt, refl)
 
 down-verdicts : (word (Rounded.verdict down_case) ≡ ascii "VRIJ VERMOGEN")
     × (Exact.verdict down_case ≡ VrijVermogen)
@@ -595,6 +614,7 @@ past20 = record {
     correlation = 0;
     spread = 0;
     duration = 0;
+    equity_correlation = 1000;
   };
   people = record {
     heads = 100;
@@ -712,6 +732,7 @@ both_fall = record {
     correlation = 0;
     spread = 0;
     duration = 0;
+    equity_correlation = 1000;
   };
   people = record {
     heads = 100;
@@ -781,6 +802,7 @@ both_fall_down = record {
     correlation = 0;
     spread = 0;
     duration = 0;
+    equity_correlation = 1000;
   };
   people = record {
     heads = 100;
@@ -860,6 +882,7 @@ deepest_case = record {
     correlation = 0;
     spread = 0;
     duration = 0;
+    equity_correlation = 1000;
   };
   people = record {
     heads = 100;
@@ -868,7 +891,7 @@ deepest_case = record {
   };
 }
 
-deepest-layout : file_of (record { ufr = true; bonds = true; amounts = true }) deepest_case ≡ deepest_file
+deepest-layout : file_of (record { ufr = true; bonds = true; amounts = true; equity = false }) deepest_case ≡ deepest_file
 unfolding all
 deepest-layout = refl
 
@@ -952,6 +975,7 @@ long = record {
     correlation = 401;
     spread = 2345;
     duration = 73;
+    equity_correlation = 1000;
   };
   people = record {
     heads = 54321;
@@ -999,6 +1023,7 @@ no_flows = record {
     correlation = 0;
     spread = 0;
     duration = 0;
+    equity_correlation = 1000;
   };
   people = record {
     heads = 100;
@@ -1045,6 +1070,7 @@ whole_quotient = record {
     correlation = 0;
     spread = 0;
     duration = 0;
+    equity_correlation = 1000;
   };
   people = record {
     heads = 100;
@@ -1204,27 +1230,36 @@ first-border-beyond-below : NearFirst (first_margin long) (whole 210000465915) (
 unfolding all
 first-border-beyond-below near = not-le_of_lt (lit< tt) near.below
 
-second-border-within-above : NearSecond (second_margin long) (whole 1700087264) (whole 1000000000) (whole 490000000000000000)
-unfolding all
-second-border-within-above = record { above = lit≤ tt; positive = lit≤ tt; below = lit≤ tt }
+-- The square of an S of 700,000,000 cents, a part of it as a root, and that of an S of 0.
+abbrev pub seven_million² : Rooted
+seven_million² =
+    record { plain = whole 480000000000000000; factor = whole 5000000000000000; under = whole 4 }
 
-second-border-within-below : NearSecond (second_margin long) (whole 1699912736) (whole 1000000000) (whole 490000000000000000)
-unfolding all
-second-border-within-below = record { above = lit≤ tt; positive = lit≤ tt; below = lit≤ tt }
+abbrev pub none² : Rooted
+none² =
+    record { plain = whole 0; factor = whole 0; under = whole 0 }
 
-second-border-beyond-above : NearSecond (second_margin long) (whole 1700087265) (whole 1000000000) (whole 490000000000000000) → ⊥
+second-border-within-above : NearSecond (second_margin long) (whole 1700087264) (whole 1000000000) seven_million²
+unfolding all
+second-border-within-above = record { above = lit≤ tt; positive = lit≤ tt; below = (lit≤ tt, lit≤ tt) }
+
+second-border-within-below : NearSecond (second_margin long) (whole 1699912736) (whole 1000000000) seven_million²
+unfolding all
+second-border-within-below = record { above = lit≤ tt; positive = lit≤ tt; below = (lit≤ tt, lit≤ tt) }
+
+second-border-beyond-above : NearSecond (second_margin long) (whole 1700087265) (whole 1000000000) seven_million² → ⊥
 unfolding all
 second-border-beyond-above near = not-le_of_lt (lit< tt) near.above
 
-second-border-beyond-below : NearSecond (second_margin long) (whole 1699912735) (whole 1000000000) (whole 490000000000000000) → ⊥
+second-border-beyond-below : NearSecond (second_margin long) (whole 1699912735) (whole 1000000000) seven_million² → ⊥
 unfolding all
-second-border-beyond-below near = not-le_of_lt (lit< tt) near.below
+second-border-beyond-below near = not-le_of_lt (lit< tt) near.below.1
 
-second-border-within-without-S : NearSecond (second_margin long) (whole 999912736) (whole 1000000000) (whole 0)
+second-border-within-without-S : NearSecond (second_margin long) (whole 999912736) (whole 1000000000) none²
 unfolding all
-second-border-within-without-S = record { above = lit≤ tt; positive = lit≤ tt; below = lit≤ tt }
+second-border-within-without-S = record { above = lit≤ tt; positive = lit≤ tt; below = (lit≤ tt, lit≤ tt) }
 
-second-border-beyond-without-S : NearSecond (second_margin long) (whole 999912735) (whole 1000000000) (whole 0) → ⊥
+second-border-beyond-without-S : NearSecond (second_margin long) (whole 999912735) (whole 1000000000) none² → ⊥
 unfolding all
 second-border-beyond-without-S near = not-le_of_lt (lit< tt) near.positive
 
@@ -1261,6 +1296,7 @@ shortage = record {
     correlation = 0;
     spread = 0;
     duration = 0;
+    equity_correlation = 1000;
   };
   people = record {
     heads = 100;
@@ -1307,6 +1343,7 @@ first_below = record {
     correlation = 0;
     spread = 0;
     duration = 0;
+    equity_correlation = 1000;
   };
   people = record {
     heads = 100;
@@ -1353,6 +1390,7 @@ first_above = record {
     correlation = 0;
     spread = 0;
     duration = 0;
+    equity_correlation = 1000;
   };
   people = record {
     heads = 100;
@@ -1399,6 +1437,7 @@ second_below = record {
     correlation = 0;
     spread = 0;
     duration = 0;
+    equity_correlation = 1000;
   };
   people = record {
     heads = 100;
@@ -1445,6 +1484,7 @@ second_above = record {
     correlation = 0;
     spread = 0;
     duration = 0;
+    equity_correlation = 1000;
   };
   people = record {
     heads = 100;

@@ -1,11 +1,12 @@
 -- Each promise of specs/Promises.antt used once in plain numbers, at its largest and its smallest, and containment and width in whole
 -- numbers: fractions multiplied out, and each number written where it is used. Nothing else rests on this. It is here so that a promise
 -- that said less (a range that begins later, a bracket that may be wider, a premise more, a field less) would not give it. Assumes nothing.
-use Prim.Native.Nat.{ℕ, ◌+◌, ◌*◌, ◌^◌, ◌≤◌, ◌<◌}
+use Prim.Native.Nat.{ℕ, ◌+◌, ◌-◌, ◌*◌, ◌^◌, ◌≤◌, ◌<◌}
 use mathlib.Core.Path.{◌≡◌, ap, sym, ◌∙◌}
 use mathlib.Core.List.{List}
 use mathlib.Core.Logic.{◌≢◌, ◌⊎◌}
 use native.Mathlib.Omega.{arith}
+use native.Mathlib.Nat.{mul-one, one-mul}
 use lib.IntN.{ℤ, pos, neg_ℤ, ◌+ℤ◌}
 use lib.ListN.{length, get_or}
 use lib.Signed.{◌≤ℤ◌, ◌<ℤ◌}
@@ -16,14 +17,14 @@ use Rattle.arith.specs.Rounding.{End, low, high}
 use Rattle.model.specs.Limits.{WithinLimits}
 use Rattle.model.specs.Layout.{Keeps, case_of}
 use Rattle.model.specs.Refusals.{failing, checks, refusal}
-use Rattle.method.specs.Fraction.{Fraction, ◌+ᶠ◌, ◌∸ᶠ◌, ◌*ᶠ◌, square, whole, ◌≤ᶠ◌}
+use Rattle.method.specs.Fraction.{Fraction, ◌+ᶠ◌, ◌∸ᶠ◌, ◌*ᶠ◌, square, whole, ◌≤ᶠ◌, Rooted, ◌≤ʳ◌, ◌ʳ≤◌}
 use Rattle.model.specs.Case.{FileCase}
 use Rattle.method.specs.Curve.{Move, base, curve, natural, P}
 use Rattle.method.specs.Exact as Exact
 use Rattle.method.specs.Rounded as Rounded
 use Rattle.arith.specs.Brackets.{end_of}
 use Rattle.method.specs.Margins.{WL, WB, NearFirst, NearSecond}
-use Rattle.method.specs.Containment.{In, RateBounds, Given, ContainmentAndWidth}
+use Rattle.method.specs.Containment.{In, RootedSquareIn, RateBounds, Given, ContainmentAndWidth}
 use Rattle.method.specs.Buffers.{valuation_checks, valuation_refusal, valuation_of, answered, refusal_number, factors_after, rates_after}
 use Rattle.method.specs.Promises.{given, figures_given, AcceptedCall, Call, FiguresCall}
 use Rattle.method.specs.Promises.{EveryCall, RefusedCallsChangeNothing, AcceptedCallsGiveTheRoundedWorking, EveryFiguresCall, OfEvery, ExactWorkingIsContained}
@@ -51,6 +52,30 @@ held-units b x h = (
   (let o = (h high).order in omega (arith, o)),
 )
 
+-- n ÷ d + (f ÷ g) × the root of m ÷ k, between two whole numbers: the differences from n ÷ d are squared
+abbrev HeldRooted : ℕ → ℕ → Rooted → Type 0
+HeldRooted l u r =
+    let n = r.plain.num in
+    let d = r.plain.den in
+    let f = r.factor.num in
+    let g = r.factor.den in
+    let m = r.under.num in
+    let k = r.under.den in
+    ((0 < d) × (0 < g) × (0 < k))
+    × ((l * d - n) * (l * d - n) * (g * g * k) ≤ f * f * m * (d * d))
+    × (n ≤ u * d)
+    × (f * f * m * (d * d) ≤ (u * d - n) * (u * d - n) * (g * g * k))
+
+held-rooted : (b : End → ℕ) (r : Rooted) → RootedSquareIn b r → HeldRooted (b low * b low) (b high * b high) r
+held-rooted b r h =
+    let n = r.plain.num in
+    let d = r.plain.den in (
+      (h low).real,
+      rw (mul-one n, one-mul d) at (h low).order,
+      (let o = (h high).order.0 in omega (arith, o)),
+      rw (mul-one n, one-mul d) at (h high).order.1,
+    )
+
 -- a product between the powers of two rates, which count steps
 abbrev Compounds : ℤ → ℤ → ℕ → Fraction → Type 0
 Compounds l u t x =
@@ -65,8 +90,8 @@ near-first : (m : ℕ) (a l : Fraction) → NearFirst m a l
     → (whole 20 *ᶠ a ≤ᶠ whole 21 *ᶠ l +ᶠ whole m) × (whole 21 *ᶠ l ≤ᶠ whole 20 *ᶠ a +ᶠ whole m)
 near-first m a l n = (n.above, n.below)
 
-near-second : (m : ℕ) (a l s² : Fraction) → NearSecond m a l s²
-    → (square (a ∸ᶠ (l +ᶠ whole m)) ≤ᶠ s²) × (l ≤ᶠ a +ᶠ whole m) × (s² ≤ᶠ square ((a +ᶠ whole m) ∸ᶠ l))
+near-second : (m : ℕ) (a l : Fraction) (s² : Rooted) → NearSecond m a l s²
+    → (square (a ∸ᶠ (l +ᶠ whole m)) ≤ʳ s²) × (l ≤ᶠ a +ᶠ whole m) × (s² ʳ≤ square ((a +ᶠ whole m) ∸ᶠ l))
 near-second m a l s² n = (n.above, n.positive, n.below)
 
 -- the money figures in their brackets, and their widths
@@ -76,12 +101,12 @@ MoneyHeld k v =
     × Held 1 v.b.lower v.b.upper (Exact.B k base)
     × Held 1 v.a.lower v.a.upper (Exact.A k)
     × Held 1 v.s1.lower v.s1.upper (Exact.S1 k)
-    × Held 1 v.s2.lower v.s2.upper (Exact.S2 k)
+    × Held 1 (v.s2.lower * v.s2.lower) (v.s2.upper * v.s2.upper) (Exact.S2² k)
     × Held 1 v.s3.lower v.s3.upper (Exact.S3 k)
     × Held 1 v.s4.lower v.s4.upper (Exact.S4 k)
     × Held 1 v.s5.lower v.s5.upper (Exact.S5 k)
     × Held 1 (v.s6.lower * v.s6.lower) (v.s6.upper * v.s6.upper) (Exact.S6² k)
-    × Held 1 (v.s.lower * v.s.lower) (v.s.upper * v.s.upper) (Exact.S² k)
+    × HeldRooted (v.s.lower * v.s.lower) (v.s.upper * v.s.upper) (Exact.S² k)
 
 abbrev MoneyNarrow : FileCase → Figures → Type 0
 MoneyNarrow k v =
@@ -127,12 +152,12 @@ module _ (k : FileCase) (g : Given) (d : ContainmentAndWidth k g) where
     held (end_of g.figures.b) (Exact.B k base) d.BIn,
     held (end_of g.figures.a) (Exact.A k) d.AIn,
     held (end_of g.figures.s1) (Exact.S1 k) d.S1In,
-    held (end_of g.figures.s2) (Exact.S2 k) d.S2In,
+    held (λ e. end_of g.figures.s2 e * end_of g.figures.s2 e) (Exact.S2² k) d.S2In,
     held (end_of g.figures.s3) (Exact.S3 k) d.S3In,
     held (end_of g.figures.s4) (Exact.S4 k) d.S4In,
     held (end_of g.figures.s5) (Exact.S5 k) d.S5In,
     held (λ e. end_of g.figures.s6 e * end_of g.figures.s6 e) (Exact.S6² k) d.S6In,
-    held (λ e. end_of g.figures.s e * end_of g.figures.s e) (Exact.S² k) d.SIn,
+    held-rooted (end_of g.figures.s) (Exact.S² k) d.SIn,
   )
 
   money-widths : MoneyNarrow k g.figures
@@ -307,12 +332,12 @@ module _ (k : FileCase) where
         held (end_of v.b) (Exact.B k base) s.BIn,
         held (end_of v.a) (Exact.A k) s.AIn,
         held (end_of v.s1) (Exact.S1 k) s.S1In,
-        held (end_of v.s2) (Exact.S2 k) s.S2In,
+        held (λ e. end_of v.s2 e * end_of v.s2 e) (Exact.S2² k) s.S2In,
         held (end_of v.s3) (Exact.S3 k) s.S3In,
         held (end_of v.s4) (Exact.S4 k) s.S4In,
         held (end_of v.s5) (Exact.S5 k) s.S5In,
         held (λ e. end_of v.s6 e * end_of v.s6 e) (Exact.S6² k) s.S6In,
-        held (λ e. end_of v.s e * end_of v.s e) (Exact.S² k) s.SIn,
+        held-rooted (end_of v.s) (Exact.S² k) s.SIn,
       )
 
   narrow-factors : FactorsAreNarrow k

@@ -5,7 +5,7 @@ use mathlib.Core.Path.{◌≡◌, refl}
 use mathlib.Core.Bool.{true, false}
 use mathlib.Core.List.{List, [], ◌∷◌, ◌++◌}
 use native.Mathlib.Omega.{arith}
-use lib.Dec.{lit<}
+use lib.Dec.{lit<, lit≤}
 use lib.ListN.{replicate}
 use lib.IntN.{pos, neg_ℤ}
 use Rattle.std.specs.Prelude.{Some, None, Err, nat_le}
@@ -14,7 +14,7 @@ use Rattle.refusal.specs.declared.Refusal.TheVariants.{Rate, Buffers}
 use Rattle.arith.specs.Rounding.{End, low, high, divide}
 use Rattle.model.specs.Numbers.{number, twos_complement, table}
 use Rattle.method.specs.Brackets.{largest, smallest}
-use Rattle.method.specs.Fraction.{◌//◌, ◌*ᶠ◌, ◌≐◌, whole, at_most, larger}
+use Rattle.method.specs.Fraction.{◌//◌, ◌*ᶠ◌, ◌≐◌, whole, at_most, larger, ◌≤ʳ◌, ◌ʳ≤◌}
 use Rattle.model.specs.Case.{FileCase, with_pension}
 use Rattle.model.specs.Layout.{case_of}
 use Rattle.model.specs.Refusals.{refusal}
@@ -184,6 +184,7 @@ small-losses :
       correlation = 0;
       spread = 1;
       duration = 1;
+      equity_correlation = 1000;
     })
     (record { heads = 1; pension_age = 0; mean_age = 0 })
     low
@@ -271,10 +272,11 @@ unfolding all
 c9-buffer = (refl, refl)
 
 pub c9-exact : (Exact.S1 (case_of file_c9) ≐ 30000 // 1)
-    × (Exact.S2 (case_of file_c9) ≐ 40000 // 1)
-    × (Exact.S² (case_of file_c9) ≐ 3700000000 // 1)
+    × (Exact.S2² (case_of file_c9) ≐ 1600000000 // 1)
+    × (whole (60827 * 60827) ≤ʳ Exact.S² (case_of file_c9))
+    × (Exact.S² (case_of file_c9) ʳ≤ whole (60828 * 60828))
 unfolding all
-c9-exact = ((lit< tt, lit< tt, refl), (lit< tt, lit< tt, refl), (lit< tt, lit< tt, refl))
+c9-exact = ((lit< tt, lit< tt, refl), (lit< tt, lit< tt, refl), lit≤ tt, (lit≤ tt, lit≤ tt))
 
 pub c10-TSO : Exact.TSO (case_of file_c10) ≐ 65 // 10
 unfolding all

@@ -4,7 +4,7 @@
 use Rattle.std.specs.Prelude.{ℕ, ◌+◌, ◌*◌, ◌≤◌, ◌<◌, ◌≡◌, ◌≢◌, ◌⊎◌, ℤ, pos, neg_ℤ, ◌+ℤ◌, ◌≤ℤ◌, ◌<ℤ◌}
 use Rattle.arith.specs.Rounding.{End, low, high}
 use Rattle.model.specs.Constants.{steps_per_one, unit, last_market_term, last_term}
-use Rattle.method.specs.Fraction.{Fraction, ◌//◌, ◌*ᶠ◌, ◌^ᶠ◌, whole, Real, ◌≤ᶠ◌}
+use Rattle.method.specs.Fraction.{Fraction, ◌//◌, ◌*ᶠ◌, ◌^ᶠ◌, whole, Real, ◌≤ᶠ◌, Rooted, RealRooted, ◌≤ʳ◌, ◌ʳ≤◌}
 use Rattle.model.specs.Case.{FileCase}
 use Rattle.model.specs.Limits.{Between}
 use Rattle.method.specs.Curve.{Move, base, curve, natural, P}
@@ -74,6 +74,18 @@ In bracket x = (e : End) → Bounds e (bracket e) x
 abbrev pub SquareIn : (End → ℕ) → Fraction → Type 0
 SquareIn bracket x² = (e : End) → Bounds e (bracket e * bracket e) x²
 
+-- and for one whose square holds a root, compared "by squaring twice"
+abbrev pub RootedOrdered : End → ℕ → Rooted → Type 0
+RootedOrdered low n r = whole n ≤ʳ r
+RootedOrdered high n r = r ʳ≤ whole n
+
+pub record RootedBounds (e : End) (n : ℕ) (r : Rooted) : Type 0 where
+  pub real : RealRooted r
+  pub order : RootedOrdered e n r
+
+abbrev pub RootedSquareIn : (End → ℕ) → Rooted → Type 0
+RootedSquareIn bracket r = (e : End) → RootedBounds e (bracket e * bracket e) r
+
 -- 1 + a rate of z steps, which is not cut off at 0 where the rate is above -1
 abbrev pub one_plus : ℤ → Fraction
 one_plus z = natural (pos steps_per_one +ℤ z) // steps_per_one
@@ -97,18 +109,19 @@ pub record ContainmentAndWidth (k : FileCase) (given : Given) : Type 0 where
   -- both zero rates of every term are steps from -2,000 to 20,000, and so above -1
   pub rate_found : (e : End) (t : ℕ) → 1 ≤ t → t ≤ last_term → Between least_step most_step (given.rate e t)
   -- "Then each exact figure lies in its bracket: the factor and the zero rate of every term from 1 to 120, L, B, A, S1 to S6 and S."
+  -- "The exact S2 and S6 are compared through their squares, and the exact S, whose square holds a root, by squaring twice."
   pub factor_in : (t : ℕ) → 1 ≤ t → t ≤ last_term → In (λ e. given.factor e t) (whole unit *ᶠ Exact.factor (curve k base) t)
   pub rate_in : (e : End) (t : ℕ) → 1 ≤ t → t ≤ last_term → RateBounds e (given.rate e t) t (Exact.product (curve k base) t)
   pub LIn : In (end_of given.figures.l) (Exact.L k base)
   pub BIn : In (end_of given.figures.b) (Exact.B k base)
   pub AIn : In (end_of given.figures.a) (Exact.A k)
   pub S1In : In (end_of given.figures.s1) (Exact.S1 k)
-  pub S2In : In (end_of given.figures.s2) (Exact.S2 k)
+  pub S2In : SquareIn (end_of given.figures.s2) (Exact.S2² k)
   pub S3In : In (end_of given.figures.s3) (Exact.S3 k)
   pub S4In : In (end_of given.figures.s4) (Exact.S4 k)
   pub S5In : In (end_of given.figures.s5) (Exact.S5 k)
   pub S6In : SquareIn (end_of given.figures.s6) (Exact.S6² k)
-  pub SIn : SquareIn (end_of given.figures.s) (Exact.S² k)
+  pub SIn : RootedSquareIn (end_of given.figures.s) (Exact.S² k)
   -- "From lower to upper end, the factor of term t is at most 4 × t × t units wide, a zero rate at most 2 steps, the liabilities L at
   -- most WL cents, bonds B and assets A at most WB each, the buffer S at most 3 × WL + 2 × WB + 8."
   pub factor_width : (t : ℕ) → 1 ≤ t → t ≤ last_term → given.factor high t ≤ given.factor low t + factor_width_most t

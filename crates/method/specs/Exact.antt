@@ -2,7 +2,7 @@
 -- margin that of den Butter's thesis of 2007, section 9.3 (METHOD, Sources). Money is in cents.
 use Rattle.std.specs.Prelude.{ℕ, zero, suc, ◌+◌, ◌*◌, ◌-◌, if◌then◌else◌, List, [], ◌∷◌, nat_le}
 use Rattle.model.specs.Constants.{steps_per_one, last_unweighed_term, last_market_term}
-use Rattle.method.specs.Fraction.{Fraction, ◌//◌, ◌+ᶠ◌, ◌∸ᶠ◌, ◌*ᶠ◌, ◌÷ᶠ◌, ◌^ᶠ◌, square, whole, less, larger}
+use Rattle.method.specs.Fraction.{Fraction, ◌//◌, ◌+ᶠ◌, ◌∸ᶠ◌, ◌*ᶠ◌, ◌÷ᶠ◌, ◌^ᶠ◌, square, whole, less, larger, Rooted, rooted_at_most}
 use Rattle.model.specs.Case.{FileCase, all_except_currency, age_gap}
 use Rattle.method.specs.Curve.{Curve, Move, base, up, down, curve, P, weight}
 use Rattle.model.specs.declared.figures.Verdict.{Verdict}
@@ -73,13 +73,25 @@ S1 k = larger (whole 0) (larger (fall k up) (fall k down))
 abbrev pub loss : ℕ → ℕ → Fraction
 loss euros thousandths = whole (100 * euros) *ᶠ (thousandths // 1000)
 
--- "the four equity and property amounts times their thousandths, summed"
-abbrev pub S2 : FileCase → Fraction
-S2 k =
+-- of the losses of the four equity and property classes, the sum of their squares and that of the products of their six pairs
+abbrev pub squares_of : Fraction → Fraction → Fraction → Fraction → Fraction
+squares_of m e v p = square m +ᶠ square e +ᶠ square v +ᶠ square p
+
+abbrev pub pairs_of : Fraction → Fraction → Fraction → Fraction → Fraction
+pairs_of m e v p = m *ᶠ e +ᶠ m *ᶠ v +ᶠ m *ᶠ p +ᶠ e *ᶠ v +ᶠ e *ᶠ p +ᶠ v *ᶠ p
+
+-- the square of S2, "the root of the sum of the squares of the four class losses, plus twice the equity correlation times the product of
+-- each pair"
+abbrev pub S2² : FileCase → Fraction
+S2² k =
     let a = k.amounts in
     let x = k.shocks in
-    loss a.mature x.mature_fall +ᶠ loss a.emerging x.emerging_fall
-    +ᶠ loss a.private x.private_fall +ᶠ loss a.property x.property_fall
+    let mature = loss a.mature x.mature_fall in
+    let emerging = loss a.emerging x.emerging_fall in
+    let private = loss a.private x.private_fall in
+    let property = loss a.property x.property_fall in
+    squares_of mature emerging private property
+    +ᶠ ((2 * x.equity_correlation) // 1000) *ᶠ pairs_of mature emerging private property
 
 -- "S3: the currency exposure times its thousandths. S4: commodities likewise."
 abbrev pub S3 : FileCase → Fraction
@@ -105,19 +117,23 @@ NSA² k = 3600 // k.people.heads
 abbrev pub S6² : FileCase → Fraction
 S6² k = square (L k base) *ᶠ ((square (TSO k) +ᶠ NSA² k) ÷ᶠ whole (100 * 100))
 
--- the square of "the root of S1² + S2² + 2 × correlation × S1 × S2 + S3² + S4² + S5² + S6²"
-abbrev pub S² : FileCase → Fraction
-S² k =
-    square (S1 k) +ᶠ square (S2 k) +ᶠ ((2 * k.shocks.correlation) // 1000) *ᶠ (S1 k *ᶠ S2 k)
-    +ᶠ square (S3 k) +ᶠ square (S4 k) +ᶠ square (S5 k) +ᶠ S6² k
+-- the square of "the root of S1² + S2² + 2 × correlation × S1 × S2 + S3² + S4² + S5² + S6²", which holds a root itself: S2, with the factor
+-- 2 × correlation × S1
+abbrev pub S² : FileCase → Rooted
+S² k = record {
+  plain = square (S1 k) +ᶠ S2² k +ᶠ square (S3 k) +ᶠ square (S4 k) +ᶠ square (S5 k) +ᶠ S6² k;
+  factor = ((2 * k.shocks.correlation) // 1000) *ᶠ S1 k;
+  under = S2² k;
+}
 
 -- "DEKKINGSTEKORT if 20 × A < 21 × L; else RESERVETEKORT if A < L + S; else VRIJ VERMOGEN", by A, L and S².
--- A < L + S is (A - L)² < S², since A is at least L where 20 × A is at least 21 × L: A below L cannot reach the squares.
-unfoldable pub judge : Fraction → Fraction → Fraction → Verdict
+-- A < L + S is (A - L)² < S², since A is at least L where 20 × A is at least 21 × L: A below L cannot reach the squares. S² holds a root,
+-- so it is compared "by squaring twice".
+unfoldable pub judge : Fraction → Fraction → Rooted → Verdict
 judge a l s² =
     if less (whole 20 *ᶠ a) (whole 21 *ᶠ l) then Dekkingstekort
-    else if less (square (a ∸ᶠ l)) s² then Reservetekort
-    else VrijVermogen
+    else if rooted_at_most s² (square (a ∸ᶠ l)) then VrijVermogen
+    else Reservetekort
 
 abbrev pub verdict : FileCase → Verdict
 verdict k = judge (A k) (L k base) (S² k)

@@ -1,11 +1,11 @@
 -- Fractions of natural numbers: a numerator over a denominator, never shortened, compared by multiplying crosswise.
-use Rattle.std.specs.Prelude.{ℕ, ◌+◌, ◌*◌, ◌-◌, ◌^◌, ◌≤◌, ◌<◌, ◌≡◌, Bool, if◌then◌else◌, nat_le, nat_lt}
+use Rattle.std.specs.Prelude.{ℕ, ◌+◌, ◌*◌, ◌-◌, ◌^◌, ◌≤◌, ◌<◌, ◌≡◌, Bool, ◌&&◌, if◌then◌else◌, nat_le, nat_lt}
 
 infix 60 ◌//◌
 infixl 50 ◌+ᶠ◌ ◌∸ᶠ◌
 infixl 55 ◌*ᶠ◌ ◌÷ᶠ◌
 infixr 58 ◌^ᶠ◌
-infix 40 ◌≈◌ ◌≐◌ ◌≤ᶠ◌
+infix 40 ◌≈◌ ◌≐◌ ◌≤ᶠ◌ ◌≤ʳ◌ ◌ʳ≤◌
 pub record Fraction : Type 0 where
   pub num : ℕ
   pub den : ℕ
@@ -58,3 +58,27 @@ larger x y = if at_most x y then y else x
 -- both are fractions, and the same number
 abbrev pub ◌≐◌ : Fraction → Fraction → Type 0
 ◌≐◌ x y = Real x × Real y × (x ≈ y)
+
+-- A number that holds a root: plain + factor × the root of under. A fraction is compared with it through squares.
+pub record Rooted : Type 0 where
+  pub plain : Fraction
+  pub factor : Fraction
+  pub under : Fraction
+
+-- the square of the part that holds the root
+abbrev pub rooted_part² : Rooted → Fraction
+rooted_part² r = square r.factor *ᶠ r.under
+
+abbrev pub RealRooted : Rooted → Type 0
+RealRooted r = Real r.plain × Real r.factor × Real r.under
+
+-- q is at most r: what q exceeds the plain part by, or 0, is at most the part that holds the root
+abbrev pub ◌≤ʳ◌ : Fraction → Rooted → Type 0
+◌≤ʳ◌ q r = square (q ∸ᶠ r.plain) ≤ᶠ rooted_part² r
+
+-- r is at most q: q is at least the plain part, and what it exceeds that by is at least the part that holds the root; and the test of it
+abbrev pub ◌ʳ≤◌ : Rooted → Fraction → Type 0
+◌ʳ≤◌ r q = (r.plain ≤ᶠ q) × (rooted_part² r ≤ᶠ square (q ∸ᶠ r.plain))
+
+abbrev pub rooted_at_most : Rooted → Fraction → Bool
+rooted_at_most r q = at_most r.plain q && at_most (rooted_part² r) (square (q ∸ᶠ r.plain))

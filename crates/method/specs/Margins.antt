@@ -1,7 +1,7 @@
 -- WL, WB and the margins within which a verdict may stay undecided (METHOD, Brackets and widths).
 use Rattle.std.specs.Prelude.{ℕ, suc, ◌+◌, ◌*◌, ◌^◌, List, [], ◌∷◌, length}
 use Rattle.arith.specs.Rounding.{high, divide}
-use Rattle.method.specs.Fraction.{Fraction, ◌+ᶠ◌, ◌∸ᶠ◌, ◌*ᶠ◌, square, whole, ◌≤ᶠ◌}
+use Rattle.method.specs.Fraction.{Fraction, ◌+ᶠ◌, ◌∸ᶠ◌, ◌*ᶠ◌, square, whole, ◌≤ᶠ◌, Rooted, ◌≤ʳ◌, ◌ʳ≤◌}
 use Rattle.model.specs.Case.{FileCase}
 
 -- "the sum of 4 × t × t × flow", the first flow at term t
@@ -29,11 +29,11 @@ pub record NearFirst (margin : ℕ) (a l : Fraction) : Type 0 where
   pub below : whole 21 *ᶠ l ≤ᶠ whole 20 *ᶠ a +ᶠ whole margin
 
 -- "|A - L - S| at most" a number of cents, through squares: A - L - margin is at most S, and S at most A - L + margin, which is not
--- below 0
-pub record NearSecond (margin : ℕ) (a l s² : Fraction) : Type 0 where
-  pub above : square (a ∸ᶠ (l +ᶠ whole margin)) ≤ᶠ s²
+-- below 0; S², which holds a root, "by squaring twice"
+pub record NearSecond (margin : ℕ) (a l : Fraction) (s² : Rooted) : Type 0 where
+  pub above : square (a ∸ᶠ (l +ᶠ whole margin)) ≤ʳ s²
   pub positive : l ≤ᶠ a +ᶠ whole margin
-  pub below : s² ≤ᶠ square ((a +ᶠ whole margin) ∸ᶠ l)
+  pub below : s² ʳ≤ square ((a +ᶠ whole margin) ∸ᶠ l)
 
 -- "20 × WB + 21 × WL", "4 × WL + 3 × WB + 8"
 abbrev pub first_margin : FileCase → ℕ

@@ -4,15 +4,15 @@
 -- is asked of a host: that the file is a list of bytes is known of the lent slice, whose type is `&[u8]`. `FiguresCall file` is the same of a
 -- file that is valued without buffers. Behind them stands each promise of every file and of every case within the limits: it is the contract of
 -- a function of the crate `promises`. proofs/Plain.antt uses each once more in plain numbers, so that a record that says less is refused.
-use Rattle.std.specs.Prelude.{ℕ, suc, Some, ◌+◌, ◌*◌, ◌≤◌, ◌<◌, ◌≡◌, ◌≢◌, ◌⊎◌, List, ℤ, pos, ◌+ℤ◌, ◌≤ℤ◌, length, slice_index, slice_index_or, drop, Result, Ok, Err}
+use Rattle.std.specs.Prelude.{ℕ, suc, false, Some, ◌+◌, ◌*◌, ◌≤◌, ◌<◌, ◌≡◌, ◌≢◌, ◌⊎◌, List, ℤ, pos, ◌+ℤ◌, ◌≤ℤ◌, length, slice_index, slice_index_or, drop, Result, Ok, Err}
 use Rattle.refusal.specs.declared.Refusal.{Refusal}
 use Rattle.arith.specs.Rounding.{End, low, high}
 use Rattle.arith.specs.Brackets.{end_of}
-use Rattle.model.specs.Constants.{unit, last_market_term, last_term}
+use Rattle.model.specs.Constants.{default_equity_correlation, unit, last_market_term, last_term}
 use Rattle.model.specs.Numbers.{Bytes}
 use Rattle.model.specs.Case.{FileCase}
 use Rattle.model.specs.Limits.{Between, WithinLimits}
-use Rattle.model.specs.Layout.{Keeps, case_of}
+use Rattle.model.specs.Layout.{Keeps, stands, file_map, case_of}
 use Rattle.model.specs.Refusals.{failing, checks, refusal}
 use Rattle.model.specs.declared.figures.Valuation.{Valuation}
 use Rattle.model.specs.declared.figures.Verdict.TheVariants.{Onbeslist}
@@ -20,8 +20,9 @@ use Rattle.method.specs.Fraction.{◌*ᶠ◌, whole, Real}
 use Rattle.method.specs.Curve.{Move, base, curve, P}
 use Rattle.method.specs.Exact as Exact
 use Rattle.method.specs.Rounded as Rounded
+use Rattle.method.specs.EquityClasses.{SummedValuation, Summed}
 use Rattle.method.specs.Margins.{NearFirst, NearSecond, first_margin, second_margin}
-use Rattle.method.specs.Containment.{Given, ContainmentAndWidth, In, SquareIn, RateBounds, WideAtMost, least_step, most_step, factor_width_most, rate_width_most}
+use Rattle.method.specs.Containment.{Given, ContainmentAndWidth, In, SquareIn, RootedSquareIn, RateBounds, WideAtMost, least_step, most_step, factor_width_most, rate_width_most}
 use Rattle.method.specs.Containment.{L_width_most, B_width_most, A_width_most, S_width_most}
 use Rattle.method.specs.Buffers.{valuation_checks, valuation_refusal, valuation_of, answered, refusal_number, factors_after, rates_after, entry_of, rate_entry_of}
 
@@ -58,6 +59,8 @@ pub record CaseValued (k : FileCase) (answer : Result Valuation Refusal) (factor
   pub later_rates : drop 240 rates_after ≡ drop 240 rates
   -- containment, widths and the verdict, of the very figures and verdict that are answered and of the entries that are written
   pub containment_and_width : (v : Valuation) → answer ≡ Ok v → ContainmentAndWidth k (given v factors_after rates_after)
+  -- where the equity classes fall together, S2 is their sum, and S and the verdict are those with that sum
+  pub summed : k.shocks.equity_correlation ≡ default_equity_correlation → (v : Valuation) → answer ≡ Ok v → SummedValuation k v
 
 -- a refused call: the answer is the first of its checks that fails, "and every lent buffer then holds what it held"
 abbrev pub RefusedCall : Refusal → List ℕ → List ℕ → List ℤ → Type 0
@@ -71,6 +74,9 @@ pub record AcceptedCall (file : List ℕ) (factors : List ℕ) (rates : List ℤ
   pub valued :
       CaseValued (case_of file) (valuation_of (length factors) (length rates) file)
       factors (factors_after file factors rates) rates (rates_after file factors rates)
+  -- "A file without this field gives every figure that it gave before the field was there."
+  pub without_equity_field : stands 8 (file_map file) ≡ false
+      → (v : Valuation) → valuation_of (length factors) (length rates) file ≡ Ok v → SummedValuation (case_of file) v
 
 -- whether a call is accepted: where both buffers are long enough, "a file is accepted exactly when it keeps the layout and limits there"
 pub record AcceptedExactly (file : List ℕ) (factors : List ℕ) (rates : List ℤ) : Type 0 where
@@ -110,6 +116,9 @@ pub record FiguresCall (file : List ℕ) : Type 0 where
       → answered (failing (checks file)) (case_of file) ≡ Ok (record { figures = Rounded.figures (case_of file); verdict = Rounded.verdict (case_of file) })
   -- containment and width, of the very figures and verdict that are answered
   pub containment_and_width : (v : Valuation) → answered (failing (checks file)) (case_of file) ≡ Ok v → ContainmentAndWidth (case_of file) (figures_given v (case_of file))
+  -- "A file without this field gives every figure that it gave before the field was there."
+  pub without_equity_field : stands 8 (file_map file) ≡ false
+      → (v : Valuation) → answered (failing (checks file)) (case_of file) ≡ Ok v → SummedValuation (case_of file) v
 
 -- ---- the promises: of calls
 
@@ -149,12 +158,12 @@ pub record MoneyLiesInItsBrackets (k : FileCase) : Type 0 where
   pub BIn : In (end_of (Rounded.figures k).b) (Exact.B k base)
   pub AIn : In (end_of (Rounded.figures k).a) (Exact.A k)
   pub S1In : In (end_of (Rounded.figures k).s1) (Exact.S1 k)
-  pub S2In : In (end_of (Rounded.figures k).s2) (Exact.S2 k)
+  pub S2In : SquareIn (end_of (Rounded.figures k).s2) (Exact.S2² k)
   pub S3In : In (end_of (Rounded.figures k).s3) (Exact.S3 k)
   pub S4In : In (end_of (Rounded.figures k).s4) (Exact.S4 k)
   pub S5In : In (end_of (Rounded.figures k).s5) (Exact.S5 k)
   pub S6In : SquareIn (end_of (Rounded.figures k).s6) (Exact.S6² k)
-  pub SIn : SquareIn (end_of (Rounded.figures k).s) (Exact.S² k)
+  pub SIn : RootedSquareIn (end_of (Rounded.figures k).s) (Exact.S² k)
 
 -- "From lower to upper end, the factor of term t is at most 4 × t × t units wide, a zero rate at most 2 steps, the liabilities L at most WL
 -- cents, bonds B and assets A at most WB each, the buffer S at most 3 × WL + 2 × WB + 8."
@@ -181,6 +190,12 @@ pub record UndecidedOnlyNearABorder (k : FileCase) : Type 0 where
   pub margin : Rounded.verdict k ≡ Onbeslist
       → NearFirst (first_margin k) (Exact.A k) (Exact.L k base)
       ⊎ NearSecond (second_margin k) (Exact.A k) (Exact.L k base) (Exact.S² k)
+
+-- where the equity classes fall together, S2 is the sum of their losses in both workings, and S and the verdict are those with that sum
+pub record TogetherTheClassesAreSummed : Type 0 where
+  pub within_limits : (k : FileCase) → WithinLimits k → k.shocks.equity_correlation ≡ default_equity_correlation → Summed k
+  -- "A file without this field gives every figure that it gave before the field was there."
+  pub without_field : (file : List ℕ) → refusal file ≡ 0 → stands 8 (file_map file) ≡ false → Summed (case_of file)
 
 -- no exact factor or value is a fraction over 0, no P(t) is cut off at 0, and both zero rates of every term are found
 pub record NothingIsCutOff (k : FileCase) : Type 0 where

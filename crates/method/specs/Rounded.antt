@@ -92,14 +92,21 @@ fall_of l b l' b' e = (b e + l' e) - (b' (other e) + l (other e))
 abbrev pub interest_loss : (Move → End → ℕ) → (Move → End → ℕ) → End → ℕ
 interest_loss l b e = max 0 (max (fall_of (l base) (b base) (l up) (b up) e) (fall_of (l base) (b base) (l down) (b down) e))
 
--- S2, S3 and S4: "S2 to S5 round once.", euros and thousandths to cents
+-- 1,000 times "the sum of the squares of the four class losses, plus twice the equity correlation times the product of each pair", which
+-- is whole: "euros times thousandths are whole tenths of a cent", and the correlation is in thousandths
+abbrev pub class_squares : ℕ → ℕ → ℕ → ℕ → ℕ → ℕ
+class_squares c m e v p = 1000 * (m * m + e * e + v * v + p * p) + 2 * c * (m * e + m * v + m * p + e * v + e * p + v * p)
+
+-- S2: "rounded once, the lower end down and the upper end up to a cent"; a square of tenths of a cent is one of cents over 100, and so over
+-- 100,000 for the correlation in thousandths
 abbrev pub equity_loss : Amounts → Shocks → End → ℕ
 equity_loss a x e =
-    divide e
-    (100
-    * (a.mature * x.mature_fall + a.emerging * x.emerging_fall + a.private * x.private_fall + a.property * x.property_fall))
-    1000
+    root e
+    (class_squares x.equity_correlation (a.mature * x.mature_fall) (a.emerging * x.emerging_fall)
+    (a.private * x.private_fall) (a.property * x.property_fall))
+    100000
 
+-- S3 and S4: "S2 to S5 round once.", euros and thousandths to cents
 abbrev pub currency_loss : Amounts → Shocks → End → ℕ
 currency_loss a x e = divide e (100 * (a.currency * x.currency_fall)) 1000
 

@@ -4,7 +4,7 @@
 -- that, not this. Assumes nothing.
 use Prim.Native.Nat.{ℕ, zero, suc}
 use mathlib.Core.Path.{◌≡◌, refl}
-use mathlib.Core.Bool.{true}
+use mathlib.Core.Bool.{true, false}
 use mathlib.Core.List.{List, [], ◌∷◌, ◌++◌, map}
 use lib.IntN.{pos, neg_ℤ}
 use Rattle.std.specs.Prelude.{None}
@@ -18,7 +18,7 @@ abbrev pub quads : ℕ → ℕ → ℕ → ℕ → ℕ → List ℕ
 quads zero a b c d = []
 quads (suc n) a b c d = a ∷ b ∷ c ∷ d ∷ quads n a b c d
 
--- "Exactly one of bits 1 and 7 stands, otherwise it's 3." Bits 8 to 15 must not.
+-- "Exactly one of bits 1 and 7 stands, otherwise it's 3." Bits 9 to 15 must not.
 abbrev pub four-map_files : List (List ℕ)
 four-map_files =
     (0x00 ∷ 0xe4 ∷ [])  -- bit 7 in place of bit 1
@@ -35,11 +35,11 @@ four-map_files =
     ∷ (0x20 ∷ 0xe4 ∷ [])  -- bit 13 standing
     ∷ (0x40 ∷ 0xe4 ∷ [])  -- bit 14 standing
     ∷ (0x80 ∷ 0xe4 ∷ [])  -- bit 15 standing
-    ∷ (0x00 ∷ 0xfd ∷ [])  -- all optional bits
+    ∷ (0x01 ∷ 0xfd ∷ [])  -- all optional bits
     ∷ (0x00 ∷ 0xff ∷ [])  -- all optional bits and both
     ∷ []
 
-four-map-refusals : map refusal four-map_files ≡ 1 ∷ 3 ∷ 3 ∷ 3 ∷ 3 ∷ 3 ∷ 3 ∷ 3 ∷ 3 ∷ 3 ∷ 3 ∷ 3 ∷ 3 ∷ 3 ∷ 1 ∷ 3 ∷ []
+four-map-refusals : map refusal four-map_files ≡ 1 ∷ 3 ∷ 3 ∷ 3 ∷ 3 ∷ 3 ∷ 1 ∷ 3 ∷ 3 ∷ 3 ∷ 3 ∷ 3 ∷ 3 ∷ 3 ∷ 1 ∷ 3 ∷ []
 unfolding all
 four-map-refusals = refl
 
@@ -75,6 +75,16 @@ four-forwards_files =
 four-forwards-refusals : map refusal four-forwards_files ≡ 0 ∷ []
 unfolding all
 four-forwards-refusals = refl
+
+-- The order of checks: two faults each.
+abbrev pub four-order_files : List (List ℕ)
+four-order_files =
+    ((0x01 ∷ 0xe4 ∷ 0x01 ∷ 0x00 ∷ 0x00 ∷ 0x00 ∷ 0x07 ∷ []) ++ pairs 13 0x00 0x00 ++ (0x00 ∷ 0x01 ∷ 0x00 ∷ 0x00 ∷ 0x00 ∷ 0x00 ∷ 0x01 ∷ 0x00 ∷ 0x0f ∷ 0x42 ∷ 0x41 ∷ []) ++ pairs 118 0x00 0x00 ++ (0x03 ∷ 0xe9 ∷ []))  -- 5 before 11 of the equity correlation
+    ∷ []
+
+four-order-refusals : map refusal four-order_files ≡ 5 ∷ []
+unfolding all
+four-order-refusals = refl
 
 -- A fund with one four-byte day, no rate of which is a whole step, and another number in every field.
 abbrev pub finer_file : List ℕ
@@ -121,6 +131,7 @@ finer_case = record {
     correlation = 401;
     spread = 2345;
     duration = 73;
+    equity_correlation = 1000;
   };
   people = record {
     heads = 1237;
@@ -129,7 +140,7 @@ finer_case = record {
   };
 }
 
-finer-layout : file_of (record { ufr = true; bonds = true; amounts = true }) finer_case ≡ finer_file
+finer-layout : file_of (record { ufr = true; bonds = true; amounts = true; equity = false }) finer_case ≡ finer_file
 unfolding all
 finer-layout = refl
 
@@ -211,6 +222,7 @@ old_case = record {
     correlation = 0;
     spread = 0;
     duration = 0;
+    equity_correlation = 1000;
   };
   people = record {
     heads = 100;
@@ -259,6 +271,7 @@ new_case = record {
     correlation = 0;
     spread = 0;
     duration = 0;
+    equity_correlation = 1000;
   };
   people = record {
     heads = 100;

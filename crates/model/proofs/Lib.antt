@@ -11,3 +11,4 @@ pub mod FourByteCases
 pub mod Plain
 pub mod PlainSizes
 pub mod PlainLimits
+pub mod EquityCases

@@ -1,6 +1,6 @@
 -- The limits of specs/Limits.antt in plain numbers, each as the layout of a case file writes it. Nothing else rests on this: a limit that was
 -- another number, or was left out, would not give it. Assumes nothing.
-use Prim.Native.Nat.{ℕ, ◌≤◌, ◌<◌, ◌-◌}
+use Prim.Native.Nat.{ℕ, ◌≤◌, ◌<◌}
 use mathlib.Core.Path.{◌≡◌, refl}
 use mathlib.Core.List.{List, [], ◌∷◌}
 use lib.IntN.{ℤ, pos, neg_ℤ}
@@ -55,11 +55,11 @@ amounts : (a : Amounts) → AmountsWithin a
     × (a.commodities ≤ 100000000000) × (a.credit ≤ 100000000000) × (a.cash ≤ 100000000000) × (a.currency ≤ 100000000000)
 amounts a h = (h.mature, h.emerging, h.private, h.property, h.commodities, h.credit, h.cash, h.currency)
 
--- shifts in steps, falls and the correlation in thousandths, the spread in steps, the duration in tenths of a year
+-- shifts in steps, falls and both correlations in thousandths, the spread in steps, the duration in tenths of a year
 shocks : (x : Shocks) → ShocksWithin x
     → (x.up_shift ≤ 1000) × (x.down_shift ≤ 1000) × (x.mature_fall ≤ 1000) × (x.emerging_fall ≤ 1000) × (x.private_fall ≤ 1000)
     × (x.property_fall ≤ 1000) × (x.currency_fall ≤ 1000) × (x.commodities_fall ≤ 1000) × (x.spread_rise ≤ 1000) × (x.correlation ≤ 1000)
-    × (x.spread ≤ 10000) × (x.duration ≤ 500)
+    × (x.spread ≤ 10000) × (x.duration ≤ 500) × (x.equity_correlation ≤ 1000)
 shocks x h = (
   h.up_shift,
   h.down_shift,
@@ -73,6 +73,7 @@ shocks x h = (
   h.correlation,
   h.spread,
   h.duration,
+  h.equity_correlation,
 )
 
 -- a million members at most, and a hundred years
@@ -93,11 +94,12 @@ module _ (k : FileCase) (h : WithinLimits k) where
   records : AmountsWithin k.amounts × ShocksWithin k.shocks × PeopleWithin k.people
   records = (h.amounts, h.shocks, h.people)
 
--- what a file may leave out: a UFR of 4,200 steps, no bonds, and no amounts; a field of bonds that is there has one at least
+-- what a file may leave out: a UFR of 4,200 steps, no bonds, no amounts, and a correlation of 1,000 thousandths between the equity classes; a
+-- field of bonds that is there has one at least
 left-out : (p : Present) (k : FileCase) → Agrees p k
     → (p.ufr ≡ false → k.ufr ≡ 4200) × (p.bonds ≡ false → k.bonds ≡ []) × (p.bonds ≡ true → 1 ≤ length k.bonds)
-    × (p.amounts ≡ false → k.amounts ≡ no_amounts)
-left-out p k h = (h.ufr_absent, h.bonds_absent, h.bonds_there, h.amounts_absent)
+    × (p.amounts ≡ false → k.amounts ≡ no_amounts) × (p.equity ≡ false → k.shocks.equity_correlation ≡ 1000)
+left-out p k h = (h.ufr_absent, h.bonds_absent, h.bonds_there, h.amounts_absent, h.equity_absent)
 
 -- a file that keeps the layout and the limits: it is the bytes of a case within them, with what may be left out left out or not
 kept : (file : List ℕ) (x : Keeps file) → WithinLimits x.held × Agrees x.present x.held × (file ≡ file_of x.present x.held)

@@ -28,10 +28,10 @@ map_files =
     ∷ (0x40 ∷ 0x66 ∷ [])  -- bit 14 standing
     ∷ (0x80 ∷ 0x66 ∷ [])  -- bit 15 standing
     ∷ (0x00 ∷ 0x66 ∷ [])  -- the map alone
-    ∷ (0x00 ∷ 0x7f ∷ [])  -- all optional bits
+    ∷ (0x01 ∷ 0x7f ∷ [])  -- all optional bits
     ∷ []
 
-map-refusals : map refusal map_files ≡ 1 ∷ 1 ∷ 3 ∷ 3 ∷ 3 ∷ 3 ∷ 3 ∷ 3 ∷ 3 ∷ 3 ∷ 3 ∷ 3 ∷ 3 ∷ 3 ∷ 3 ∷ 1 ∷ 1 ∷ []
+map-refusals : map refusal map_files ≡ 1 ∷ 1 ∷ 3 ∷ 3 ∷ 3 ∷ 3 ∷ 3 ∷ 1 ∷ 3 ∷ 3 ∷ 3 ∷ 3 ∷ 3 ∷ 3 ∷ 3 ∷ 1 ∷ 1 ∷ []
 unfolding all
 map-refusals = refl
 
@@ -149,6 +149,17 @@ people-refusals : map refusal people_files ≡ 0 ∷ 12 ∷ []
 unfolding all
 people-refusals = refl
 
+-- The equity correlation: 0 to 1,000.
+abbrev pub equity-correlation_files : List (List ℕ)
+equity-correlation_files =
+    ((0x01 ∷ 0x66 ∷ 0x01 ∷ []) ++ pairs 60 0x00 0x00 ++ (0x01 ∷ 0x00 ∷ 0x00 ∷ 0x00 ∷ 0x07 ∷ []) ++ pairs 13 0x00 0x00 ++ (0x00 ∷ 0x01 ∷ 0x00 ∷ 0x00 ∷ 0x00 ∷ 0x00 ∷ 0xff ∷ []))  -- one byte of it, too high
+    ∷ ((0x01 ∷ 0x66 ∷ 0x01 ∷ []) ++ pairs 60 0x00 0x00 ++ (0x01 ∷ 0x00 ∷ 0x00 ∷ 0x00 ∷ 0x07 ∷ []) ++ pairs 13 0x00 0x00 ++ (0x00 ∷ 0x01 ∷ 0x00 ∷ 0x00 ∷ 0x00 ∷ 0x00 ∷ 0x03 ∷ 0xe9 ∷ []))  -- 1001
+    ∷ []
+
+equity-correlation-refusals : map refusal equity-correlation_files ≡ 1 ∷ 11 ∷ []
+unfolding all
+equity-correlation-refusals = refl
+
 -- Error 6, one below and one above its limits.
 abbrev pub forwards_files : List (List ℕ)
 forwards_files =
@@ -168,9 +179,11 @@ order_files =
     ∷ (0x00 ∷ 0x66 ∷ 0x47 ∷ [])  -- 4 before the missing rates
     ∷ ((0x00 ∷ 0x66 ∷ 0x01 ∷ []) ++ pairs 60 0x00 0x00 ++ (0x01 ∷ 0x00 ∷ 0x00 ∷ 0x00 ∷ 0x07 ∷ []) ++ pairs 16 0x00 0x00 ++ (0x00 ∷ []))  -- 12 before 2
     ∷ ((0x00 ∷ 0x66 ∷ 0x01 ∷ 0x00 ∷ 0x00 ∷ []) ++ pairs 59 0x17 0x71 ++ (0x01 ∷ 0x00 ∷ 0x00 ∷ 0x00 ∷ 0x07 ∷ []) ++ pairs 13 0x00 0x00 ++ (0x00 ∷ 0x01 ∷ 0x00 ∷ 0x00 ∷ 0x00 ∷ 0x00 ∷ 0x00 ∷ []))  -- 2 before 6
+    ∷ ((0x01 ∷ 0x66 ∷ 0x01 ∷ []) ++ pairs 60 0x00 0x00 ++ (0x01 ∷ 0x00 ∷ 0x00 ∷ 0x00 ∷ 0x07 ∷ []) ++ pairs 16 0x00 0x00 ++ (0x03 ∷ 0xe9 ∷ []))  -- 12 before 11 of the equity correlation
+    ∷ ((0x01 ∷ 0x66 ∷ 0x01 ∷ []) ++ pairs 60 0x00 0x00 ++ (0x01 ∷ 0x00 ∷ 0x00 ∷ 0x00 ∷ 0x07 ∷ []) ++ pairs 13 0x00 0x00 ++ (0x00 ∷ 0x01 ∷ 0x00 ∷ 0x00 ∷ 0x00 ∷ 0x00 ∷ 0x03 ∷ 0xe9 ∷ 0x00 ∷ []))  -- 11 of the equity correlation before 2
     ∷ []
 
-order-refusals : map refusal order_files ≡ 3 ∷ 9 ∷ 4 ∷ 12 ∷ 2 ∷ []
+order-refusals : map refusal order_files ≡ 3 ∷ 9 ∷ 4 ∷ 12 ∷ 2 ∷ 12 ∷ 11 ∷ []
 unfolding all
 order-refusals = refl
 

@@ -5,6 +5,10 @@ use Rattle.std.specs.Prelude.{ℕ, ◌^◌}
 abbrev pub default_ufr : ℕ
 default_ufr = 4200
 
+-- "A file without this field has 1,000.": the correlation between the equity classes, in thousandths
+abbrev pub default_equity_correlation : ℕ
+default_equity_correlation = 1000
+
 -- "A rate step is 0.00001.": the number of steps in 1
 abbrev pub steps_per_one : ℕ
 steps_per_one = 100000

@@ -1,9 +1,10 @@
--- The case file as one expression, field by field (METHOD, The case file; the second days field: METHOD, Rates in four bytes). The bytes of
--- a case, the case of the bytes and the checks of each field follow from it. Refusals has the order of all checks.
+-- The case file as one expression, field by field (METHOD, The case file; the second days field: METHOD, Rates in four bytes; the correlation
+-- between the equity classes: METHOD, Equity classes). The bytes of a case, the case of the bytes and the checks of each field follow from it.
+-- Refusals has the order of all checks.
 use Rattle.std.specs.Prelude.{ℕ, ◌+◌, ◌*◌, ◌/◌, ◌%◌, ◌^◌, ◌≤◌, ◌≡◌, Bool, true, false, if◌then◌else◌, List, [], ◌∷◌, ◌++◌, ◌==◌, length, slice_index, ℤ, pos, neg_ℤ}
 use Rattle.refusal.specs.declared.Refusal.TheVariants.{DayCount, Rate, FlowCount, Flow, Ufr, Amount, Shock}
 use Rattle.refusal.specs.declared.Refusal.TheVariants as Refusal
-use Rattle.model.specs.Constants.{default_ufr, last_market_term}
+use Rattle.model.specs.Constants.{default_ufr, default_equity_correlation, last_market_term}
 use Rattle.model.specs.Numbers.{number, bytes_of, twos_complement, unsigned}
 use Rattle.model.specs.Case.{FileCase, units_per_step}
 use Rattle.model.specs.Limits.{WithinLimits}
@@ -62,10 +63,15 @@ amounts = named amounts_from amounts_in_order (several 8 (number_of 8 0 10000000
 abbrev pub no_amounts : Amounts
 no_amounts = amounts_from []
 
+-- "twelve of 2 bytes": ten of one limit, the credit spread and the credit duration
+abbrev pub TwelveShocks : Type 0
+TwelveShocks = List ℕ × (ℕ × ℕ)
+
 -- "Up shift and down shift ..; then .. mature, emerging, private, property, currency, commodities, spread rise, correlation; credit
--- spread ..; credit duration": by name, and in this order, which is another than that of the amounts
-abbrev pub shocks_from : List ℕ × (ℕ × ℕ) → Shocks
-shocks_from v = record {
+-- spread ..; credit duration": by name, and in this order, which is another than that of the amounts; and, from a field of its own, the
+-- correlation between the equity classes, "the thirteenth number of the shocks"
+abbrev pub shocks_from : TwelveShocks → ℕ → Shocks
+shocks_from v equity = record {
   up_shift = slice_index v.0 0;
   down_shift = slice_index v.0 1;
   mature_fall = slice_index v.0 2;
@@ -78,9 +84,10 @@ shocks_from v = record {
   correlation = slice_index v.0 9;
   spread = v.1.0;
   duration = v.1.1;
+  equity_correlation = equity;
 }
 
-abbrev pub shocks_in_order : Shocks → List ℕ × (ℕ × ℕ)
+abbrev pub shocks_in_order : Shocks → TwelveShocks
 shocks_in_order x = (
   x.up_shift ∷ x.down_shift
       ∷ x.mature_fall ∷ x.emerging_fall ∷ x.private_fall ∷ x.property_fall ∷ x.currency_fall ∷ x.commodities_fall
@@ -89,8 +96,16 @@ shocks_in_order x = (
 )
 
 -- "twelve of 2 bytes": ten of "0 to 1,000", "0 to 10,000", "0 to 500"
-abbrev pub shocks : Fixed Shocks
-shocks = named shocks_from shocks_in_order (pair_of (several 10 (number_of 2 0 1000)) (pair_of (number_of 2 0 10000) (number_of 2 0 500)))
+abbrev pub shocks : Fixed TwelveShocks
+shocks = pair_of (several 10 (number_of 2 0 1000)) (pair_of (number_of 2 0 10000) (number_of 2 0 500))
+
+-- "2 bytes, 0 to 1,000 thousandths"
+abbrev pub equity_correlation : Fixed ℕ
+equity_correlation = number_of 2 0 1000
+
+-- the shocks of which nothing is said: 0 each, and the correlation of a file without its field
+abbrev pub default_shocks : Shocks
+default_shocks = shocks_from ([], (0, 0)) default_equity_correlation
 
 -- "head count H, 4 bytes, 1 to 1,000,000; pension age and mean age, 2 bytes each, 0 to 1,200 months"
 abbrev pub people_from : ℕ × (ℕ × ℕ) → People
@@ -107,13 +122,14 @@ pub record Present : Type 0 where
   pub ufr : Bool
   pub bonds : Bool
   pub amounts : Bool
+  pub equity : Bool
 
 -- "a 16-bit map (bit 0 is the lowest)": bits 2, 5 and 6 stand, the bit of the days field, whose rates have w bytes, and the bits of the
 -- optional fields that are there
 abbrev pub map_of : ℕ → Present → ℕ
 map_of w p =
     2 ^ 2 + 2 ^ 5 + 2 ^ 6 + (if p.ufr then 2 ^ 0 else 0) + (if w == 2 then 2 ^ 1 else 0) + (if p.bonds then 2 ^ 3 else 0) + (if p.amounts then 2 ^ 4 else 0)
-    + (if w == 4 then 2 ^ 7 else 0)
+    + (if w == 4 then 2 ^ 7 else 0) + (if p.equity then 2 ^ 8 else 0)
 
 -- the other way: a bit of a map stands; the bytes of a rate and the optional fields that a map announces; the map of a file
 abbrev pub stands : ℕ → ℕ → Bool
@@ -123,14 +139,14 @@ abbrev pub rate_bytes_in : ℕ → ℕ
 rate_bytes_in map = if stands 7 map then 4 else 2
 
 abbrev pub present_in : ℕ → Present
-present_in map = record { ufr = stands 0 map; bonds = stands 3 map; amounts = stands 4 map }
+present_in map = record { ufr = stands 0 map; bonds = stands 3 map; amounts = stands 4 map; equity = stands 8 map }
 
 unfoldable pub file_map : List ℕ → ℕ
 file_map file = number file 0 2
 
 -- what the fields of bits 0 to 6 hold, in bit order
 abbrev pub FirstParts : Type 0
-FirstParts = ℕ × (List (List ℤ) × (List ℕ × (List ℕ × (Amounts × (Shocks × People)))))
+FirstParts = ℕ × (List (List ℤ) × (List ℕ × (List ℕ × (Amounts × (TwelveShocks × People)))))
 
 -- "then only the fields whose bit stands, in bit order": those of bits 0 to 6
 abbrev pub first_fields : ℕ → Present → Field FirstParts
@@ -152,22 +168,27 @@ first_fields w p =
 
 -- what all fields hold
 abbrev pub Parts : Type 0
-Parts = FirstParts × List (List ℤ)
+Parts = FirstParts × (List (List ℤ) × ℕ)
 
--- all fields: bit 7 announces days in four bytes, a field of the same form
+-- all fields
 abbrev pub layout : ℕ → Present → Field Parts
-layout w p = first_fields w p then optional (w == 4) [] (days 4)
+layout w p =
+    first_fields w p
+    -- "Bit 7 announces a days field of the same form whose rates are four bytes"; refusals 4 and 5
+    then optional (w == 4) [] (days 4)
+    -- "Bit 8, the correlation between the equity classes: 2 bytes, 0 to 1,000 thousandths. A file without this field has 1,000."; refusal 11
+    then optional p.equity default_equity_correlation (field Shock equity_correlation)
 
 -- the case with these fields, whose rates have w bytes
 abbrev pub case_from : ℕ → Parts → FileCase
 case_from w v = record {
   rate_bytes = w;
   ufr = v.0.0;
-  days = if w == 4 then v.1 else v.0.1.0;
+  days = if w == 4 then v.1.0 else v.0.1.0;
   pension = v.0.1.1.0;
   bonds = v.0.1.1.1.0;
   amounts = v.0.1.1.1.1.0;
-  shocks = v.0.1.1.1.1.1.0;
+  shocks = shocks_from v.0.1.1.1.1.1.0 v.1.1;
   people = v.0.1.1.1.1.1.1;
 }
 
@@ -176,7 +197,10 @@ abbrev pub days_if : ℕ → FileCase → List (List ℤ)
 days_if w k = if k.rate_bytes == w then k.days else []
 
 abbrev pub parts_of : FileCase → Parts
-parts_of k = ((k.ufr, (days_if 2 k, (k.pension, (k.bonds, (k.amounts, (k.shocks, k.people)))))), days_if 4 k)
+parts_of k = (
+  (k.ufr, (days_if 2 k, (k.pension, (k.bonds, (k.amounts, (shocks_in_order k.shocks, k.people)))))),
+  (days_if 4 k, k.shocks.equity_correlation),
+)
 
 -- "First a 16-bit map"
 unfoldable pub file_of : Present → FileCase → List ℕ
@@ -195,6 +219,7 @@ pub record Agrees (p : Present) (k : FileCase) : Type 0 where
   pub bonds_absent : p.bonds ≡ false → k.bonds ≡ []
   pub bonds_there : p.bonds ≡ true → 1 ≤ length k.bonds
   pub amounts_absent : p.amounts ≡ false → k.amounts ≡ no_amounts
+  pub equity_absent : p.equity ≡ false → k.shocks.equity_correlation ≡ default_equity_correlation
 
 -- the file keeps the layout and limits: it is the bytes of some case within the limits, with some of the optional fields there
 pub record Keeps (file : List ℕ) : Type 0 where

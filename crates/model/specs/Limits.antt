@@ -56,6 +56,8 @@ pub record ShocksWithin (x : Shocks) : Type 0 where
   pub correlation : x.correlation ≤ 1000
   pub spread : x.spread ≤ 10000
   pub duration : x.duration ≤ 500
+  -- "0 to 1,000 thousandths"
+  pub equity_correlation : x.equity_correlation ≤ 1000
 
 -- "head count H, .. 1 to 1,000,000; pension age and mean age, .. 0 to 1,200 months"
 pub record PeopleWithin (p : People) : Type 0 where

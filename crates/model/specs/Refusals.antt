@@ -23,10 +23,10 @@ first_of checks = number_in (failing checks)
 abbrev pub exactly_one : Bool → Bool → Bool
 exactly_one a b = if a then not b else b
 
--- "Bits 2, 5 and 6 must stand, and exactly one of bits 1 and 7; bits 8 to 15 must not."
+-- "Bits 2, 5 and 6 must stand, and exactly one of bits 1 and 7; bits 9 to 15 must not."
 abbrev pub bits_right : ℕ → Bool
 bits_right map =
-    exactly_one (stands 1 map) (stands 7 map) && stands 2 map && stands 5 map && stands 6 map && every (λ i. not (stands (8 + i) map)) 8
+    exactly_one (stands 1 map) (stands 7 map) && stands 2 map && stands 5 map && stands 6 map && every (λ i. not (stands (9 + i) map)) 7
 
 -- "then the map (1, then 3)"
 abbrev pub map_checks : List ℕ → List Check

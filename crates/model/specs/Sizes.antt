@@ -6,11 +6,11 @@ use Rattle.model.specs.Refusals.{failing, checks, refusal}
 
 -- the longest file that is accepted has this many bytes
 abbrev pub longest_file : ℕ
-longest_file = 17623
+longest_file = 17625
 
 -- this many bytes from the front decide about any file: one more than the longest file that is accepted
 abbrev pub deciding_bytes : ℕ
-deciding_bytes = 17624
+deciding_bytes = 17626
 
 -- no accepted file is longer
 pub record AcceptedFilesAreShort : Type 0 where

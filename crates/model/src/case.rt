@@ -14,10 +14,11 @@ pub struct Amounts {
     pub currency: u64,
 }
 
-// Shifts and spread in rate steps, falls, spread rise and correlation in thousandths, the duration
-// in tenths of a year.
+// Shifts and spread in rate steps, falls, spread rise and both correlations in thousandths, the duration in tenths of a year.
+// `correlation` is that between S1 and S2. `equity_correlation` is that between the four classes of S2: 1,000 where they fall together,
+// which gives the largest S2, and 0 where they fall independently, which gives the smallest, so it has no derived default.
 #[repr(C)]
-#[derive(Clone, Copy, Default)]
+#[derive(Clone, Copy)]
 pub struct Shocks {
     pub up_shift: u64,
     pub down_shift: u64,
@@ -31,6 +32,7 @@ pub struct Shocks {
     pub correlation: u64,
     pub spread: u64,
     pub duration: u64,
+    pub equity_correlation: u64,
 }
 
 // The head count, and the ages in months.

@@ -9,9 +9,12 @@ use Rattle.arith.specs.Brackets.{bracket, end_of}
 use Rattle.arith.specs.declared.bracket.Bracket.{Bracket}
 use Rattle.theory.proofs.general.ByEnds.{by-ends}
 use Rattle.arith.specs.Rounding.{End, low, high, divide}
+use Rattle.arith.specs.Root.{root}
 use Rattle.arith.proofs.Rounding.{divide-le, divide-common}
 use Rattle.model.specs.Limits.{AmountsWithin, ShocksWithin}
-use Rattle.method.specs.Rounded.{credit_loss}
+use Rattle.method.specs.Rounded.{class_squares, credit_loss}
+use Rattle.money.specs.inner.Ranges.{ClassesFit}
+use Rattle.theory.proofs.money.MoneySizes.{classes-most}
 use Rattle.model.specs.declared.case.Amounts.{Amounts}
 use Rattle.model.specs.declared.case.Shocks.{Shocks}
 use Rattle.arith.specs.inner.Range.{UpTo}
@@ -27,6 +30,11 @@ end-most u high = u.upper
 -- thousandths of a cent, rounded
 pub thousandths-most : (r : Bracket) (n : ℕ) → n ≤ 5 * 10 ^ 16 → r ≡ bracket (λ e. divide e n 1000) → UpTo (50 * 10 ^ 12) r
 thousandths-most r n h p = up_to r (λ e. divide e n 1000) p (λ e. divide-le e n 1000 (50 * 10 ^ 12) (lit< tt) (omega arith))
+
+-- an end of S2: the root is at most the four losses together
+pub classes-end : (end : End) {c m e v p n r : ℕ} → ClassesFit c m e v p → n ≡ class_squares c m e v p → r ≡ root end n 100000 → r ≤ 50 * 10 ^ 12
+classes-end end {c} {m} {e} {v} {p} f is root-is =
+    rw (root-is, is) (le_trans (classes-most end c m e v p f.correlation f.mature f.emerging f.private f.property) (lit≤ tt))
 
 -- S5: 100 ÷ 10^9 is 1 ÷ 10^7
 pub credit-is : (a : Amounts) (x : Shocks) (e : End) → divide e (a.credit * (x.duration * x.spread * x.spread_rise)) 10000000 ≡ credit_loss a x e

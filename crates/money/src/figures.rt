@@ -9,7 +9,8 @@ ghost use Rattle.money.specs.inner.ByWorths.{money_by};
 ghost use Rattle.money.specs.inner.Ranges.{WorthFits, WorthsFit, Judgeable};
 
 use super::buffer::{Losses, buffer};
-use super::losses::{s1, s2, s3, s4, s5, s6};
+use super::equity::s2;
+use super::losses::{s1, s3, s4, s5, s6};
 use super::verdict::verdict_of;
 use arith::bracket::Bracket;
 use curves::three::Three;

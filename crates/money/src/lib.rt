@@ -2,6 +2,7 @@
 #![tactic(auto)]
 
 pub mod buffer;
+pub mod equity;
 pub mod figures;
 pub mod losses;
 pub mod verdict;

@@ -1,10 +1,10 @@
-// S1 to S6: what each shock costs the fund, in cents.
+// S1 and S3 to S6: what each shock costs the fund, in cents. S2 is in `equity`.
 ghost use Rattle.std.specs.Prelude.{◌≡◌, ◌*◌, ◌^◌, ◌≤◌, ◌<◌, ◌+◌};
 ghost use Rattle.arith.specs.Root.{root};
 ghost use Rattle.arith.specs.Brackets.{bracket, end_of};
 ghost use Rattle.model.specs.Limits.{AmountsWithin, ShocksWithin, PeopleWithin};
 ghost use Rattle.model.specs.Case.{age_gap};
-ghost use Rattle.method.specs.Rounded.{fall_of, interest_loss, equity_loss, currency_loss, commodity_loss, credit_loss, mortality, mortality_loss};
+ghost use Rattle.method.specs.Rounded.{fall_of, interest_loss, currency_loss, commodity_loss, credit_loss, mortality, mortality_loss};
 ghost use Rattle.curves.specs.inner.Three.{on};
 ghost use Rattle.money.specs.inner.OnCurves.{ends};
 ghost use Rattle.money.specs.inner.Ranges.{LossFits, WorthFits, WorthsFit};
@@ -35,8 +35,8 @@ pub fn s1(l: Three<Bracket>, b: Three<Bracket>) -> Bracket
     up.larger(down)
 }
 
-// The loss on an amount in euros, in thousandths of a euro.
-fn loss(euros: u64, thousandths: u64) -> u64
+// The loss on an amount in euros, in thousandths of a euro, which are tenths of a cent.
+pub fn loss(euros: u64, thousandths: u64) -> u64
     requires { (euros ≤ 100000000000) × (thousandths ≤ 1000) }
     ensures value { result ≡ euros * thousandths }
     ensures bound { result ≤ 10 ^ 14 }
@@ -46,19 +46,6 @@ fn loss(euros: u64, thousandths: u64) -> u64
 
 // Amounts and shocks are the structs that a host hands in, with any numbers in them: that they are within their limits is asked of each
 // caller below, since no type of C's can hold it.
-
-/// S2: the four equity and property amounts times their thousandths, summed and then rounded.
-pub fn s2(a: &Amounts, x: &Shocks) -> Bracket
-    requires { AmountsWithin a.now × ShocksWithin x.now }
-    ensures value { result ≡ bracket (equity_loss a.now x.now) }
-    ensures bound { LossFits result }
-{
-    let equity = loss(a.mature, x.mature_fall)
-        + loss(a.emerging, x.emerging_fall)
-        + loss(a.private, x.private_fall)
-        + loss(a.property, x.property_fall);
-    Bracket::quotient(100 * equity, 1_000)
-}
 
 /// S3: the currency exposure times its thousandths.
 pub fn s3(a: &Amounts, x: &Shocks) -> Bracket

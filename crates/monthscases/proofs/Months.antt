@@ -130,6 +130,30 @@ own_ufr-listing : listing (answer_of (months_valuation own_ufr_file found_histor
 unfolding all
 own_ufr-listing = refl
 
+-- Losses in four equity classes, whose correlation is 500.
+abbrev pub classes_file : List ℕ
+classes_file =
+    (0x01 ∷ 0x76 ∷ 0x01 ∷ []) ++ pairs 60 0x00 0x00 ++ (0x01 ∷ 0x00 ∷ 0x00 ∷ 0x00 ∷ 0x07 ∷ 0x00 ∷ 0x00 ∷ 0x00 ∷ 0x00 ∷ 0x00 ∷ 0x00 ∷ 0x00 ∷ 0x07 ∷ 0x00 ∷ 0x00 ∷ 0x00 ∷ 0x00 ∷ 0x00 ∷ 0x00 ∷ 0x00 ∷ 0x0b ∷ 0x00 ∷ 0x00 ∷ 0x00 ∷ 0x00 ∷ 0x00 ∷ 0x00 ∷ 0x00 ∷ 0x0d ∷ 0x00 ∷ 0x00 ∷ 0x00 ∷ 0x00 ∷ 0x00 ∷ 0x00 ∷ 0x00 ∷ 0x11 ∷ []) ++ pairs 18 0x00 0x00 ++ (0x01 ∷ 0x2d ∷ 0x01 ∷ 0xc5 ∷ 0x00 ∷ 0xcf ∷ 0x00 ∷ 0x97 ∷ []) ++ pairs 7 0x00 0x00 ++ (0x00 ∷ 0x01 ∷ 0x00 ∷ 0x00 ∷ 0x00 ∷ 0x00 ∷ 0x01 ∷ 0xf4 ∷ [])
+
+abbrev pub classes_listing : List String
+classes_listing =
+    "L 700 700"
+    ∷ "B 0 0"
+    ∷ "A 4800 4800"
+    ∷ "S1 0 0"
+    ∷ "S2 988 989"
+    ∷ "S3 0 0"
+    ∷ "S4 0 0"
+    ∷ "S5 0 0"
+    ∷ "S6 420 421"
+    ∷ "S 1073 1075"
+    ∷ "V VRIJ VERMOGEN"
+    ∷ []
+
+classes-listing : listing (answer_of (months_valuation classes_file found_history 119 240 240)) ≡ text classes_listing
+unfolding all
+classes-listing = refl
+
 plain-factor-21 : (entry_of (months_factors_after plain_file found_history 119 (replicate 242 7) (replicate 241 (pos 7))) low 21 ≡ 997341088657)
     × (entry_of (months_factors_after plain_file found_history 119 (replicate 242 7) (replicate 241 (pos 7))) high 21 ≡ 997341088658)
 unfolding all

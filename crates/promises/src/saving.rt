@@ -60,7 +60,7 @@ pub fn every_case_can_be_handed_in()
     ensures { EveryCaseCanBeHandedIn }
 {}
 
-/// The bytes that a case within the limits is saved as are at most 17,623.
+/// The bytes that a case within the limits is saved as are at most 17,625.
 #[tactic(auto, using(theory::proofs::saving::Promised::saved_files_are_short))]
 pub fn saved_files_are_short()
     ensures { SavedFilesAreShort }

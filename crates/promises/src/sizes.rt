@@ -2,19 +2,19 @@
 ghost use Rattle.method.specs.Sizes.{ListingsAreShort, EveryListingCall};
 ghost use Rattle.model.specs.Sizes.{AcceptedFilesAreShort, LongestFileIsAccepted, FirstBytesDecide};
 
-/// An accepted case file has at most 17,623 bytes.
+/// An accepted case file has at most 17,625 bytes.
 #[tactic(auto, using(theory::proofs::sizes::Promised::accepted_files_are_short))]
 pub fn accepted_files_are_short()
     ensures { AcceptedFilesAreShort }
 {}
 
-/// A case file of 17,623 bytes is accepted.
+/// A case file of 17,625 bytes is accepted.
 #[tactic(auto, using(theory::proofs::sizes::Promised::longest_file_is_accepted))]
 pub fn longest_file_is_accepted()
     ensures { LongestFileIsAccepted }
 {}
 
-/// The first 17,624 bytes of a case file decide: they are refused with the number that the whole file is refused with, and where the file is
+/// The first 17,626 bytes of a case file decide: they are refused with the number that the whole file is refused with, and where the file is
 /// accepted they are all of it, and its case is theirs.
 #[tactic(auto, using(theory::proofs::sizes::Promised::first_bytes_decide))]
 pub fn first_bytes_decide()

@@ -4,7 +4,7 @@ ghost use Rattle.model.specs.Promises.{FilesAreAcceptedExactly, NoFileHoldsTwoCa
 ghost use Rattle.method.specs.Promises.{EveryCall, EveryFiguresCall, RefusedCallsChangeNothing, AcceptedCallsGiveTheRoundedWorking, OfEvery};
 ghost use Rattle.method.specs.Promises.{FactorsLieInTheirBrackets, ZeroRatesLieInTheirBrackets, MoneyLiesInItsBrackets};
 ghost use Rattle.method.specs.Promises.{FactorsAreNarrow, ZeroRatesAreNarrow, MoneyIsNarrow};
-ghost use Rattle.method.specs.Promises.{VerdictsAreExact, UndecidedOnlyNearABorder, NothingIsCutOff, ExactWorkingIsContained};
+ghost use Rattle.method.specs.Promises.{VerdictsAreExact, UndecidedOnlyNearABorder, NothingIsCutOff, ExactWorkingIsContained, TogetherTheClassesAreSummed};
 
 /// A file is accepted exactly when it keeps the layout and limits. The case that is read is then the one that it holds, and within the limits.
 #[tactic(auto, using(theory::proofs::acceptance::Promised::a_file_is_accepted_exactly_when_it_keeps_the_layout_and_limits))]
@@ -117,4 +117,11 @@ pub fn nothing_is_cut_off()
 #[tactic(auto, using(theory::proofs::containment::Promised::the_exact_working_is_contained))]
 pub fn the_exact_working_is_contained()
     ensures { OfEvery ExactWorkingIsContained }
+{}
+
+/// Where the correlation between the equity classes is 1,000, as in every accepted file without its field, S2 is the sum of the four class
+/// losses, rounded once, and S and the verdict are those with that sum, in both workings.
+#[tactic(auto, using(theory::proofs::containment::Promised::classes_that_fall_together_are_summed))]
+pub fn classes_that_fall_together_are_summed()
+    ensures { TogetherTheClassesAreSummed }
 {}

@@ -11,7 +11,6 @@ use Rattle.std.specs.Borrow.{Bor}
 use Rattle.refusal.specs.declared.Refusal.{Refusal}
 use Rattle.refusal.specs.declared.Refusal.TheVariants.{Rate}
 use Rattle.model.specs.Layout.{Keeps, case_of}
-use Rattle.model.specs.Fields.{Check}
 use Rattle.model.specs.Refusals.{failing, first_of, checks, rates_part, days_at}
 use Rattle.heldcase.specs.Held.{held}
 use Rattle.reader.specs.Answers.{rates_from, behind, RatesPart, Read, ReadExactly, IsFirstOfAll}

@@ -5,11 +5,11 @@ use Rattle.std.specs.Option.{option_or}
 use Rattle.std.specs.Borrow.{Bor}
 use mathlib.Core.Path.{ap₂}
 use lib.Dec.{eqb}
-use Rattle.model.specs.Constants.{default_ufr}
+use Rattle.model.specs.Constants.{default_ufr, default_equity_correlation}
 use Rattle.model.specs.Numbers.{every, number}
 use Rattle.model.specs.Case.{per_step}
 use Rattle.model.specs.Fields.{number_of, Field, field, optional}
-use Rattle.model.specs.Layout.{Parts, no_amounts, case_of, case_from, day, days, fields_of, file_map, rate_bytes_in, stands}
+use Rattle.model.specs.Layout.{Parts, no_amounts, shocks_from, case_of, case_from, day, days, fields_of, file_map, rate_bytes_in, stands}
 use Rattle.model.specs.Refusals.{failing, checks, day_count, days_at, forwards_right, rates_part, ufr_end}
 use Rattle.model.specs.declared.case.Amounts.{Amounts}
 use Rattle.model.specs.declared.case.Shocks.{Shocks}
@@ -95,8 +95,8 @@ module _ {file : Bor (List ℕ)} {start c1 : Cursor} {map : Map} (begun : (start
   map-right : failing (map_field.checks file.now 0) ≡ None
   map-right = ap₂ (λ b i. failing (map_field.checks b.now i)) (sym begun.0) (sym begun.1) ∙ read.0
 
-  module _ {u s b a l : Bool} (eu : u ≡ stands 0 map.bits) (es : s ≡ not (stands 7 map.bits)) (eb : b ≡ stands 3 map.bits) (ea : a ≡ stands 4 map.bits)
-      (el : l ≡ stands 7 map.bits) where
+  module _ {u s b a l e : Bool} (eu : u ≡ stands 0 map.bits) (es : s ≡ not (stands 7 map.bits)) (eb : b ≡ stands 3 map.bits) (ea : a ≡ stands 4 map.bits)
+      (el : l ≡ stands 7 map.bits) (ee : e ≡ stands 8 map.bits) where
     abbrev t : Bool
     t = stands 7 bits
 
@@ -115,17 +115,20 @@ module _ {file : Bor (List ℕ)} {start c1 : Cursor} {map : Map} (begun : (start
     kl : l ≡ t
     kl = el ∙ ap (stands 7) bits-are
 
+    ke : e ≡ stands 8 bits
+    ke = ee ∙ ap (stands 8) bits-are
+
     abbrev fields : Field Parts
-    fields = laid u s b a l
+    fields = laid u s b a l e
 
     fields-are : fields ≡ fields_of file.now
-    fields-are = (λ k. laid (ku k) (ks k) (kb k) (ka k) (kl k)) ∙ announced-are bits
+    fields-are = (λ k. laid (ku k) (ks k) (kb k) (ka k) (kl k) (ke k)) ∙ announced-are bits
 
     checks-are : fields.checks c1.file.now c1.at ≡ (fields_of file.now).checks file.now 2
     checks-are = λ k. (fields-are k).checks (file-is k).now (at-is k)
 
-    pub fields-refused : (e : Refusal) → Some e ≡ failing (fields.checks c1.file.now c1.at) → Some e ≡ failing (checks file.now)
-    fields-refused e h = field-refused file.now map-right e (h ∙ ap failing checks-are)
+    pub fields-refused : (r : Refusal) → Some r ≡ failing (fields.checks c1.file.now c1.at) → Some r ≡ failing (checks file.now)
+    fields-refused r h = field-refused file.now map-right r (h ∙ ap failing checks-are)
 
     module _ {c2 : Cursor} (right : failing (fields.checks c1.file.now c1.at) ≡ None) (moved : Moved c1 c2 (fields.end c1.file.now c1.at)) where
       end-is : leb (length c2.file.now) c2.at ≡ leb (length file.now) ((fields_of file.now).end file.now 2)
@@ -157,7 +160,7 @@ module _ {file : Bor (List ℕ)} {start c1 : Cursor} {map : Map} (begun : (start
           go false = refl
 
       abbrev parts : Parts
-      parts = (laid (stands 0 bits) (not t) (stands 3 bits) (stands 4 bits) t).value file.now 2
+      parts = (laid (stands 0 bits) (not t) (stands 3 bits) (stands 4 bits) t (stands 8 bits)).value file.now 2
 
       case-is : case_of file.now ≡ case_from (rate_bytes_in bits) parts
       unfolding case_of
@@ -198,23 +201,24 @@ module _ {file : Bor (List ℕ)} {start c1 : Cursor} {map : Map} (begun : (start
             was = fields.value c1.file.now c1.at
 
             parts-are : was ≡ parts
-            parts-are = λ k. (laid (ku k) (ks k) (kb k) (ka k) (kl k)).value (file-is k).now (at-is k)
+            parts-are = λ k. (laid (ku k) (ks k) (kb k) (ka k) (kl k) (ke k)).value (file-is k).now (at-is k)
 
-            pub all-read : {ufr : ℕ} {pension bonds sums : List ℕ} {a' : Amounts} {x : Shocks} {p : People}
+            pub all-read : {ufr correlation : ℕ} {pension bonds sums : List ℕ} {a' : Amounts} {x : Shocks} {p : People}
                 → IfThere u (ufr ≡ was.0.0) ((ufr ≡ default_ufr) × (was.0.0 ≡ default_ufr))
                 → pension ≡ was.0.1.1.0
                 → IfThere b (bonds ≡ was.0.1.1.1.0) ((bonds ≡ []) × (was.0.1.1.1.0 ≡ []))
                 → IfThere a (a' ≡ was.0.1.1.1.1.0) ((a' ≡ no_amounts) × (was.0.1.1.1.1.0 ≡ no_amounts))
-                → x ≡ was.0.1.1.1.1.1.0
+                → x ≡ shocks_from was.0.1.1.1.1.1.0 default_equity_correlation
                 → p ≡ was.0.1.1.1.1.1.1
+                → IfThere e (correlation ≡ was.1.1) ((correlation ≡ default_equity_correlation) × (was.1.1 ≡ default_equity_correlation))
                 → sums ≡ raised v.summed.per_step v.summed.sums
                 → Read file (Ok record {
-                  «case» = record { ufr = ufr; per_step = v.summed.per_step; sums = sums; pension = pension; bonds = bonds; amounts = a'; shocks = x; people = p };
+                  «case» = record { ufr = ufr; per_step = v.summed.per_step; sums = sums; pension = pension; bonds = bonds; amounts = a'; shocks = record x { equity_correlation = correlation }; people = p };
                   rates = v.rates;
                   rates_at = v.rates_at;
                 })
             unfolding held per_step
-            all-read hu hp hb ha hx hg es = record {
+            all-read hu hp hb ha hx hg hc es = record {
               refusal = accepted;
               given = (
                 (λ j. record {
@@ -224,7 +228,9 @@ module _ {file : Bor (List ℕ)} {start c1 : Cursor} {map : Map} (begun : (start
                   pension = (hp ∙ ap (λ y. y.0.1.1.0) parts-are) j;
                   bonds = (read-or-absent b _ _ _ hb ∙ ap (λ y. y.0.1.1.1.0) parts-are) j;
                   amounts = (read-or-absent a _ _ _ ha ∙ ap (λ y. y.0.1.1.1.1.0) parts-are) j;
-                  shocks = (hx ∙ ap (λ y. y.0.1.1.1.1.1.0) parts-are) j;
+                  shocks = ap₂ (λ (y : Shocks) (n : ℕ). record y { equity_correlation = n })
+                      (hx ∙ ap (λ (y : Parts). shocks_from y.0.1.1.1.1.1.0 default_equity_correlation) parts-are)
+                      (read-or-absent e _ _ _ hc ∙ ap (λ (y : Parts). y.1.1) parts-are) j;
                   people = (hg ∙ ap (λ y. y.0.1.1.1.1.1.1) parts-are) j;
                 }) ∙ ap held (sym case-is),
                 rates-told file v.rates (rate_bytes_in bits) (cond t long_at short_at) (length (days_in t file.now short_at long_at)) (sym accepted) refl (sym days-at)

@@ -9,6 +9,7 @@ use fields::field::Field;
 use fields::layout::layout;
 use fields::map::MapField;
 use heldcase::Case;
+use model::case::Shocks;
 use refusal::Refusal;
 
 // The case of an accepted file, the caller's own bytes that hold its rates, and where in the file these are.
@@ -31,7 +32,10 @@ impl<'a> Reading<'a> {
             Ok(parts) => parts,
             Err(refusal) => return Err(refusal),
         };
-        let ((ufr, (short, (pension, (bonds, (amounts, (shocks, people)))))), long) = parts;
+        let (
+            (ufr, (short, (pension, (bonds, (amounts, (shocks, people)))))),
+            (long, equity_correlation),
+        ) = parts;
         cursor.finish()?;
         // A right map announces one of the two days fields.
         let days = short.or(long).unwrap();
@@ -43,7 +47,10 @@ impl<'a> Reading<'a> {
             pension,
             bonds,
             amounts,
-            shocks,
+            shocks: Shocks {
+                equity_correlation,
+                ..shocks
+            },
             people,
         };
         let rates = days.rates;

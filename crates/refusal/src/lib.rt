@@ -13,7 +13,7 @@ pub enum Refusal {
     EndsEarly = 1,
     #[error("bytes follow the last field; the file must end there")]
     BytesFollow = 2,
-    #[error("the map has a wrong bit; bits 2, 5 and 6 and exactly one of bits 1 and 7 must be set, and bits 8 to 15 must not; a case that is handed in must have rates of 2 or 4 bytes")]
+    #[error("the map has a wrong bit; bits 2, 5 and 6 and exactly one of bits 1 and 7 must be set, and bits 9 to 15 must not; a case that is handed in must have rates of 2 or 4 bytes")]
     WrongFields = 3,
     #[error("the number of days is out of limits; it must be 1 to 70, with 60 rates each")]
     DayCount = 4,
@@ -29,7 +29,7 @@ pub enum Refusal {
     Ufr = 9,
     #[error("an amount is out of limits; each must be at most 100,000,000,000 euros")]
     Amount = 10,
-    #[error("a shock is out of limits; shifts must be at most 1,000 steps, falls, spread rise and correlation at most 1,000 thousandths, the credit spread at most 10,000 steps and the credit duration at most 500 tenths of a year")]
+    #[error("a shock is out of limits; shifts must be at most 1,000 steps, falls, spread rise and correlations at most 1,000 thousandths, the credit spread at most 10,000 steps and the credit duration at most 500 tenths of a year")]
     Shock = 11,
     #[error("the head count or an age is out of limits; heads must be 1 to 1,000,000, and ages at most 1,200 months")]
     People = 12,

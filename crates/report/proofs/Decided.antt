@@ -1,4 +1,4 @@
--- What is told of the first bytes of an input is told of all of them: the first 17,624 bytes decide. Assumes nothing.
+-- What is told of the first bytes of an input is told of all of them: the first 17,626 bytes decide. Assumes nothing.
 use Rattle.std.proofs.Common.{◌≡◌, ◌∙◌, ℕ, List, Option, Some, None, Result, IfSome, take, ap, subst, refl}
 use Rattle.std.specs.Io.KnownBytes.{Appends}
 use Rattle.model.specs.Refusals.{failing, checks}
@@ -17,7 +17,7 @@ use Rattle.report.specs.declared.input.Told.{Told}
 
 module _ (bytes : List ℕ) where
   abbrev front : List ℕ
-  front = take 17624 bytes
+  front = take 17626 bytes
 
   accepted-whole : failing (checks bytes) ≡ None → front ≡ bytes
   accepted-whole e = front-whole bytes (refusal-number bytes None e)
@@ -46,7 +46,7 @@ module _ (bytes : List ℕ) where
 
 -- a file that is the front of an input, if its bytes are known
 abbrev pub IsDeciding : Option (List ℕ) → List ℕ → Type 0
-IsDeciding input file = IfSome input (λ bytes. file ≡ take 17624 bytes)
+IsDeciding input file = IfSome input (λ bytes. file ≡ take 17626 bytes)
 
 module _ (history : Option History) (file : List ℕ) where
   pub told_of_all : (input : Option (List ℕ)) (told : Told) → IsDeciding input file

@@ -11,7 +11,7 @@ use refusal::Refusal;
 use std::io::{Read, Write};
 
 // As many bytes as decide about an input: one more than the longest file that is accepted. `promises::sizes::first_bytes_decide` says so.
-const MOST_BYTES: usize = 17_624;
+const MOST_BYTES: usize = 17_626;
 
 /// A history of months, and the place of its oldest month.
 #[derive(Clone, Copy)]

@@ -38,16 +38,17 @@ value-order_refusals =
     ∷ rolling_refusal flat_days (given (fields_of 2 4200 no_amounts no_shocks 1 0 0) (replicate 60 (pos 0)) (100000001 ∷ []) (replicate 61 0)) 240 240  -- 8 of the pensions before 7 of the bonds
     ∷ rolling_refusal flat_days (given (fields_of 2 4200 no_amounts no_shocks 1 0 0) (replicate 60 (pos 0)) (7 ∷ []) ((100000001 ∷ []) ++ replicate 60 0)) 240 240  -- 7 of the bonds before 8 of the bonds
     ∷ rolling_refusal flat_days (given (fields_of 2 4200 (amounts_of 100000000001 0 0 0 0 0 0 0) no_shocks 1 0 0) (replicate 60 (pos 0)) (7 ∷ []) (100000001 ∷ [])) 240 240  -- 8 of the bonds before 10
-    ∷ rolling_refusal flat_days (given (fields_of 2 4200 (amounts_of 100000000001 0 0 0 0 0 0 0) (shocks_of 1001 0 0 0 0 0 0 0 0 0 0 0) 1 0 0) (replicate 60 (pos 0)) (7 ∷ []) []) 240 240  -- 10 before 11
-    ∷ rolling_refusal flat_days (given (fields_of 2 4200 no_amounts (shocks_of 1001 0 0 0 0 0 0 0 0 0 0 0) 0 0 0) (replicate 60 (pos 0)) (7 ∷ []) []) 240 240  -- 11 before 12
-    ∷ rolling_refusal flat_days (given (fields_of 2 4200 no_amounts no_shocks 0 0 0) ((pos 0 ∷ []) ++ replicate 59 (pos 6001)) (7 ∷ []) []) 240 240  -- 12 before 6
+    ∷ rolling_refusal flat_days (given (fields_of 2 4200 (amounts_of 100000000001 0 0 0 0 0 0 0) (shocks_of 1001 0 0 0 0 0 0 0 0 0 0 0 1000) 1 0 0) (replicate 60 (pos 0)) (7 ∷ []) []) 240 240  -- 10 before 11
+    ∷ rolling_refusal flat_days (given (fields_of 2 4200 no_amounts (shocks_of 1001 0 0 0 0 0 0 0 0 0 0 0 1000) 0 0 0) (replicate 60 (pos 0)) (7 ∷ []) []) 240 240  -- 11 before 12
+    ∷ rolling_refusal flat_days (given (fields_of 2 4200 no_amounts (shocks_of 0 0 0 0 0 0 0 0 0 0 0 0 1001) 0 0 0) (replicate 60 (pos 0)) (7 ∷ []) []) 240 240  -- 12 before 11 of the equity correlation
+    ∷ rolling_refusal flat_days (given (fields_of 2 4200 no_amounts (shocks_of 0 0 0 0 0 0 0 0 0 0 0 0 1001) 1 0 0) ((pos 0 ∷ []) ++ replicate 59 (pos 6001)) (7 ∷ []) []) 240 240  -- 11 of the equity correlation before 6
     ∷ rolling_refusal (window_of 0 0 (replicate 60 (pos 100) ++ replicate 60 (pos 101) ++ replicate 4080 (neg_ℤ (pos 32768))) (replicate 60 (pos 0))) (given (fields_of 2 4200 no_amounts no_shocks 1 0 0) ((pos 0 ∷ []) ++ replicate 59 (pos 6001)) (7 ∷ []) []) 240 240  -- 6 before 4 of the window
     ∷ rolling_refusal (window_of 0 0 ((pos 1 ∷ []) ++ replicate 59 (pos 6001) ++ replicate 60 (pos 101) ++ replicate 4080 (neg_ℤ (pos 32768))) (replicate 60 (pos 0))) small 240 240  -- 4 of the window before 6 of the window
     ∷ rolling_refusal (window_of 1 0 ((pos 1 ∷ []) ++ replicate 59 (pos 6001) ++ replicate 60 (pos 101) ++ replicate 4080 (neg_ℤ (pos 32768))) ((pos 1 ∷ []) ++ replicate 59 (pos 6001))) small 240 240  -- 6 of the window
     ∷ rolling_refusal flat_days small 240 240  -- none
     ∷ []
 
-value-order-refusals : value-order_refusals ≡ 27 ∷ 13 ∷ 3 ∷ 9 ∷ 4 ∷ 5 ∷ 7 ∷ 8 ∷ 7 ∷ 8 ∷ 10 ∷ 11 ∷ 12 ∷ 6 ∷ 4 ∷ 6 ∷ 0 ∷ []
+value-order-refusals : value-order_refusals ≡ 27 ∷ 13 ∷ 3 ∷ 9 ∷ 4 ∷ 5 ∷ 7 ∷ 8 ∷ 7 ∷ 8 ∷ 10 ∷ 11 ∷ 12 ∷ 11 ∷ 6 ∷ 4 ∷ 6 ∷ 0 ∷ []
 unfolding all
 value-order-refusals = refl
 

@@ -34,7 +34,7 @@ use Rattle.rollingmodel.specs.declared.RollingWindow.{RollingWindow}
 use Rattle.rollingmodel.specs.declared.ChangedWindow.{ChangedWindow}
 use Rattle.method.proofs.Computing.{text}
 use Rattle.rollingmodel.proofs.Computing.{all}
-use Rattle.savingmodel.proofs.SavedCases.{fields_of, no_amounts, no_shocks, small}
+use Rattle.savingmodel.proofs.SavedCases.{amounts_of, shocks_of, fields_of, no_amounts, no_shocks, small}
 
 -- count, start, rates and sums
 abbrev pub window_of : ℕ → ℕ → List ℤ → List ℤ → RollingWindow
@@ -201,14 +201,15 @@ abbrev pub value_refusals : List ℕ
 value_refusals =
     rolling_refusal (window_of 2 0 (replicate 60 (pos 100) ++ replicate 60 (pos 101) ++ replicate 4080 (neg_ℤ (pos 32768))) ((pos 202 ∷ []) ++ replicate 59 (pos 201))) small 239 240  -- 27 before 13
     ∷ rolling_refusal flat_days (given (fields_of 3 4200 no_amounts no_shocks 1 0 0) (replicate 60 (pos 0)) (7 ∷ []) []) 239 240  -- 13 before 3
-    ∷ rolling_refusal flat_days (given (fields_of 2 4200 no_amounts no_shocks 0 0 0) ((pos 0 ∷ []) ++ replicate 59 (pos 6001)) (7 ∷ []) []) 240 240  -- 12 before 6
+    ∷ rolling_refusal flat_days (given (fields_of 2 4200 no_amounts (shocks_of 0 0 0 0 0 0 0 0 0 0 0 0 1001) 0 0 0) (replicate 60 (pos 0)) (7 ∷ []) []) 240 240  -- 12 before 11 of the equity correlation
+    ∷ rolling_refusal flat_days (given (fields_of 2 4200 no_amounts (shocks_of 0 0 0 0 0 0 0 0 0 0 0 0 1001) 1 0 0) ((pos 0 ∷ []) ++ replicate 59 (pos 6001)) (7 ∷ []) []) 240 240  -- 11 of the equity correlation before 6
     ∷ rolling_refusal (window_of 0 0 (replicate 60 (pos 100) ++ replicate 60 (pos 101) ++ replicate 4080 (neg_ℤ (pos 32768))) (replicate 60 (pos 0))) (given (fields_of 2 4200 no_amounts no_shocks 1 0 0) ((pos 0 ∷ []) ++ replicate 59 (pos 6001)) (7 ∷ []) []) 240 240  -- 6 before 4 of the window
     ∷ rolling_refusal (window_of 0 0 ((pos 1 ∷ []) ++ replicate 59 (pos 6001) ++ replicate 60 (pos 101) ++ replicate 4080 (neg_ℤ (pos 32768))) (replicate 60 (pos 0))) small 240 240  -- 4 of the window before 6 of the window
     ∷ rolling_refusal (window_of 1 0 ((pos 1 ∷ []) ++ replicate 59 (pos 6001) ++ replicate 60 (pos 101) ++ replicate 4080 (neg_ℤ (pos 32768))) ((pos 1 ∷ []) ++ replicate 59 (pos 6001))) small 240 240  -- 6 of the window
     ∷ rolling_refusal flat_days small 240 240  -- none
     ∷ []
 
-value-refusals : value_refusals ≡ 27 ∷ 13 ∷ 12 ∷ 6 ∷ 4 ∷ 6 ∷ 0 ∷ []
+value-refusals : value_refusals ≡ 27 ∷ 13 ∷ 12 ∷ 11 ∷ 6 ∷ 4 ∷ 6 ∷ 0 ∷ []
 unfolding all
 value-refusals = refl
 
@@ -230,6 +231,26 @@ flat_listing =
 flat-listing : listing (answer_of (rolling_valuation flat_days small 240 240)) ≡ text flat_listing
 unfolding all
 flat-listing = refl
+
+-- A case with losses in four equity classes, whose correlation is 500.
+abbrev pub classes_listing : List String
+classes_listing =
+    "L 699 700"
+    ∷ "B 0 0"
+    ∷ "A 4800 4800"
+    ∷ "S1 0 1"
+    ∷ "S2 988 989"
+    ∷ "S3 0 0"
+    ∷ "S4 0 0"
+    ∷ "S5 0 0"
+    ∷ "S6 419 421"
+    ∷ "S 1073 1075"
+    ∷ "V VRIJ VERMOGEN"
+    ∷ []
+
+classes-listing : listing (answer_of (rolling_valuation flat_days (given (fields_of 2 4200 (amounts_of 7 11 13 17 0 0 0 0) (shocks_of 0 0 301 453 207 151 0 0 0 0 0 0 500) 1 0 0) (replicate 60 (pos 0)) (7 ∷ []) []) 240 240)) ≡ text classes_listing
+unfolding all
+classes-listing = refl
 
 window-factors : take 2 (rolling_factors_after flat_days small (replicate 242 7) (replicate 241 (pos 7))) ≡ (998996009010 ∷ 998996009011 ∷ [])
 unfolding all

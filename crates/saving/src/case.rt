@@ -61,18 +61,18 @@ fn parts_of<'a>(case: &GivenCase<'a>) -> Parts<'a>
                 ),
             ),
         ),
-        long,
+        (long, f.shocks.equity_correlation),
     )
 }
 
 // The limits of the days and of their forward rates, of days of the form that the case has.
 fn forwards_of(rate_bytes: u64, parts: &Parts<'_>) -> Result<(), Refusal>
-    ensures { result_err result ≡ (if nat_eq rate_bytes 2 then failing (days_checks 2 parts.now.0.1.0.held.now) else failing (days_checks 4 parts.now.1.held.now)) }
+    ensures { result_err result ≡ (if nat_eq rate_bytes 2 then failing (days_checks 2 parts.now.0.1.0.held.now) else failing (days_checks 4 parts.now.1.0.held.now)) }
 {
     if rate_bytes == 2 {
         parts.0.1.0.forwards
     } else {
-        parts.1.forwards
+        parts.1.0.forwards
     }
 }
 

@@ -10,12 +10,13 @@ use crate::given::GivenCase;
 use fields::amounts::amounts_in_order;
 use heldcase::Case;
 
-// Which of the optional fields are written: the three answers of the definition's `Present`, from which both the map and the fields follow.
+// Which of the optional fields are written: the four answers of the definition's `Present`, from which both the map and the fields follow.
 #[derive(Clone, Copy)]
 pub struct Included {
     pub ufr: bool,
     pub bonds: bool,
     pub amounts: bool,
+    pub equity: bool,
 }
 
 fn all_zero(numbers: &[u64]) -> bool
@@ -31,6 +32,7 @@ pub fn needed(case: &GivenCase) -> Included
         ufr: case.fields.ufr != Case::DEFAULT_UFR,
         bonds: !case.bonds.is_empty(),
         amounts: !all_zero(&amounts_in_order(&case.fields.amounts)),
+        equity: case.fields.shocks.equity_correlation != Case::DEFAULT_EQUITY_CORRELATION,
     }
 }
 
@@ -43,4 +45,5 @@ pub fn map_of(rate_bytes: u64, p: Included) -> u16
         + 8 * u16::from(p.bonds)
         + 16 * u16::from(p.amounts)
         + 128 * u16::from(rate_bytes == 4)
+        + 256 * u16::from(p.equity)
 }

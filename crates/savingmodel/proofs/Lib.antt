@@ -5,3 +5,4 @@ pub mod SavedCases
 pub mod FourByteCases
 pub mod Plain
 pub mod PlainForms
+pub mod EquityCases

@@ -84,17 +84,17 @@ handed-in : EveryCaseCanBeHandedIn → (k : FileCase) → WithinLimits k
     → given (fields_beside_lists k) (rates_in k.days) k.pension k.bonds ≡ k
 handed-in p k w = p.handed_in k w
 
--- a buffer of 17,623 bytes is long enough
-saved-in-the-longest : SavedFilesAreShort → (k : FileCase) → WithinLimits k → length (shortest k) ≤ 17623
+-- a buffer of 17,625 bytes is long enough
+saved-in-the-longest : SavedFilesAreShort → (k : FileCase) → WithinLimits k → length (shortest k) ≤ 17625
 saved-in-the-longest p k w = p.most k w
 
 -- ---- one call, in plain numbers
 
 module _ (p : EverySaveCall) (k : FileCase) (held : List ℕ) where
-  -- a buffer of 17,623 bytes, of every case within the limits: no refusal, and reading back what then stands at its front gives the case
-  saved-in-17623 : WithinLimits k → length held ≡ 17623 → ((n : ℕ) → length (shortest k) ≡ n → n ≤ 17623)
-      → (refused_by (save_answer k 17623) ≡ 0) × ((case_of (take (length (shortest k)) (saved_after k held))).pension ≡ k.pension)
-  saved-in-17623 w l short =
+  -- a buffer of 17,625 bytes, of every case within the limits: no refusal, and reading back what then stands at its front gives the case
+  saved-in-17625 : WithinLimits k → length held ≡ 17625 → ((n : ℕ) → length (shortest k) ≡ n → n ≤ 17625)
+      → (refused_by (save_answer k 17625) ≡ 0) × ((case_of (take (length (shortest k)) (saved_after k held))).pension ≡ k.pension)
+  saved-in-17625 w l short =
       let c = p.call k held in
       let zero = c.accepts w (omega (arith, l, short (length (shortest k)) refl)) in
       let a = c.accepted zero in
@@ -117,7 +117,7 @@ module _ (p : EverySaveCall) (k : FileCase) (held : List ℕ) where
 
   -- what an accepted call says
   call-accepted : save_refusal k (length held) ≡ 0
-      → WithinLimits k × (length (shortest k) ≤ length held) × (length (shortest k) ≤ 17623)
+      → WithinLimits k × (length (shortest k) ≤ length held) × (length (shortest k) ≤ 17625)
       × (save_answer k (length held) ≡ Ok (length (shortest k)))
       × (drop (length (shortest k)) (saved_after k held) ≡ drop (length (shortest k)) held) × (refusal (shortest k) ≡ 0)
   call-accepted h =

@@ -30,9 +30,9 @@ amounts_of a b c d e f g h = record {
   currency = h;
 }
 
--- twelve shocks, likewise
-abbrev pub shocks_of : ℕ → ℕ → ℕ → ℕ → ℕ → ℕ → ℕ → ℕ → ℕ → ℕ → ℕ → ℕ → Shocks
-shocks_of a b c d e f g h i j k l = record {
+-- thirteen shocks, as the record has them
+abbrev pub shocks_of : ℕ → ℕ → ℕ → ℕ → ℕ → ℕ → ℕ → ℕ → ℕ → ℕ → ℕ → ℕ → ℕ → Shocks
+shocks_of a b c d e f g h i j k l m = record {
   up_shift = a;
   down_shift = b;
   mature_fall = c;
@@ -45,6 +45,7 @@ shocks_of a b c d e f g h i j k l = record {
   correlation = j;
   spread = k;
   duration = l;
+  equity_correlation = m;
 }
 
 -- the number of bytes of a rate, UFR, amounts, shocks, head count, pension age and mean age
@@ -65,15 +66,16 @@ abbrev pub no_amounts : Amounts
 no_amounts =
     amounts_of 0 0 0 0 0 0 0 0
 
+-- the equity classes fall together
 abbrev pub no_shocks : Shocks
 no_shocks =
-    shocks_of 0 0 0 0 0 0 0 0 0 0 0 0
+    shocks_of 0 0 0 0 0 0 0 0 0 0 0 0 1000
 
 -- Every number at its limits; then one at a time past them.
 abbrev pub limits_cases : List FileCase
 limits_cases =
-    given (fields_of 2 0 no_amounts no_shocks 1 0 0) (replicate 60 (neg_ℤ (pos 1000))) (0 ∷ []) []  -- all at their lower limits
-    ∷ given (fields_of 2 5000 (amounts_of 100000000000 100000000000 100000000000 100000000000 100000000000 100000000000 100000000000 100000000000) (shocks_of 1000 1000 1000 1000 1000 1000 1000 1000 1000 1000 10000 500) 1000000 1200 1200) (replicate 60 (pos 10000)) (100000000 ∷ []) (100000000 ∷ [])  -- all at their upper limits
+    given (fields_of 2 0 no_amounts (shocks_of 0 0 0 0 0 0 0 0 0 0 0 0 0) 1 0 0) (replicate 60 (neg_ℤ (pos 1000))) (0 ∷ []) []  -- all at their lower limits
+    ∷ given (fields_of 2 5000 (amounts_of 100000000000 100000000000 100000000000 100000000000 100000000000 100000000000 100000000000 100000000000) (shocks_of 1000 1000 1000 1000 1000 1000 1000 1000 1000 1000 10000 500 1000) 1000000 1200 1200) (replicate 60 (pos 10000)) (100000000 ∷ []) (100000000 ∷ [])  -- all at their upper limits
     ∷ given (fields_of 2 5001 no_amounts no_shocks 1 0 0) (replicate 60 (pos 0)) (7 ∷ []) (0 ∷ [])  -- ufr: 5001
     ∷ given (fields_of 2 4200 no_amounts no_shocks 1 0 0) ((neg_ℤ (pos 1001) ∷ []) ++ replicate 59 (pos 0)) (7 ∷ []) (0 ∷ [])  -- rates 1: -1001
     ∷ given (fields_of 2 4200 no_amounts no_shocks 1 0 0) ((pos 10001 ∷ []) ++ replicate 59 (pos 0)) (7 ∷ []) (0 ∷ [])  -- rates 1: 10001
@@ -91,25 +93,26 @@ limits_cases =
     ∷ given (fields_of 2 4200 (amounts_of 0 0 0 0 0 100000000001 0 0) no_shocks 1 0 0) (replicate 60 (pos 0)) (7 ∷ []) (0 ∷ [])  -- amounts credit: 100000000001
     ∷ given (fields_of 2 4200 (amounts_of 0 0 0 0 0 0 100000000001 0) no_shocks 1 0 0) (replicate 60 (pos 0)) (7 ∷ []) (0 ∷ [])  -- amounts cash: 100000000001
     ∷ given (fields_of 2 4200 (amounts_of 0 0 0 0 0 0 0 100000000001) no_shocks 1 0 0) (replicate 60 (pos 0)) (7 ∷ []) (0 ∷ [])  -- amounts currency: 100000000001
-    ∷ given (fields_of 2 4200 no_amounts (shocks_of 1001 0 0 0 0 0 0 0 0 0 0 0) 1 0 0) (replicate 60 (pos 0)) (7 ∷ []) (0 ∷ [])  -- shocks up_shift: 1001
-    ∷ given (fields_of 2 4200 no_amounts (shocks_of 0 1001 0 0 0 0 0 0 0 0 0 0) 1 0 0) (replicate 60 (pos 0)) (7 ∷ []) (0 ∷ [])  -- shocks down_shift: 1001
-    ∷ given (fields_of 2 4200 no_amounts (shocks_of 0 0 1001 0 0 0 0 0 0 0 0 0) 1 0 0) (replicate 60 (pos 0)) (7 ∷ []) (0 ∷ [])  -- shocks mature_fall: 1001
-    ∷ given (fields_of 2 4200 no_amounts (shocks_of 0 0 0 1001 0 0 0 0 0 0 0 0) 1 0 0) (replicate 60 (pos 0)) (7 ∷ []) (0 ∷ [])  -- shocks emerging_fall: 1001
-    ∷ given (fields_of 2 4200 no_amounts (shocks_of 0 0 0 0 1001 0 0 0 0 0 0 0) 1 0 0) (replicate 60 (pos 0)) (7 ∷ []) (0 ∷ [])  -- shocks private_fall: 1001
-    ∷ given (fields_of 2 4200 no_amounts (shocks_of 0 0 0 0 0 1001 0 0 0 0 0 0) 1 0 0) (replicate 60 (pos 0)) (7 ∷ []) (0 ∷ [])  -- shocks property_fall: 1001
-    ∷ given (fields_of 2 4200 no_amounts (shocks_of 0 0 0 0 0 0 1001 0 0 0 0 0) 1 0 0) (replicate 60 (pos 0)) (7 ∷ []) (0 ∷ [])  -- shocks currency_fall: 1001
-    ∷ given (fields_of 2 4200 no_amounts (shocks_of 0 0 0 0 0 0 0 1001 0 0 0 0) 1 0 0) (replicate 60 (pos 0)) (7 ∷ []) (0 ∷ [])  -- shocks commodities_fall: 1001
-    ∷ given (fields_of 2 4200 no_amounts (shocks_of 0 0 0 0 0 0 0 0 1001 0 0 0) 1 0 0) (replicate 60 (pos 0)) (7 ∷ []) (0 ∷ [])  -- shocks spread_rise: 1001
-    ∷ given (fields_of 2 4200 no_amounts (shocks_of 0 0 0 0 0 0 0 0 0 1001 0 0) 1 0 0) (replicate 60 (pos 0)) (7 ∷ []) (0 ∷ [])  -- shocks correlation: 1001
-    ∷ given (fields_of 2 4200 no_amounts (shocks_of 0 0 0 0 0 0 0 0 0 0 10001 0) 1 0 0) (replicate 60 (pos 0)) (7 ∷ []) (0 ∷ [])  -- shocks spread: 10001
-    ∷ given (fields_of 2 4200 no_amounts (shocks_of 0 0 0 0 0 0 0 0 0 0 0 501) 1 0 0) (replicate 60 (pos 0)) (7 ∷ []) (0 ∷ [])  -- shocks duration: 501
+    ∷ given (fields_of 2 4200 no_amounts (shocks_of 1001 0 0 0 0 0 0 0 0 0 0 0 1000) 1 0 0) (replicate 60 (pos 0)) (7 ∷ []) (0 ∷ [])  -- shocks up_shift: 1001
+    ∷ given (fields_of 2 4200 no_amounts (shocks_of 0 1001 0 0 0 0 0 0 0 0 0 0 1000) 1 0 0) (replicate 60 (pos 0)) (7 ∷ []) (0 ∷ [])  -- shocks down_shift: 1001
+    ∷ given (fields_of 2 4200 no_amounts (shocks_of 0 0 1001 0 0 0 0 0 0 0 0 0 1000) 1 0 0) (replicate 60 (pos 0)) (7 ∷ []) (0 ∷ [])  -- shocks mature_fall: 1001
+    ∷ given (fields_of 2 4200 no_amounts (shocks_of 0 0 0 1001 0 0 0 0 0 0 0 0 1000) 1 0 0) (replicate 60 (pos 0)) (7 ∷ []) (0 ∷ [])  -- shocks emerging_fall: 1001
+    ∷ given (fields_of 2 4200 no_amounts (shocks_of 0 0 0 0 1001 0 0 0 0 0 0 0 1000) 1 0 0) (replicate 60 (pos 0)) (7 ∷ []) (0 ∷ [])  -- shocks private_fall: 1001
+    ∷ given (fields_of 2 4200 no_amounts (shocks_of 0 0 0 0 0 1001 0 0 0 0 0 0 1000) 1 0 0) (replicate 60 (pos 0)) (7 ∷ []) (0 ∷ [])  -- shocks property_fall: 1001
+    ∷ given (fields_of 2 4200 no_amounts (shocks_of 0 0 0 0 0 0 1001 0 0 0 0 0 1000) 1 0 0) (replicate 60 (pos 0)) (7 ∷ []) (0 ∷ [])  -- shocks currency_fall: 1001
+    ∷ given (fields_of 2 4200 no_amounts (shocks_of 0 0 0 0 0 0 0 1001 0 0 0 0 1000) 1 0 0) (replicate 60 (pos 0)) (7 ∷ []) (0 ∷ [])  -- shocks commodities_fall: 1001
+    ∷ given (fields_of 2 4200 no_amounts (shocks_of 0 0 0 0 0 0 0 0 1001 0 0 0 1000) 1 0 0) (replicate 60 (pos 0)) (7 ∷ []) (0 ∷ [])  -- shocks spread_rise: 1001
+    ∷ given (fields_of 2 4200 no_amounts (shocks_of 0 0 0 0 0 0 0 0 0 1001 0 0 1000) 1 0 0) (replicate 60 (pos 0)) (7 ∷ []) (0 ∷ [])  -- shocks correlation: 1001
+    ∷ given (fields_of 2 4200 no_amounts (shocks_of 0 0 0 0 0 0 0 0 0 0 10001 0 1000) 1 0 0) (replicate 60 (pos 0)) (7 ∷ []) (0 ∷ [])  -- shocks spread: 10001
+    ∷ given (fields_of 2 4200 no_amounts (shocks_of 0 0 0 0 0 0 0 0 0 0 0 501 1000) 1 0 0) (replicate 60 (pos 0)) (7 ∷ []) (0 ∷ [])  -- shocks duration: 501
+    ∷ given (fields_of 2 4200 no_amounts (shocks_of 0 0 0 0 0 0 0 0 0 0 0 0 1001) 1 0 0) (replicate 60 (pos 0)) (7 ∷ []) (0 ∷ [])  -- shocks equity_correlation: 1001
     ∷ given (fields_of 2 4200 no_amounts no_shocks 0 0 0) (replicate 60 (pos 0)) (7 ∷ []) (0 ∷ [])  -- heads: 0
     ∷ given (fields_of 2 4200 no_amounts no_shocks 1000001 0 0) (replicate 60 (pos 0)) (7 ∷ []) (0 ∷ [])  -- heads: 1000001
     ∷ given (fields_of 2 4200 no_amounts no_shocks 1 1201 0) (replicate 60 (pos 0)) (7 ∷ []) (0 ∷ [])  -- pension_age: 1201
     ∷ given (fields_of 2 4200 no_amounts no_shocks 1 0 1201) (replicate 60 (pos 0)) (7 ∷ []) (0 ∷ [])  -- mean_age: 1201
     ∷ []
 
-case-limits : map case_refusal limits_cases ≡ 0 ∷ 0 ∷ 9 ∷ 5 ∷ 5 ∷ 5 ∷ 5 ∷ 5 ∷ 5 ∷ 8 ∷ 8 ∷ 10 ∷ 10 ∷ 10 ∷ 10 ∷ 10 ∷ 10 ∷ 10 ∷ 10 ∷ 11 ∷ 11 ∷ 11 ∷ 11 ∷ 11 ∷ 11 ∷ 11 ∷ 11 ∷ 11 ∷ 11 ∷ 11 ∷ 11 ∷ 12 ∷ 12 ∷ 12 ∷ 12 ∷ []
+case-limits : map case_refusal limits_cases ≡ 0 ∷ 0 ∷ 9 ∷ 5 ∷ 5 ∷ 5 ∷ 5 ∷ 5 ∷ 5 ∷ 8 ∷ 8 ∷ 10 ∷ 10 ∷ 10 ∷ 10 ∷ 10 ∷ 10 ∷ 10 ∷ 10 ∷ 11 ∷ 11 ∷ 11 ∷ 11 ∷ 11 ∷ 11 ∷ 11 ∷ 11 ∷ 11 ∷ 11 ∷ 11 ∷ 11 ∷ 11 ∷ 12 ∷ 12 ∷ 12 ∷ 12 ∷ []
 unfolding all
 case-limits = refl
 
@@ -161,39 +164,40 @@ order_cases =
     ∷ given (fields_of 2 4200 no_amounts no_shocks 1 0 0) (replicate 60 (pos 0)) (100000001 ∷ []) (replicate 61 0)  -- 8 of the pensions before 7 of the bonds
     ∷ given (fields_of 2 4200 no_amounts no_shocks 1 0 0) (replicate 60 (pos 0)) (7 ∷ []) ((100000001 ∷ []) ++ replicate 60 0)  -- 7 of the bonds before 8 of the bonds
     ∷ given (fields_of 2 4200 (amounts_of 100000000001 0 0 0 0 0 0 0) no_shocks 1 0 0) (replicate 60 (pos 0)) (7 ∷ []) (100000001 ∷ [])  -- 8 of the bonds before 10
-    ∷ given (fields_of 2 4200 (amounts_of 100000000001 0 0 0 0 0 0 0) (shocks_of 1001 0 0 0 0 0 0 0 0 0 0 0) 1 0 0) (replicate 60 (pos 0)) (7 ∷ []) []  -- 10 before 11
-    ∷ given (fields_of 2 4200 no_amounts (shocks_of 1001 0 0 0 0 0 0 0 0 0 0 0) 0 0 0) (replicate 60 (pos 0)) (7 ∷ []) []  -- 11 before 12
-    ∷ given (fields_of 2 4200 no_amounts no_shocks 0 0 0) ((pos 0 ∷ []) ++ replicate 59 (pos 6001)) (7 ∷ []) []  -- 12 before 6
+    ∷ given (fields_of 2 4200 (amounts_of 100000000001 0 0 0 0 0 0 0) (shocks_of 1001 0 0 0 0 0 0 0 0 0 0 0 1000) 1 0 0) (replicate 60 (pos 0)) (7 ∷ []) []  -- 10 before 11
+    ∷ given (fields_of 2 4200 no_amounts (shocks_of 1001 0 0 0 0 0 0 0 0 0 0 0 1000) 0 0 0) (replicate 60 (pos 0)) (7 ∷ []) []  -- 11 before 12
+    ∷ given (fields_of 2 4200 no_amounts (shocks_of 0 0 0 0 0 0 0 0 0 0 0 0 1001) 0 0 0) (replicate 60 (pos 0)) (7 ∷ []) []  -- 12 before 11 of the equity correlation
+    ∷ given (fields_of 2 4200 no_amounts (shocks_of 0 0 0 0 0 0 0 0 0 0 0 0 1001) 1 0 0) ((pos 0 ∷ []) ++ replicate 59 (pos 6001)) (7 ∷ []) []  -- 11 of the equity correlation before 6
     ∷ []
 
-case-order : map case_refusal order_cases ≡ 3 ∷ 9 ∷ 4 ∷ 5 ∷ 7 ∷ 8 ∷ 7 ∷ 8 ∷ 10 ∷ 11 ∷ 12 ∷ []
+case-order : map case_refusal order_cases ≡ 3 ∷ 9 ∷ 4 ∷ 5 ∷ 7 ∷ 8 ∷ 7 ∷ 8 ∷ 10 ∷ 11 ∷ 12 ∷ 11 ∷ []
 unfolding all
 case-order = refl
 
--- "A UFR of 4,200, an all-zero amounts field and an empty bond list are left out."
+-- A UFR of 4,200, an all-zero amounts field, an empty bond list and an equity correlation of 1,000 are left out.
 abbrev pub short_cases : List FileCase
 short_cases =
-    given (fields_of 2 4200 no_amounts (shocks_of 1 2 3 4 5 6 7 8 9 10 11 12) 100 780 460) (replicate 60 (neg_ℤ (pos 500)) ++ replicate 60 (pos 100)) (1000000 ∷ 7 ∷ []) []  -- with no optional field
-    ∷ given (fields_of 2 4200 (amounts_of 0 0 0 0 0 0 0 5) (shocks_of 1 2 3 4 5 6 7 8 9 10 11 12) 100 780 460) (replicate 60 (neg_ℤ (pos 500)) ++ replicate 60 (pos 100)) (1000000 ∷ 7 ∷ []) []  -- with amounts
-    ∷ given (fields_of 2 4200 no_amounts (shocks_of 1 2 3 4 5 6 7 8 9 10 11 12) 100 780 460) (replicate 60 (neg_ℤ (pos 500)) ++ replicate 60 (pos 100)) (1000000 ∷ 7 ∷ []) (0 ∷ [])  -- with bonds
-    ∷ given (fields_of 2 4200 (amounts_of 0 0 0 0 0 0 0 5) (shocks_of 1 2 3 4 5 6 7 8 9 10 11 12) 100 780 460) (replicate 60 (neg_ℤ (pos 500)) ++ replicate 60 (pos 100)) (1000000 ∷ 7 ∷ []) (0 ∷ [])  -- with bonds, amounts
-    ∷ given (fields_of 2 4199 no_amounts (shocks_of 1 2 3 4 5 6 7 8 9 10 11 12) 100 780 460) (replicate 60 (neg_ℤ (pos 500)) ++ replicate 60 (pos 100)) (1000000 ∷ 7 ∷ []) []  -- with UFR
-    ∷ given (fields_of 2 4199 (amounts_of 0 0 0 0 0 0 0 5) (shocks_of 1 2 3 4 5 6 7 8 9 10 11 12) 100 780 460) (replicate 60 (neg_ℤ (pos 500)) ++ replicate 60 (pos 100)) (1000000 ∷ 7 ∷ []) []  -- with UFR, amounts
-    ∷ given (fields_of 2 4201 no_amounts (shocks_of 1 2 3 4 5 6 7 8 9 10 11 12) 100 780 460) (replicate 60 (neg_ℤ (pos 500)) ++ replicate 60 (pos 100)) (1000000 ∷ 7 ∷ []) (0 ∷ [])  -- with UFR, bonds
-    ∷ given (fields_of 2 4201 (amounts_of 0 0 0 0 0 0 0 5) (shocks_of 1 2 3 4 5 6 7 8 9 10 11 12) 100 780 460) (replicate 60 (neg_ℤ (pos 500)) ++ replicate 60 (pos 100)) (1000000 ∷ 7 ∷ []) (0 ∷ [])  -- with UFR, bonds, amounts
+    given (fields_of 2 4200 no_amounts (shocks_of 1 2 3 4 5 6 7 8 9 10 11 12 1000) 100 780 460) (replicate 60 (neg_ℤ (pos 500)) ++ replicate 60 (pos 100)) (1000000 ∷ 7 ∷ []) []  -- with no optional field
+    ∷ given (fields_of 2 4200 (amounts_of 0 0 0 0 0 0 0 5) (shocks_of 1 2 3 4 5 6 7 8 9 10 11 12 999) 100 780 460) (replicate 60 (neg_ℤ (pos 500)) ++ replicate 60 (pos 100)) (1000000 ∷ 7 ∷ []) []  -- with amounts, equity
+    ∷ given (fields_of 2 4200 no_amounts (shocks_of 1 2 3 4 5 6 7 8 9 10 11 12 0) 100 780 460) (replicate 60 (neg_ℤ (pos 500)) ++ replicate 60 (pos 100)) (1000000 ∷ 7 ∷ []) (0 ∷ [])  -- with bonds, equity
+    ∷ given (fields_of 2 4200 (amounts_of 0 0 0 0 0 0 0 5) (shocks_of 1 2 3 4 5 6 7 8 9 10 11 12 1000) 100 780 460) (replicate 60 (neg_ℤ (pos 500)) ++ replicate 60 (pos 100)) (1000000 ∷ 7 ∷ []) (0 ∷ [])  -- with bonds, amounts
+    ∷ given (fields_of 2 4199 no_amounts (shocks_of 1 2 3 4 5 6 7 8 9 10 11 12 999) 100 780 460) (replicate 60 (neg_ℤ (pos 500)) ++ replicate 60 (pos 100)) (1000000 ∷ 7 ∷ []) []  -- with UFR, equity
+    ∷ given (fields_of 2 4199 (amounts_of 0 0 0 0 0 0 0 5) (shocks_of 1 2 3 4 5 6 7 8 9 10 11 12 1000) 100 780 460) (replicate 60 (neg_ℤ (pos 500)) ++ replicate 60 (pos 100)) (1000000 ∷ 7 ∷ []) []  -- with UFR, amounts
+    ∷ given (fields_of 2 4201 no_amounts (shocks_of 1 2 3 4 5 6 7 8 9 10 11 12 1000) 100 780 460) (replicate 60 (neg_ℤ (pos 500)) ++ replicate 60 (pos 100)) (1000000 ∷ 7 ∷ []) (0 ∷ [])  -- with UFR, bonds
+    ∷ given (fields_of 2 4201 (amounts_of 0 0 0 0 0 0 0 5) (shocks_of 1 2 3 4 5 6 7 8 9 10 11 12 0) 100 780 460) (replicate 60 (neg_ℤ (pos 500)) ++ replicate 60 (pos 100)) (1000000 ∷ 7 ∷ []) (0 ∷ [])  -- with UFR, bonds, amounts, equity
     ∷ []
 
 -- their bytes
 abbrev pub short_files : List (List ℕ)
 short_files =
     ((0x00 ∷ 0x66 ∷ 0x02 ∷ []) ++ pairs 60 0xfe 0x0c ++ pairs 60 0x00 0x64 ++ (0x02 ∷ 0x00 ∷ 0x0f ∷ 0x42 ∷ 0x40 ∷ 0x00 ∷ 0x00 ∷ 0x00 ∷ 0x07 ∷ 0x00 ∷ 0x01 ∷ 0x00 ∷ 0x02 ∷ 0x00 ∷ 0x03 ∷ 0x00 ∷ 0x04 ∷ 0x00 ∷ 0x05 ∷ 0x00 ∷ 0x06 ∷ 0x00 ∷ 0x07 ∷ 0x00 ∷ 0x08 ∷ 0x00 ∷ 0x09 ∷ 0x00 ∷ 0x0a ∷ 0x00 ∷ 0x0b ∷ 0x00 ∷ 0x0c ∷ 0x00 ∷ 0x00 ∷ 0x00 ∷ 0x64 ∷ 0x03 ∷ 0x0c ∷ 0x01 ∷ 0xcc ∷ []))  -- with no optional field
-    ∷ ((0x00 ∷ 0x76 ∷ 0x02 ∷ []) ++ pairs 60 0xfe 0x0c ++ pairs 60 0x00 0x64 ++ (0x02 ∷ 0x00 ∷ 0x0f ∷ 0x42 ∷ 0x40 ∷ 0x00 ∷ 0x00 ∷ 0x00 ∷ 0x07 ∷ []) ++ pairs 31 0x00 0x00 ++ (0x00 ∷ 0x05 ∷ 0x00 ∷ 0x01 ∷ 0x00 ∷ 0x02 ∷ 0x00 ∷ 0x03 ∷ 0x00 ∷ 0x04 ∷ 0x00 ∷ 0x05 ∷ 0x00 ∷ 0x06 ∷ 0x00 ∷ 0x07 ∷ 0x00 ∷ 0x08 ∷ 0x00 ∷ 0x09 ∷ 0x00 ∷ 0x0a ∷ 0x00 ∷ 0x0b ∷ 0x00 ∷ 0x0c ∷ 0x00 ∷ 0x00 ∷ 0x00 ∷ 0x64 ∷ 0x03 ∷ 0x0c ∷ 0x01 ∷ 0xcc ∷ []))  -- with amounts
-    ∷ ((0x00 ∷ 0x6e ∷ 0x02 ∷ []) ++ pairs 60 0xfe 0x0c ++ pairs 60 0x00 0x64 ++ (0x02 ∷ 0x00 ∷ 0x0f ∷ 0x42 ∷ 0x40 ∷ 0x00 ∷ 0x00 ∷ 0x00 ∷ 0x07 ∷ 0x01 ∷ 0x00 ∷ 0x00 ∷ 0x00 ∷ 0x00 ∷ 0x00 ∷ 0x01 ∷ 0x00 ∷ 0x02 ∷ 0x00 ∷ 0x03 ∷ 0x00 ∷ 0x04 ∷ 0x00 ∷ 0x05 ∷ 0x00 ∷ 0x06 ∷ 0x00 ∷ 0x07 ∷ 0x00 ∷ 0x08 ∷ 0x00 ∷ 0x09 ∷ 0x00 ∷ 0x0a ∷ 0x00 ∷ 0x0b ∷ 0x00 ∷ 0x0c ∷ 0x00 ∷ 0x00 ∷ 0x00 ∷ 0x64 ∷ 0x03 ∷ 0x0c ∷ 0x01 ∷ 0xcc ∷ []))  -- with bonds
+    ∷ ((0x01 ∷ 0x76 ∷ 0x02 ∷ []) ++ pairs 60 0xfe 0x0c ++ pairs 60 0x00 0x64 ++ (0x02 ∷ 0x00 ∷ 0x0f ∷ 0x42 ∷ 0x40 ∷ 0x00 ∷ 0x00 ∷ 0x00 ∷ 0x07 ∷ []) ++ pairs 31 0x00 0x00 ++ (0x00 ∷ 0x05 ∷ 0x00 ∷ 0x01 ∷ 0x00 ∷ 0x02 ∷ 0x00 ∷ 0x03 ∷ 0x00 ∷ 0x04 ∷ 0x00 ∷ 0x05 ∷ 0x00 ∷ 0x06 ∷ 0x00 ∷ 0x07 ∷ 0x00 ∷ 0x08 ∷ 0x00 ∷ 0x09 ∷ 0x00 ∷ 0x0a ∷ 0x00 ∷ 0x0b ∷ 0x00 ∷ 0x0c ∷ 0x00 ∷ 0x00 ∷ 0x00 ∷ 0x64 ∷ 0x03 ∷ 0x0c ∷ 0x01 ∷ 0xcc ∷ 0x03 ∷ 0xe7 ∷ []))  -- with amounts, equity
+    ∷ ((0x01 ∷ 0x6e ∷ 0x02 ∷ []) ++ pairs 60 0xfe 0x0c ++ pairs 60 0x00 0x64 ++ (0x02 ∷ 0x00 ∷ 0x0f ∷ 0x42 ∷ 0x40 ∷ 0x00 ∷ 0x00 ∷ 0x00 ∷ 0x07 ∷ 0x01 ∷ 0x00 ∷ 0x00 ∷ 0x00 ∷ 0x00 ∷ 0x00 ∷ 0x01 ∷ 0x00 ∷ 0x02 ∷ 0x00 ∷ 0x03 ∷ 0x00 ∷ 0x04 ∷ 0x00 ∷ 0x05 ∷ 0x00 ∷ 0x06 ∷ 0x00 ∷ 0x07 ∷ 0x00 ∷ 0x08 ∷ 0x00 ∷ 0x09 ∷ 0x00 ∷ 0x0a ∷ 0x00 ∷ 0x0b ∷ 0x00 ∷ 0x0c ∷ 0x00 ∷ 0x00 ∷ 0x00 ∷ 0x64 ∷ 0x03 ∷ 0x0c ∷ 0x01 ∷ 0xcc ∷ 0x00 ∷ 0x00 ∷ []))  -- with bonds, equity
     ∷ ((0x00 ∷ 0x7e ∷ 0x02 ∷ []) ++ pairs 60 0xfe 0x0c ++ pairs 60 0x00 0x64 ++ (0x02 ∷ 0x00 ∷ 0x0f ∷ 0x42 ∷ 0x40 ∷ 0x00 ∷ 0x00 ∷ 0x00 ∷ 0x07 ∷ 0x01 ∷ []) ++ pairs 33 0x00 0x00 ++ (0x00 ∷ 0x05 ∷ 0x00 ∷ 0x01 ∷ 0x00 ∷ 0x02 ∷ 0x00 ∷ 0x03 ∷ 0x00 ∷ 0x04 ∷ 0x00 ∷ 0x05 ∷ 0x00 ∷ 0x06 ∷ 0x00 ∷ 0x07 ∷ 0x00 ∷ 0x08 ∷ 0x00 ∷ 0x09 ∷ 0x00 ∷ 0x0a ∷ 0x00 ∷ 0x0b ∷ 0x00 ∷ 0x0c ∷ 0x00 ∷ 0x00 ∷ 0x00 ∷ 0x64 ∷ 0x03 ∷ 0x0c ∷ 0x01 ∷ 0xcc ∷ []))  -- with bonds, amounts
-    ∷ ((0x00 ∷ 0x67 ∷ 0x10 ∷ 0x67 ∷ 0x02 ∷ []) ++ pairs 60 0xfe 0x0c ++ pairs 60 0x00 0x64 ++ (0x02 ∷ 0x00 ∷ 0x0f ∷ 0x42 ∷ 0x40 ∷ 0x00 ∷ 0x00 ∷ 0x00 ∷ 0x07 ∷ 0x00 ∷ 0x01 ∷ 0x00 ∷ 0x02 ∷ 0x00 ∷ 0x03 ∷ 0x00 ∷ 0x04 ∷ 0x00 ∷ 0x05 ∷ 0x00 ∷ 0x06 ∷ 0x00 ∷ 0x07 ∷ 0x00 ∷ 0x08 ∷ 0x00 ∷ 0x09 ∷ 0x00 ∷ 0x0a ∷ 0x00 ∷ 0x0b ∷ 0x00 ∷ 0x0c ∷ 0x00 ∷ 0x00 ∷ 0x00 ∷ 0x64 ∷ 0x03 ∷ 0x0c ∷ 0x01 ∷ 0xcc ∷ []))  -- with UFR
+    ∷ ((0x01 ∷ 0x67 ∷ 0x10 ∷ 0x67 ∷ 0x02 ∷ []) ++ pairs 60 0xfe 0x0c ++ pairs 60 0x00 0x64 ++ (0x02 ∷ 0x00 ∷ 0x0f ∷ 0x42 ∷ 0x40 ∷ 0x00 ∷ 0x00 ∷ 0x00 ∷ 0x07 ∷ 0x00 ∷ 0x01 ∷ 0x00 ∷ 0x02 ∷ 0x00 ∷ 0x03 ∷ 0x00 ∷ 0x04 ∷ 0x00 ∷ 0x05 ∷ 0x00 ∷ 0x06 ∷ 0x00 ∷ 0x07 ∷ 0x00 ∷ 0x08 ∷ 0x00 ∷ 0x09 ∷ 0x00 ∷ 0x0a ∷ 0x00 ∷ 0x0b ∷ 0x00 ∷ 0x0c ∷ 0x00 ∷ 0x00 ∷ 0x00 ∷ 0x64 ∷ 0x03 ∷ 0x0c ∷ 0x01 ∷ 0xcc ∷ 0x03 ∷ 0xe7 ∷ []))  -- with UFR, equity
     ∷ ((0x00 ∷ 0x77 ∷ 0x10 ∷ 0x67 ∷ 0x02 ∷ []) ++ pairs 60 0xfe 0x0c ++ pairs 60 0x00 0x64 ++ (0x02 ∷ 0x00 ∷ 0x0f ∷ 0x42 ∷ 0x40 ∷ 0x00 ∷ 0x00 ∷ 0x00 ∷ 0x07 ∷ []) ++ pairs 31 0x00 0x00 ++ (0x00 ∷ 0x05 ∷ 0x00 ∷ 0x01 ∷ 0x00 ∷ 0x02 ∷ 0x00 ∷ 0x03 ∷ 0x00 ∷ 0x04 ∷ 0x00 ∷ 0x05 ∷ 0x00 ∷ 0x06 ∷ 0x00 ∷ 0x07 ∷ 0x00 ∷ 0x08 ∷ 0x00 ∷ 0x09 ∷ 0x00 ∷ 0x0a ∷ 0x00 ∷ 0x0b ∷ 0x00 ∷ 0x0c ∷ 0x00 ∷ 0x00 ∷ 0x00 ∷ 0x64 ∷ 0x03 ∷ 0x0c ∷ 0x01 ∷ 0xcc ∷ []))  -- with UFR, amounts
     ∷ ((0x00 ∷ 0x6f ∷ 0x10 ∷ 0x69 ∷ 0x02 ∷ []) ++ pairs 60 0xfe 0x0c ++ pairs 60 0x00 0x64 ++ (0x02 ∷ 0x00 ∷ 0x0f ∷ 0x42 ∷ 0x40 ∷ 0x00 ∷ 0x00 ∷ 0x00 ∷ 0x07 ∷ 0x01 ∷ 0x00 ∷ 0x00 ∷ 0x00 ∷ 0x00 ∷ 0x00 ∷ 0x01 ∷ 0x00 ∷ 0x02 ∷ 0x00 ∷ 0x03 ∷ 0x00 ∷ 0x04 ∷ 0x00 ∷ 0x05 ∷ 0x00 ∷ 0x06 ∷ 0x00 ∷ 0x07 ∷ 0x00 ∷ 0x08 ∷ 0x00 ∷ 0x09 ∷ 0x00 ∷ 0x0a ∷ 0x00 ∷ 0x0b ∷ 0x00 ∷ 0x0c ∷ 0x00 ∷ 0x00 ∷ 0x00 ∷ 0x64 ∷ 0x03 ∷ 0x0c ∷ 0x01 ∷ 0xcc ∷ []))  -- with UFR, bonds
-    ∷ ((0x00 ∷ 0x7f ∷ 0x10 ∷ 0x69 ∷ 0x02 ∷ []) ++ pairs 60 0xfe 0x0c ++ pairs 60 0x00 0x64 ++ (0x02 ∷ 0x00 ∷ 0x0f ∷ 0x42 ∷ 0x40 ∷ 0x00 ∷ 0x00 ∷ 0x00 ∷ 0x07 ∷ 0x01 ∷ []) ++ pairs 33 0x00 0x00 ++ (0x00 ∷ 0x05 ∷ 0x00 ∷ 0x01 ∷ 0x00 ∷ 0x02 ∷ 0x00 ∷ 0x03 ∷ 0x00 ∷ 0x04 ∷ 0x00 ∷ 0x05 ∷ 0x00 ∷ 0x06 ∷ 0x00 ∷ 0x07 ∷ 0x00 ∷ 0x08 ∷ 0x00 ∷ 0x09 ∷ 0x00 ∷ 0x0a ∷ 0x00 ∷ 0x0b ∷ 0x00 ∷ 0x0c ∷ 0x00 ∷ 0x00 ∷ 0x00 ∷ 0x64 ∷ 0x03 ∷ 0x0c ∷ 0x01 ∷ 0xcc ∷ []))  -- with UFR, bonds, amounts
+    ∷ ((0x01 ∷ 0x7f ∷ 0x10 ∷ 0x69 ∷ 0x02 ∷ []) ++ pairs 60 0xfe 0x0c ++ pairs 60 0x00 0x64 ++ (0x02 ∷ 0x00 ∷ 0x0f ∷ 0x42 ∷ 0x40 ∷ 0x00 ∷ 0x00 ∷ 0x00 ∷ 0x07 ∷ 0x01 ∷ []) ++ pairs 33 0x00 0x00 ++ (0x00 ∷ 0x05 ∷ 0x00 ∷ 0x01 ∷ 0x00 ∷ 0x02 ∷ 0x00 ∷ 0x03 ∷ 0x00 ∷ 0x04 ∷ 0x00 ∷ 0x05 ∷ 0x00 ∷ 0x06 ∷ 0x00 ∷ 0x07 ∷ 0x00 ∷ 0x08 ∷ 0x00 ∷ 0x09 ∷ 0x00 ∷ 0x0a ∷ 0x00 ∷ 0x0b ∷ 0x00 ∷ 0x0c ∷ 0x00 ∷ 0x00 ∷ 0x00 ∷ 0x64 ∷ 0x03 ∷ 0x0c ∷ 0x01 ∷ 0xcc ∷ 0x00 ∷ 0x00 ∷ []))  -- with UFR, bonds, amounts, equity
     ∷ []
 
 shortest-bytes : map shortest short_cases ≡ short_files
@@ -231,6 +235,6 @@ untouched-on-14 : saved_after small (pairs 79 0xaa 0x55 ++ (0xaa ∷ [])) ≡ pa
 unfolding all
 untouched-on-14 = refl
 
-untouched-on-refusal : map (λ k. saved_after k (0xaa ∷ 0x55 ∷ [])) order_cases ≡ replicate 11 (0xaa ∷ 0x55 ∷ [])
+untouched-on-refusal : map (λ k. saved_after k (0xaa ∷ 0x55 ∷ [])) order_cases ≡ replicate 12 (0xaa ∷ 0x55 ∷ [])
 unfolding all
 untouched-on-refusal = refl

@@ -2,7 +2,7 @@
 use Rattle.std.specs.Prelude.{ℕ, zero, suc, ◌/◌, ◌%◌, Bool, true, ◌&&◌, not, if◌then◌else◌, List, [], ◌∷◌, ◌++◌, nat_le, nat_lt, ◌==◌, length, take, drop, ℤ, Option, Some, None, Result, Ok, Err}
 use Rattle.refusal.specs.declared.Refusal.{Refusal}
 use Rattle.refusal.specs.declared.Refusal.TheVariants.{WrongFields, Forward, Room}
-use Rattle.model.specs.Constants.{default_ufr, last_market_term}
+use Rattle.model.specs.Constants.{default_ufr, default_equity_correlation, last_market_term}
 use Rattle.model.specs.Case.{FileCase, known_form, per_step}
 use Rattle.model.specs.Fields.{Check}
 use Rattle.model.specs.Layout.{amounts_in_order, Present, layout, parts_of, file_of}
@@ -39,12 +39,13 @@ abbrev pub all_zero : List ℕ → Bool
 all_zero [] = true
 all_zero (v ∷ vs) = v == 0 && all_zero vs
 
--- "A UFR of 4,200, an all-zero amounts field and an empty bond list are left out."
+-- "A UFR of 4,200, an all-zero amounts field, an empty bond list and a correlation between the equity classes of 1,000 are left out."
 abbrev pub needed : FileCase → Present
 needed k = record {
   ufr = not (k.ufr == default_ufr);
   bonds = nat_lt 0 (length k.bonds);
   amounts = not (all_zero (amounts_in_order k.amounts));
+  equity = not (k.shocks.equity_correlation == default_equity_correlation);
 }
 
 -- the bytes of the layout, in the shortest form

@@ -1,7 +1,8 @@
 // A case of either form, written by its fields; and what a host is told.
 use super::printing::FUND;
 use flat::{HostPoint, HostSaved, HostUfr, HostValuation};
-use model::case::{Amounts, CaseFields, People, Shocks};
+use heldcase::Case;
+use model::case::{Amounts, CaseFields, People};
 use model::figures::Valuation;
 use model::window::Point;
 use refusal::Refusal;
@@ -17,7 +18,7 @@ fn fields(width: u64, ufr: u64) -> CaseFields {
             cash: 1_100_000,
             ..Amounts::default()
         },
-        shocks: Shocks::default(),
+        shocks: Case::default().shocks,
         people: People {
             heads: 100,
             pension_age: 780,

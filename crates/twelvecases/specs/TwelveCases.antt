@@ -1,5 +1,5 @@
 -- The twelve hand-worked cases: what each file gives, as it was worked out by hand. All of it has to be believed. Assumes nothing.
-use Rattle.std.specs.Prelude.{◌*◌, ◌<◌, ◌≤◌, ◌≡◌, [], ◌∷◌, length, replicate, pos, neg_ℤ}
+use Rattle.std.specs.Prelude.{◌*◌, ◌<◌, ◌≡◌, [], ◌∷◌, length, replicate, pos, neg_ℤ}
 use Rattle.refusal.specs.Numbered.{answer_of}
 use Rattle.arith.specs.Rounding.{low, high}
 use Rattle.model.specs.Numbers.{number, twos_complement}
@@ -7,7 +7,7 @@ use Rattle.model.specs.Case.{FileCase}
 use Rattle.model.specs.Layout.{case_of}
 use Rattle.model.specs.Refusals.{refusal}
 use Rattle.model.specs.declared.figures.Verdict.TheVariants.{Reservetekort, VrijVermogen}
-use Rattle.method.specs.Fraction.{◌//◌, ◌≐◌}
+use Rattle.method.specs.Fraction.{◌//◌, ◌≐◌, whole, ◌≤ʳ◌, ◌ʳ≤◌}
 use Rattle.method.specs.Curve.{base, curve}
 use Rattle.method.specs.Exact as Exact
 use Rattle.method.specs.Rounded as Rounded
@@ -48,10 +48,9 @@ pub record TwelveCases : Type 0 where
       × (Rounded.buffer high 500 30000 40000 0 0 0 0 ≡ 60828)
       × (refusal file_c9 ≡ 0)
       × (Exact.S1 (case_of file_c9) ≐ 30000 // 1)
-      × (Exact.S2 (case_of file_c9) ≐ 40000 // 1)
-      × (Exact.S² (case_of file_c9) ≐ 3700000000 // 1)
-      × (60827 * 60827 ≤ 3700000000)
-      × (3700000000 ≤ 60828 * 60828)
+      × (Exact.S2² (case_of file_c9) ≐ 1600000000 // 1)
+      × (whole (60827 * 60827) ≤ʳ Exact.S² (case_of file_c9))
+      × (Exact.S² (case_of file_c9) ʳ≤ whole (60828 * 60828))
   -- C10: "Pension age 780, mean 540: .. TSO = 2 + 9/40 × 20 = 6.5"
   pub c10 : (refusal file_c10 ≡ 0) × (Exact.TSO (case_of file_c10) ≐ 65 // 10)
   -- C11: "Mean age above pension age: TSO = 2", of every case, and of a file

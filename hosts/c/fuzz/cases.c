@@ -31,7 +31,7 @@ held_case decoded(const uint8_t *file)
 {
     held_case c = {.bonds_length = 0};
     uint64_t map = taken(&file, 2), rate_bytes = map >> 7 & 1 ? GINGHAMOWL_FOUR_BYTES : GINGHAMOWL_TWO_BYTES;
-    uint64_t numbers[25] = {rate_bytes, 4200}; /* the bytes of a rate, UFR, amounts, shocks, people: as in c.fields */
+    uint64_t numbers[FIELDS] = {rate_bytes, 4200, [AT_EQUITY] = 1000}; /* as in c.fields */
 
     if (map & 1)
         numbers[1] = taken(&file, 2);
@@ -40,12 +40,16 @@ held_case decoded(const uint8_t *file)
     c.pension_length = take_flows(&file, c.pension);
     if (map >> 3 & 1)
         c.bonds_length = take_flows(&file, c.bonds);
-    for (int i = 2; i <= 9 && map >> 4 & 1; i++)
+    for (int i = AT_AMOUNTS; i < AT_SHOCKS && map >> 4 & 1; i++)
         numbers[i] = taken(&file, 8);
-    for (int i = 10; i <= 24; i++)
-        numbers[i] = taken(&file, i == 22 ? 4 : 2); /* 22: the head count */
+    for (int i = AT_SHOCKS; i < AT_EQUITY; i++)
+        numbers[i] = taken(&file, 2);
+    for (int i = AT_PEOPLE; i < FIELDS; i++)
+        numbers[i] = taken(&file, i == AT_PEOPLE ? 4 : 2); /* the head count has four */
     if (rate_bytes == GINGHAMOWL_FOUR_BYTES)
         take_days(&file, rate_bytes, &c);
+    if (map >> 8 & 1)
+        numbers[AT_EQUITY] = taken(&file, 2);
     memcpy(&c.fields, numbers, sizeof numbers);
     return c;
 }
@@ -63,8 +67,9 @@ ginghamowl_saved save(const held_case *c, uint8_t *out, size_t out_length)
     return saved;
 }
 
-const held_case plain = {.fields = {.rate_bytes = GINGHAMOWL_TWO_BYTES, .ufr = 4200, .people = {100, 780, 460}},
-                                .rates_length = DAY, .pension = {[29] = 1000000}, .pension_length = 30};
+const held_case plain = {.fields = {.rate_bytes = GINGHAMOWL_TWO_BYTES, .ufr = 4200, .shocks = GINGHAMOWL_SHOCKS_DEFAULT,
+                                    .people = {100, 780, 460}},
+                         .rates_length = DAY, .pension = {[29] = 1000000}, .pension_length = 30};
 
 /* The sum of a term's rates over the days. */
 static int64_t sum_of(const held_case *c, size_t term)

@@ -37,27 +37,27 @@ static size_t draw_flows(uint64_t *state, uint64_t count, uint64_t *flows)
 /* A case within the limits. */
 static held_case drawn_case(uint64_t *state, uint64_t rate_bytes)
 {
-    static const uint64_t shock_limits[12] = {1000, 1000, 1000, 1000, 1000, 1000, 1000, 1000, 1000, 1000, 10000, 500};
+    static const uint64_t shock_limits[13] = {1000, 1000, 1000, 1000, 1000, 1000, 1000, 1000, 1000, 1000, 10000, 500, 1000};
     held_case c = {.rates_length = DAY * (1 + up_to(state, 69))};
-    uint64_t numbers[25] = {rate_bytes, up_to(state, 5000)}; /* as in c.fields */
+    uint64_t numbers[FIELDS] = {rate_bytes, up_to(state, 5000)}; /* as in c.fields */
 
     for (size_t i = 0; i < c.rates_length; i += DAY)
         draw_day(state, rate_bytes == GINGHAMOWL_FOUR_BYTES ? 100 : 1, c.rates + i);
     c.pension_length = draw_flows(state, 1 + up_to(state, 119), c.pension);
     c.bonds_length = draw_flows(state, up_to(state, 60), c.bonds);
-    for (int i = 2; i <= 9; i++)
+    for (int i = AT_AMOUNTS; i < AT_SHOCKS; i++)
         numbers[i] = up_to(state, 100000000000);
-    for (int i = 10; i <= 21; i++)
-        numbers[i] = up_to(state, shock_limits[i - 10]);
-    numbers[22] = 1 + up_to(state, 999999);
-    numbers[23] = up_to(state, 1200);
-    numbers[24] = up_to(state, 1200);
+    for (int i = AT_SHOCKS; i < AT_PEOPLE; i++)
+        numbers[i] = up_to(state, shock_limits[i - AT_SHOCKS]);
+    numbers[AT_PEOPLE] = 1 + up_to(state, 999999);
+    for (int i = AT_PEOPLE + 1; i < FIELDS; i++)
+        numbers[i] = up_to(state, 1200);
     memcpy(&c.fields, numbers, sizeof numbers);
     return c;
 }
 
 /* libFuzzer's own changes of a file seldom give one that is accepted. So a quarter of the inputs are drawn cases, with their days in
- * either form. */
+ * either form, and with and without a field for the correlation between the equity classes. */
 size_t LLVMFuzzerCustomMutator(uint8_t *data, size_t size, size_t most, unsigned seed)
 {
     uint64_t state = (hash_of(data, size) ^ seed) | 1;

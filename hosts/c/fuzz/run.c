@@ -7,7 +7,8 @@
  * counter for each refusal, verdict and length with either days field, and for each kind of rolling window and of history
  * (ANSWERS), so that it keeps a file of each kind and goes on from there.
  *
- * At the end it says how many inputs were accepted with either days field, and fails where there were many and one field had none.
+ * At the end it says how many inputs were accepted with either days field, and how many of both had a correlation between the equity
+ * classes. It fails where there were many inputs and one of the three fields had none.
  *
  * Every buffer ends where a page begins that nobody may touch: an entry read or written too many ends the run at once.
  */
@@ -20,18 +21,21 @@
 int LLVMFuzzerInitialize(int *argc, char ***argv);
 int LLVMFuzzerTestOneInput(const uint8_t *data, size_t size);
 
-/* All inputs, and those that were accepted with either days field. */
-static unsigned long inputs, accepted_in[FORMS];
+/* All inputs, and those that were accepted: with either days field, and with the field of bit 8. */
+static unsigned long inputs, accepted_in[FORMS], accepted_with_equity;
 
-/* Says how many inputs were accepted. A run of many inputs fails that reached no case of one form: it has shown nothing of it. */
+/* Says how many inputs were accepted. A run of many inputs fails that reached no case with one of these fields: it has shown nothing
+ * of it. */
 static void tell_accepted(void)
 {
     enum { MANY = 1000 };
+    const char *missing = accepted_in[0] == 0 ? "days in two bytes" : accepted_in[1] == 0 ? "days in four bytes"
+        : accepted_with_equity == 0 ? "a correlation between the equity classes" : NULL;
 
-    fprintf(stderr, "fuzz: %lu inputs, accepted with days in two bytes %lu, in four bytes %lu\n", inputs, accepted_in[0],
-            accepted_in[1]);
-    if (inputs >= MANY && (accepted_in[0] == 0 || accepted_in[1] == 0)) {
-        fprintf(stderr, "fuzz: failed: no input was accepted with days in %s bytes\n", accepted_in[0] == 0 ? "two" : "four");
+    fprintf(stderr, "fuzz: %lu inputs, accepted with days in two bytes %lu, in four bytes %lu, of both with an equity correlation %lu\n",
+            inputs, accepted_in[0], accepted_in[1], accepted_with_equity);
+    if (inputs >= MANY && missing != NULL) {
+        fprintf(stderr, "fuzz: failed: no input was accepted with %s\n", missing);
         _exit(1);
     }
 }
@@ -54,6 +58,7 @@ int LLVMFuzzerTestOneInput(const uint8_t *data, size_t size)
 #undef TOPIC
     inputs++;
     accepted_in[in.form] += in.accepted;
+    accepted_with_equity += in.accepted && file[0] & 1;
     take_back(file, size);
     return 0;
 }

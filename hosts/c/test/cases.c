@@ -7,9 +7,10 @@ int32_t units(uint64_t rate_bytes)
 
 void c1_case(held_case *c)
 {
+    static const ginghamowl_case_fields fields = GINGHAMOWL_CASE_FIELDS_DEFAULT;
+
     memset(c, 0, sizeof *c);
-    c->fields.rate_bytes = GINGHAMOWL_TWO_BYTES;
-    c->fields.ufr = 4200;
+    c->fields = fields;
     c->fields.amounts.cash = 1100000;
     c->fields.people.heads = 100;
     c->fields.people.pension_age = 780;
@@ -22,7 +23,7 @@ void c1_case(held_case *c)
 void largest_case(held_case *c)
 {
     static const ginghamowl_amounts amounts = {100000000000, 99999999999, 72057594037, 4294967296, 16777217, 65537, 257, 1};
-    static const ginghamowl_shocks shocks = {1000, 999, 258, 259, 260, 261, 262, 263, 264, 265, 10000, 500};
+    static const ginghamowl_shocks shocks = {1000, 999, 258, 259, 260, 261, 262, 263, 264, 265, 10000, 500, 266};
     static const ginghamowl_people people = {1000000, 1200, 1199};
     size_t i;
 
@@ -104,9 +105,9 @@ size_t shortest(const held_case *c, uint8_t file[MOST_BYTES])
 {
     static const ginghamowl_amounts none;
     int ufr = c->fields.ufr != 4200, bonds = c->bonds_length != 0, four = c->fields.rate_bytes == GINGHAMOWL_FOUR_BYTES;
-    int amounts = memcmp(&c->fields.amounts, &none, sizeof none) != 0;
-    uint64_t numbers[12];
-    uint8_t *at = put(file, (four ? 0xe4 : 0x66) | ufr | bonds << 3 | amounts << 4, 2);
+    int amounts = memcmp(&c->fields.amounts, &none, sizeof none) != 0, equity = c->fields.shocks.equity_correlation != 1000;
+    uint64_t numbers[FIELDS];
+    uint8_t *at = put(file, (four ? 0xe4 : 0x66) | ufr | bonds << 3 | amounts << 4 | equity << 8, 2);
     size_t i;
 
     if (ufr)
@@ -116,24 +117,25 @@ size_t shortest(const held_case *c, uint8_t file[MOST_BYTES])
     at = put_flows(at, c->pension, c->pension_length);
     if (bonds)
         at = put_flows(at, c->bonds, c->bonds_length);
-    memcpy(numbers, &c->fields.amounts, sizeof c->fields.amounts);
-    for (i = 0; amounts && i < 8; i++)
+    memcpy(numbers, &c->fields, sizeof numbers);
+    for (i = AT_AMOUNTS; amounts && i < AT_SHOCKS; i++)
         at = put(at, numbers[i], 8);
-    memcpy(numbers, &c->fields.shocks, sizeof c->fields.shocks);
-    for (i = 0; i < 12; i++)
+    for (i = AT_SHOCKS; i < AT_EQUITY; i++)
         at = put(at, numbers[i], 2);
     at = put(at, c->fields.people.heads, 4);
     at = put(at, c->fields.people.pension_age, 2);
     at = put(at, c->fields.people.mean_age, 2);
     if (four)
         at = put_days(at, c);
+    if (equity)
+        at = put(at, numbers[AT_EQUITY], 2);
     return (size_t)(at - file);
 }
 
 /* The faults in the order of the checks; days in four bytes are checked after the people. */
 static const fault IN_ORDER[2][FAULTS] = {
-    {NO_FORM, UFR, DAYS, RATE, PENSIONS, PENSION, BONDS, BOND, AMOUNT, SHOCK, HEADS, GROWTH},
-    {NO_FORM, UFR, PENSIONS, PENSION, BONDS, BOND, AMOUNT, SHOCK, HEADS, DAYS, RATE, GROWTH},
+    {NO_FORM, UFR, DAYS, RATE, PENSIONS, PENSION, BONDS, BOND, AMOUNT, SHOCK, HEADS, EQUITY, GROWTH},
+    {NO_FORM, UFR, PENSIONS, PENSION, BONDS, BOND, AMOUNT, SHOCK, HEADS, DAYS, RATE, EQUITY, GROWTH},
 };
 
 const fault *in_order(uint64_t rate_bytes)
@@ -143,7 +145,7 @@ const fault *in_order(uint64_t rate_bytes)
 
 uint8_t refusal_of(fault which)
 {
-    static const uint8_t numbers[FAULTS] = {3, 9, 4, 5, 7, 8, 7, 8, 10, 11, 12, 6};
+    static const uint8_t numbers[FAULTS] = {3, 9, 4, 5, 7, 8, 7, 8, 10, 11, 12, 11, 6};
 
     return numbers[which];
 }
@@ -162,6 +164,7 @@ void spoil(held_case *c, fault which, int32_t unit)
     case AMOUNT: c->fields.amounts.mature = 100000000001; break;
     case SHOCK: c->fields.shocks.up_shift = 1001; break;
     case HEADS: c->fields.people.heads = 0; break;
+    case EQUITY: c->fields.shocks.equity_correlation = 1001; break;
     case GROWTH: c->rates[2 * DAY - 1] = 10000 * unit; break;
     }
 }

@@ -43,7 +43,7 @@ int32_t fitting_rate(uint64_t number, uint64_t rate_bytes);
 /* Writes the lowest `length` bytes of a number, the highest first. Returns where they end. */
 uint8_t *put(uint8_t *at, uint64_t number, int length);
 
-enum { MOST_BYTES = 2 + 2 + 1 + 4 * MOST_RATES + 2 * (1 + 4 * MOST_FLOWS) + 64 + 24 + 8 };
+enum { MOST_BYTES = 2 + 2 + 1 + 4 * MOST_RATES + 2 * (1 + 4 * MOST_FLOWS) + 64 + 24 + 8 + 2 };
 
 /* The shortest file of a case, with no look at the limits. Returns its length. */
 size_t shortest(const held_case *c, uint8_t file[MOST_BYTES]);
@@ -51,9 +51,9 @@ size_t shortest(const held_case *c, uint8_t file[MOST_BYTES]);
 /* ---------------------------------------------------------------- faults */
 
 /* One fault of each kind. */
-typedef enum { NO_FORM, UFR, DAYS, RATE, PENSIONS, PENSION, BONDS, BOND, AMOUNT, SHOCK, HEADS, GROWTH } fault;
+typedef enum { NO_FORM, UFR, DAYS, RATE, PENSIONS, PENSION, BONDS, BOND, AMOUNT, SHOCK, HEADS, EQUITY, GROWTH } fault;
 
-enum { FAULTS = 12 };
+enum { FAULTS = 13 };
 
 /* The faults in the order of the checks. */
 const fault *in_order(uint64_t rate_bytes);

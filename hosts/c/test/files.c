@@ -32,7 +32,8 @@ void c1_four(uint8_t file[C1_FOUR_BYTES])
 
 static const refused_change CHANGES[] = {
     {0, 0x80, GINGHAMOWL_REFUSED_MAP},
-    {0, 0x01, GINGHAMOWL_REFUSED_MAP},
+    {0, 0x02, GINGHAMOWL_REFUSED_MAP},
+    {0, 0x01, GINGHAMOWL_REFUSED_ENDS_EARLY}, /* the correlation of bit 8 is missing */
     {1, 0x74, GINGHAMOWL_REFUSED_MAP}, /* neither bit 1 nor bit 7 */
     {1, 0xf6, GINGHAMOWL_REFUSED_MAP}, /* both */
     {2, 0, GINGHAMOWL_REFUSED_DAY_COUNT},
@@ -53,7 +54,8 @@ static const refused_change CHANGES[] = {
 /* The same where its days are in four bytes. */
 static const refused_change FOUR_CHANGES[] = {
     {0, 0x80, GINGHAMOWL_REFUSED_MAP},
-    {0, 0x01, GINGHAMOWL_REFUSED_MAP},
+    {0, 0x02, GINGHAMOWL_REFUSED_MAP},
+    {0, 0x01, GINGHAMOWL_REFUSED_ENDS_EARLY}, /* the correlation of bit 8 is missing */
     {1, 0x74, GINGHAMOWL_REFUSED_MAP}, /* neither bit 1 nor bit 7 */
     {1, 0xf6, GINGHAMOWL_REFUSED_MAP}, /* both */
     {1, 0xf0, GINGHAMOWL_REFUSED_MAP},

@@ -14,11 +14,12 @@ _Static_assert(offsetof(ginghamowl_engine_version, kit) == 12, "the kit after th
 _Static_assert(sizeof(ginghamowl_part) == 16, "two sizes");
 _Static_assert(sizeof(ginghamowl_point) == 24, "a byte, padded to 8, and two doubles");
 _Static_assert(sizeof(ginghamowl_amounts) == 64, "eight amounts");
-_Static_assert(sizeof(ginghamowl_shocks) == 96, "twelve shocks");
+_Static_assert(sizeof(ginghamowl_shocks) == 104, "thirteen shocks");
+_Static_assert(offsetof(ginghamowl_shocks, equity_correlation) == 96, "the correlation between the equity classes is the last");
 _Static_assert(sizeof(ginghamowl_people) == 24, "heads and two ages");
-_Static_assert(sizeof(ginghamowl_case_fields) == 200, "the bytes of a rate, the UFR and the three above");
+_Static_assert(sizeof(ginghamowl_case_fields) == 208, "the bytes of a rate, the UFR and the three above");
 _Static_assert(offsetof(ginghamowl_case_fields, ufr) == 8, "the UFR after the bytes of a rate");
-_Static_assert(offsetof(ginghamowl_case_fields, people) == 176, "the people are the last");
+_Static_assert(offsetof(ginghamowl_case_fields, people) == 184, "the people are the last");
 _Static_assert(sizeof(ginghamowl_saved) == 16, "a byte, padded to 8, and a size");
 _Static_assert(offsetof(ginghamowl_saved, written) == 8, "the count after the refusal");
 _Static_assert(sizeof(ginghamowl_rolling_window) == 8896, "two numbers, 4,200 rates of 2 bytes and 60 sums");

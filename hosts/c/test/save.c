@@ -27,7 +27,7 @@ static void test_largest(void)
     static uint8_t file[MOST_BYTES];
 
     largest_case(&c);
-    CHECK(shortest(&c, file) == 9223);
+    CHECK(shortest(&c, file) == 9225);
     saves(&c);
     in_form(&c, GINGHAMOWL_FOUR_BYTES);
     refine(&c);
@@ -36,7 +36,7 @@ static void test_largest(void)
     saves_into(&c, GINGHAMOWL_FILE_BYTES - 1, GINGHAMOWL_REFUSED_SAVED_BUFFER, NULL, 0);
 }
 
-/* Each of the three fields left out or not. What is written is as short as can be, and a bond flow of 0 is
+/* Each of the four fields left out or not. What is written is as short as can be, and a bond flow of 0 is
  * no empty list. */
 static void test_left_out(uint64_t rate_bytes)
 {
@@ -45,16 +45,17 @@ static void test_left_out(uint64_t rate_bytes)
     size_t least = 40 + 60 * rate_bytes, bits = rate_bytes == GINGHAMOWL_FOUR_BYTES ? 0xe4 : 0x66;
     unsigned fields, i;
 
-    for (fields = 0; fields < 8; fields++) {
-        size_t ufr = fields & 1, bonds = fields >> 1 & 1, amounts = fields >> 2;
+    for (fields = 0; fields < 16; fields++) {
+        size_t ufr = fields & 1, bonds = fields >> 1 & 1, amounts = fields >> 2 & 1, equity = fields >> 3;
 
         c1_case(&c);
         in_form(&c, rate_bytes);
         c.fields.ufr -= ufr;
         c.bonds_length = bonds;
         c.fields.amounts.cash = amounts;
-        CHECK(shortest(&c, file) == least + 2 * ufr + 5 * bonds + 64 * amounts);
-        CHECK(file[0] == 0 && file[1] == bits + ufr + 8 * bonds + 16 * amounts);
+        c.fields.shocks.equity_correlation -= equity;
+        CHECK(shortest(&c, file) == least + 2 * ufr + 5 * bonds + 64 * amounts + 2 * equity);
+        CHECK(file[0] == equity && file[1] == bits + ufr + 8 * bonds + 16 * amounts);
         saves(&c);
     }
     for (i = 0; i < 8; i++) { /* one amount alone keeps the field */
@@ -70,23 +71,24 @@ static void test_left_out(uint64_t rate_bytes)
 static void spoil_at_random(held_case *c, uint64_t *state)
 {
     static const size_t days[] = {0, 1, 70, 71}, pension[] = {0, 1, 120, 121}, bonds[] = {0, 1, 60, 61};
-    uint64_t hits, numbers[25];
+    uint64_t hits, numbers[FIELDS];
 
     for (hits = drawn(state) % 4; hits > 0; hits--) {
-        uint64_t place = 1 + drawn(state) % 44, number = drawn(state) >> drawn(state) % 48;
+        uint64_t place = 1 + drawn(state) % 45, number = drawn(state) >> drawn(state) % 48;
 
         memcpy(numbers, &c->fields, sizeof numbers);
-        if (place < 25) /* UFR, amounts in 8 bytes, shocks, heads in 4 bytes, ages */
-            numbers[place] = place >= 2 && place <= 9 ? number : number % ((uint64_t)1 << (place == 22 ? 32 : 16));
-        else if (place < 31)
+        if (place < FIELDS) /* UFR, amounts in 8 bytes, shocks, heads in 4 bytes, ages */
+            numbers[place] = place >= AT_AMOUNTS && place < AT_SHOCKS ? number
+                                                                      : number % ((uint64_t)1 << (place == AT_PEOPLE ? 32 : 16));
+        else if (place < 32)
             c->rates[drawn(state) % (3 * DAY)] = fitting_rate(number, c->fields.rate_bytes);
-        else if (place < 35)
+        else if (place < 36)
             c->pension[drawn(state) % 3] = number % ((uint64_t)1 << 32);
-        else if (place < 39)
+        else if (place < 40)
             c->bonds[drawn(state) % 3] = number % ((uint64_t)1 << 32);
-        else if (place < 41)
+        else if (place < 42)
             c->rates_length = days[number % 4] * DAY;
-        else if (place < 43)
+        else if (place < 44)
             c->pension_length = pension[number % 4];
         else
             c->bonds_length = bonds[number % 4];

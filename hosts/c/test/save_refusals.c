@@ -32,7 +32,8 @@ static void test_numbers(uint64_t rate_bytes)
                                  &c.fields.amounts.property, &c.fields.amounts.commodities, &c.fields.amounts.credit,
                                  &c.fields.amounts.cash, &c.fields.amounts.currency};
     uint64_t *const shocks[] = {&s->up_shift, &s->down_shift, &s->mature_fall, &s->emerging_fall, &s->private_fall,
-                                &s->property_fall, &s->currency_fall, &s->commodities_fall, &s->spread_rise, &s->correlation};
+                                &s->property_fall, &s->currency_fall, &s->commodities_fall, &s->spread_rise, &s->correlation,
+                                &s->equity_correlation};
     size_t i;
 
     c1_case(&c);
@@ -46,7 +47,7 @@ static void test_numbers(uint64_t rate_bytes)
     }
     for (i = 0; i < 8; i++)
         test_limit(&c, amounts[i], 0, 100000000000, GINGHAMOWL_REFUSED_AMOUNT);
-    for (i = 0; i < 10; i++)
+    for (i = 0; i < sizeof shocks / sizeof *shocks; i++)
         test_limit(&c, shocks[i], 0, 1000, GINGHAMOWL_REFUSED_SHOCK);
     test_limit(&c, &s->spread, 0, 10000, GINGHAMOWL_REFUSED_SHOCK);
     test_limit(&c, &s->duration, 0, 500, GINGHAMOWL_REFUSED_SHOCK);

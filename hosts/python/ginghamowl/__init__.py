@@ -24,7 +24,7 @@ engine is proved. Nothing but the standard library is needed.
 
 from . import _given
 from . import _library as _c
-from ._case import Amounts, Case, DaysForm, People, Shocks
+from ._case import DEFAULT_EQUITY_CORRELATION, Amounts, Case, DaysForm, People, Shocks
 from ._given import Refused, refusal
 from ._library import FILE_BYTES, HISTORY_BYTES, HISTORY_MONTHS, WINDOW_BYTES, WINDOW_DAYS, LibraryError
 from ._months import History
@@ -34,9 +34,10 @@ from ._valuation import TERMS, Bracket, Figures, Kind, Point, Valuation, Verdict
 from ._words import SENTENCES
 from ._words import VERSION as __version__
 
-__all__ = ["FILE_BYTES", "HISTORY_BYTES", "HISTORY_MONTHS", "SENTENCES", "TERMS", "WINDOW_BYTES", "WINDOW_DAYS", "Amounts",
-           "Bracket", "Case", "DaysForm", "Figures", "History", "Kind", "LibraryError", "People", "Point", "Refused", "RollingWindow",
-           "Shocks", "Valuation", "Verdict", "__version__", "kit", "rates_part", "refusal", "value", "warnings_of"]
+__all__ = ["DEFAULT_EQUITY_CORRELATION", "FILE_BYTES", "HISTORY_BYTES", "HISTORY_MONTHS", "SENTENCES", "TERMS", "WINDOW_BYTES",
+           "WINDOW_DAYS", "Amounts", "Bracket", "Case", "DaysForm", "Figures", "History", "Kind", "LibraryError", "People", "Point",
+           "Refused", "RollingWindow", "Shocks", "Valuation", "Verdict", "__version__", "kit", "rates_part", "refusal", "value",
+           "warnings_of"]
 
 
 def kit() -> str:

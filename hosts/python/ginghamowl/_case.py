@@ -12,6 +12,10 @@ from ._given import Refused, accepted, rate, require_int, unsigned
 from ._library import DAY_RATES, FILE_BYTES
 
 DEFAULT_UFR = 4_200  # of a file without the field
+
+#: The correlation between the equity classes of a file without the field, in thousandths: the classes fall together.
+DEFAULT_EQUITY_CORRELATION = 1_000
+
 FINER = 100  # this many steps of a rate in four bytes are one of a rate in two
 
 
@@ -72,7 +76,12 @@ class Amounts:
 
 @dataclass(frozen=True)
 class Shocks:
-    """Shifts and credit spread in steps of 0.00001, credit duration in tenths of a year, all others in thousandths."""
+    """Shifts and credit spread in steps of 0.00001, credit duration in tenths of a year, all others in thousandths.
+
+    `correlation` is that of S1 and S2. `equity_correlation` is that of the four equity classes with each other, whose losses make S2:
+    mature, emerging and private equity, and property. At 1,000 the classes fall together, and S2 is the sum of their losses, with no
+    relief. At 0 they are uncorrelated, which gives the smallest S2, and so the smallest buffer.
+    """
 
     up_shift: int
     down_shift: int
@@ -86,6 +95,7 @@ class Shocks:
     correlation: int
     spread: int
     duration: int
+    equity_correlation: int = DEFAULT_EQUITY_CORRELATION
 
 
 @dataclass(frozen=True)
@@ -138,11 +148,12 @@ class Case:
         pension = file.flows()
         bonds = file.flows() if bits >> 3 & 1 else ()
         amounts = Amounts(*(file.numbers("8Q") if bits >> 4 & 1 else (0,) * 8))
-        shocks = Shocks(*file.numbers("12H"))
+        shocks = file.numbers("12H")
         people = People(*file.numbers("I2H"))
         if form is DaysForm.FOUR_BYTES:
             days = file.days("i")
-        return cls(ufr, days, pension, bonds, amounts, shocks, people, form)
+        equity_correlation = file.number("H") if bits >> 8 & 1 else DEFAULT_EQUITY_CORRELATION
+        return cls(ufr, days, pension, bonds, amounts, Shocks(*shocks, equity_correlation), people, form)
 
     def in_form(self, form: DaysForm) -> "Case":
         """The case with the same rates in this form, which has the same valuation; the case itself where the form is its own.
@@ -164,9 +175,9 @@ class Case:
         return replace(self, days=days, days_form=form)
 
     def save(self) -> bytes:
-        """The shortest file of this case, without a UFR of 4,200, amounts that are all 0 and an empty list of bonds.
+        """The shortest file of this case, with the days field of `days_form`.
 
-        Its days field is that of `days_form`.
+        It leaves out a UFR of 4,200, amounts that are all 0, an empty list of bonds and an `equity_correlation` of 1,000.
 
         Raises Refused with the number that the engine gives. A day that has not 60 rates is refused with 4, as a wrong number of
         days is. A number that is no int raises TypeError.

@@ -1,7 +1,7 @@
 """What a file looks like that is no case file, and what to do with it.
 
-An accepted case file begins with a byte 0, and nothing that is told here does. So no accepted file is taken for something else, and
-a damaged one only where its first byte is damaged too.
+An accepted case file begins with a byte 0 or 1, and nothing that is told here does. So no accepted file is taken for something else,
+and a damaged one only where its first byte is damaged too.
 """
 
 import codecs

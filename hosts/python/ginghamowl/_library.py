@@ -13,7 +13,7 @@ from typing import Any, NamedTuple
 from ._words import VERSION
 
 #: The longest accepted file has this many bytes. Of a longer one, the first FILE_BYTES + 1 decide the refusal.
-FILE_BYTES = 17623
+FILE_BYTES = 17625
 
 #: A rolling window holds at most this many days.
 WINDOW_DAYS = 70
@@ -67,7 +67,7 @@ class HostAmounts(Structure):
 class HostShocks(Structure):
     _fields_ = [(name, c_uint64) for name in (
         "up_shift down_shift mature_fall emerging_fall private_fall property_fall "
-        "currency_fall commodities_fall spread_rise correlation spread duration").split()]
+        "currency_fall commodities_fall spread_rise correlation spread duration equity_correlation").split()]
 
 
 class HostPeople(Structure):

@@ -209,6 +209,18 @@ def amounts(case: Case) -> int:
     return (held.mature + held.emerging + held.private_equity + held.property + held.commodities + held.credit + held.cash)
 
 
+def equity_losses(case: Case) -> list[int]:
+    """What each of the four classes of S2 loses, in tenths of a cent: a euro times a thousandth is one."""
+    held, shocks = case.amounts, case.shocks
+    return [held.mature * shocks.mature_fall, held.emerging * shocks.emerging_fall, held.private_equity * shocks.private_fall,
+            held.property * shocks.property_fall]
+
+
+def equity_correlation(case: Case) -> int | None:
+    """The correlation between the four classes of S2; None where fewer than two of them lose anything, so that it changes nothing."""
+    return case.shocks.equity_correlation if sum(loss > 0 for loss in equity_losses(case)) > 1 else None
+
+
 def bonds_and_cash(case: Case) -> int:
     return sum(case.bonds) + case.amounts.cash
 

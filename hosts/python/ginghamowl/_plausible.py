@@ -178,6 +178,9 @@ RULES = [
     # These two are often 50 % or more, so that 5 % would miss 50 typed as thousandths.
     of_shock("spread_rise", 100, share_percent, PERCENT_SLIP, "credit"),
     of_shock("correlation", 100, share_percent, PERCENT_SLIP, *EQUITIES),
+    # Hardly a fund has less, and 0 is what a host leaves that does not know the number.
+    of_case("shocks.equity_correlation", measures.equity_correlation, share_percent,
+            "was a percentage typed in thousandths, or left at 0, which gives the smallest buffer?", (250, None)),
     of_shock("spread", 300, rate_percent, SHIFT_SLIP, "credit"),
     of_shock("duration", 10, years, "were years typed as tenths of a year?", "credit"),
     of_age("pension_age", 720, f"{AGE_SLIP[:-1]}, or the two ages swapped?"),

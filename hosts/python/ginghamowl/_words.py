@@ -3,7 +3,7 @@
 Written by hosts/words from hosts/words.toml and VERSION: change those, and run it.
 """
 
-VERSION = "0.9.0"
+VERSION = "0.10.0"
 
 NO_REFUSAL = "no refusal has this number"
 
@@ -11,7 +11,7 @@ NO_REFUSAL = "no refusal has this number"
 SENTENCES: dict[int, str] = {
     1: "the file is too short; its map, and each field that the map announces, must be whole",
     2: "bytes follow the last field; the file must end there",
-    3: "the map has a wrong bit; bits 2, 5 and 6 and exactly one of bits 1 and 7 must be set, and bits 8 to "
+    3: "the map has a wrong bit; bits 2, 5 and 6 and exactly one of bits 1 and 7 must be set, and bits 9 to "
         "15 must not; a case that is handed in must have rates of 2 or 4 bytes",
     4: "the number of days is out of limits; it must be 1 to 70, with 60 rates each",
     5: "a zero rate is out of limits; each must be -1,000 to 10,000 steps of 0.00001, or in four bytes, "
@@ -24,7 +24,7 @@ SENTENCES: dict[int, str] = {
     8: "a flow is out of limits; each must be at most 100,000,000 euros",
     9: "the UFR is out of limits; it must be at most 5,000 steps of 0.00001, 5 %",
     10: "an amount is out of limits; each must be at most 100,000,000,000 euros",
-    11: "a shock is out of limits; shifts must be at most 1,000 steps, falls, spread rise and correlation at "
+    11: "a shock is out of limits; shifts must be at most 1,000 steps, falls, spread rise and correlations at "
         "most 1,000 thousandths, the credit spread at most 10,000 steps and the credit duration at most 500 "
         "tenths of a year",
     12: "the head count or an age is out of limits; heads must be 1 to 1,000,000, and ages at most 1,200 "

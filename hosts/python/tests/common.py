@@ -71,7 +71,8 @@ def faults_in_order(case):
               (10, {"amounts": replace(case.amounts, currency=-1)}), (11, {"shocks": replace(case.shocks, duration=2 ** 64)}),
               (12, {"people": replace(case.people, heads=0)})]
     in_bit_order = days + others if case.days_form is DaysForm.TWO_BYTES else others + days
-    return [(9, {"ufr": -1}), *in_bit_order, (6, {"days": [[0] * 59 + [most]]})]
+    equity = 11, {"shocks": replace(case.shocks, equity_correlation=1_001)}
+    return [(9, {"ufr": -1}), *in_bit_order, equity, (6, {"days": [[0] * 59 + [most]]})]
 
 
 def answer_of(function, *arguments):

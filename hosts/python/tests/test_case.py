@@ -95,16 +95,18 @@ class Saving(unittest.TestCase):
     def test_left_out(self):
         bare = with_field(C1, "amounts", cash=0)
         forms = (DaysForm.TWO_BYTES, 160, 0x66), (DaysForm.FOUR_BYTES, 280, 0xE4)
-        for (form, least, bits), ufr, bonds, cash in product(forms, (0, 1), (0, 1), (0, 1)):
+        for (form, least, bits), ufr, bonds, cash, equity in product(forms, (0, 1), (0, 1), (0, 1), (0, 1)):
             case = with_field(replace(bare.in_form(form), ufr=4_200 + ufr, bonds=[0] * bonds), "amounts", cash=cash)
+            case = with_field(case, "shocks", equity_correlation=1_000 - equity)
             saved = case.save()
-            self.assertEqual(len(saved), least + 2 * ufr + 5 * bonds + 64 * cash)
-            self.assertEqual(saved[:2], bytes([0, bits | ufr | bonds << 3 | cash << 4]))
+            self.assertEqual(len(saved), least + 2 * ufr + 5 * bonds + 64 * cash + 2 * equity)
+            self.assertEqual(saved[:2], bytes([equity, bits | ufr | bonds << 3 | cash << 4]))
             self.assertEqual(Case.read(saved), case)
 
     def test_largest(self):
-        for form, length in ((DaysForm.TWO_BYTES, 9_223), (DaysForm.FOUR_BYTES, ginghamowl.FILE_BYTES)):
-            case = replace(UP, days=[DAY] * 70, pension=[FLOW] * 120, bonds=[FLOW] * 60, days_form=form)
+        apart = with_field(UP, "shocks", equity_correlation=999)
+        for form, length in ((DaysForm.TWO_BYTES, 9_225), (DaysForm.FOUR_BYTES, ginghamowl.FILE_BYTES)):
+            case = replace(apart, days=[DAY] * 70, pension=[FLOW] * 120, bonds=[FLOW] * 60, days_form=form)
             self.assertEqual(len(case.save()), length)
             self.assertEqual(Case.read(case.save()), case)
 

@@ -51,7 +51,7 @@ class Forms(unittest.TestCase):
 
     def test_sizes(self):
         record = _library.HostCaseFields
-        self.assertEqual((ctypes.sizeof(record), record.rate_bytes.offset, record.ufr.offset, record.people.offset), (200, 0, 8, 176))
+        self.assertEqual((ctypes.sizeof(record), record.rate_bytes.offset, record.ufr.offset, record.people.offset), (208, 0, 8, 184))
 
 
 class InForm(unittest.TestCase):

@@ -35,7 +35,7 @@ class BesideTheReference(unittest.TestCase):
                                               for two in (examples.up(), examples.down(), examples.bent())
                                               for case in (two, files.finer_case(two))]
         verdicts = set()
-        for data, case in [*fixed, *seeded_files(5, 50)]:
+        for data, case in [*fixed, *seeded_files(14, 50)]:
             rounded = reference.Rounded(case)
             valuation = ginghamowl.value(data)
             self.assertEqual(valuation.factors, brackets(rounded.factors[1:]))

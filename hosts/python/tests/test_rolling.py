@@ -98,7 +98,7 @@ class Valued(Rolling):
     def test_beside_files(self):
         """A case that has the window's days is worth what its file is; the days that the case itself has make no difference."""
         rng, verdicts = random.Random(7), set()
-        for _, held in seeded_files(7, 25, [2]):
+        for _, held in seeded_files(10, 25, [2]):
             file, window = shortest(held), window_from(rng.randrange(WINDOW_DAYS), held.days)
             expected = ginghamowl.value(file)
             self.assertEqual(expected.listing().encode(), reference.listing(file))

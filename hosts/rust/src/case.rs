@@ -6,6 +6,9 @@ use std::fmt;
 /// Of a file without the field.
 const DEFAULT_UFR: u64 = 4200;
 
+/// The correlation between the equity classes of a file without the field, in thousandths: the classes fall together.
+pub const DEFAULT_EQUITY_CORRELATION: u64 = 1_000;
+
 /// So many steps of a rate in four bytes are one of a rate in two.
 const FINER: i32 = 100;
 
@@ -55,7 +58,13 @@ pub struct Amounts {
     pub currency: u64,
 }
 
-/// Shifts and credit spread in steps of 0.00001, credit duration in tenths of a year, all others in thousandths.
+/// Shifts and credit spread in steps of 0.00001, credit duration in tenths of a year, all others in thousandths. The
+/// default has no shock, and equity classes that fall together:
+///
+/// ```
+/// let shocks = ginghamowl::Shocks { mature_fall: 250, ..Default::default() };
+/// assert_eq!(shocks.equity_correlation, ginghamowl::DEFAULT_EQUITY_CORRELATION);
+/// ```
 #[derive(Clone, Copy, Debug, PartialEq, Eq)]
 #[repr(C)]
 pub struct Shocks {
@@ -68,9 +77,35 @@ pub struct Shocks {
     pub currency_fall: u64,
     pub commodities_fall: u64,
     pub spread_rise: u64,
+    /// Of S1 and S2.
     pub correlation: u64,
     pub spread: u64,
     pub duration: u64,
+    /// Of the four equity classes with each other, whose losses make S2: mature, emerging and private equity, and
+    /// property. 0 to 1,000. At 1,000 the classes fall together, and S2 is the sum of their losses, with no relief. At 0
+    /// they are uncorrelated, which gives the smallest S2, and so the smallest buffer.
+    pub equity_correlation: u64,
+}
+
+/// No shock. 0 would ask for the smallest buffer, so `equity_correlation` is [`DEFAULT_EQUITY_CORRELATION`].
+impl Default for Shocks {
+    fn default() -> Shocks {
+        Shocks {
+            up_shift: 0,
+            down_shift: 0,
+            mature_fall: 0,
+            emerging_fall: 0,
+            private_fall: 0,
+            property_fall: 0,
+            currency_fall: 0,
+            commodities_fall: 0,
+            spread_rise: 0,
+            correlation: 0,
+            spread: 0,
+            duration: 0,
+            equity_correlation: DEFAULT_EQUITY_CORRELATION,
+        }
+    }
 }
 
 /// The head count, and two ages in months.
@@ -154,7 +189,7 @@ impl Case {
     }
 
     /// The shortest file of this case: with the days field of `days_form`, and without a UFR of 4,200, amounts that are all
-    /// 0 and an empty list of bonds. Never `Refusal::SavedBuffer`.
+    /// 0, an empty list of bonds and an `equity_correlation` of 1,000. Never `Refusal::SavedBuffer`.
     pub fn save(&self) -> Result<Vec<u8>, Refusal> {
         let mut file = vec![0; FILE_BYTES];
         let written = self.save_into(&mut file)?;
@@ -237,6 +272,7 @@ impl Rest<'_> {
         }
     }
 
+    /// The twelve shocks that stand together; `equity_correlation` has a field of its own.
     fn shocks(&mut self) -> Shocks {
         Shocks {
             up_shift: self.number(2),
@@ -251,6 +287,7 @@ impl Rest<'_> {
             correlation: self.number(2),
             spread: self.number(2),
             duration: self.number(2),
+            equity_correlation: DEFAULT_EQUITY_CORRELATION,
         }
     }
 
@@ -273,6 +310,9 @@ impl Rest<'_> {
         };
         if stands(7) {
             case.days = self.days(DaysForm::FourBytes);
+        }
+        if stands(8) {
+            case.shocks.equity_correlation = self.number(2);
         }
         case
     }

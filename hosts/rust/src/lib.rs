@@ -25,7 +25,7 @@ mod raw;
 mod rolling;
 mod words;
 
-pub use case::{Amounts, Case, DaysForm, FormError, People, Shocks};
+pub use case::{Amounts, Case, DaysForm, FormError, People, Shocks, DEFAULT_EQUITY_CORRELATION};
 pub use months::History;
 pub use rolling::RollingWindow;
 pub use words::{refusal_sentence, verdict_sentence, verdict_word};
@@ -34,7 +34,7 @@ pub use words::{refusal_sentence, verdict_sentence, verdict_word};
 pub const VERSION: &str = env!("CARGO_PKG_VERSION");
 
 /// The longest accepted file has this many bytes. Of a longer one, the first `FILE_BYTES + 1` decide the refusal.
-pub const FILE_BYTES: usize = 17623;
+pub const FILE_BYTES: usize = 17625;
 
 /// A day of a case has the zero rates of the terms 1 to this.
 pub const DAY_RATES: usize = 60;

@@ -239,6 +239,13 @@ impl From<HostValuation> for Result<Judged, Refusal> {
 #[cfg(test)]
 mod tests {
     use super::*;
+    use std::mem::size_of;
+
+    #[test]
+    fn sizes_of_a_case() {
+        assert_eq!((size_of::<Amounts>(), size_of::<Shocks>(), size_of::<People>()), (64, 104, 24));
+        assert_eq!(size_of::<HostCaseFields>(), 208);
+    }
 
     fn told(major: u32, minor: u32, patch: u32) -> HostVersion {
         HostVersion { major, minor, patch, kit: [0; 32] }

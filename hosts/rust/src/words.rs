@@ -7,7 +7,7 @@ pub fn refusal_sentence(number: u8) -> &'static str {
     match number {
         1 => "the file is too short; its map, and each field that the map announces, must be whole",
         2 => "bytes follow the last field; the file must end there",
-        3 => "the map has a wrong bit; bits 2, 5 and 6 and exactly one of bits 1 and 7 must be set, and bits 8 to 15 must not; a case that is handed in must have rates of 2 or 4 bytes",
+        3 => "the map has a wrong bit; bits 2, 5 and 6 and exactly one of bits 1 and 7 must be set, and bits 9 to 15 must not; a case that is handed in must have rates of 2 or 4 bytes",
         4 => "the number of days is out of limits; it must be 1 to 70, with 60 rates each",
         5 => "a zero rate is out of limits; each must be -1,000 to 10,000 steps of 0.00001, or in four bytes, which a rolling window has not, -100,000 to 1,000,000 steps of 0.0000001, which is -1 % to 10 %",
         6 => "a one-year forward rate is out of limits; t x s(t) - (t - 1) x s(t-1), with s(t) the sum of term t's rates over the n days, must be -2,000 x n to 12,000 x n steps of 0.00001 at each term, or in four bytes -200,000 x n to 1,200,000 x n steps of 0.0000001, which is -2 % to 12 %",
@@ -15,7 +15,7 @@ pub fn refusal_sentence(number: u8) -> &'static str {
         8 => "a flow is out of limits; each must be at most 100,000,000 euros",
         9 => "the UFR is out of limits; it must be at most 5,000 steps of 0.00001, 5 %",
         10 => "an amount is out of limits; each must be at most 100,000,000,000 euros",
-        11 => "a shock is out of limits; shifts must be at most 1,000 steps, falls, spread rise and correlation at most 1,000 thousandths, the credit spread at most 10,000 steps and the credit duration at most 500 tenths of a year",
+        11 => "a shock is out of limits; shifts must be at most 1,000 steps, falls, spread rise and correlations at most 1,000 thousandths, the credit spread at most 10,000 steps and the credit duration at most 500 tenths of a year",
         12 => "the head count or an age is out of limits; heads must be 1 to 1,000,000, and ages at most 1,200 months",
         13 => "a lent buffer is too short; the buffers for factors and for rates must have at least 240 entries",
         14 => "the lent buffer is too short for the case; it must have at least as many bytes as the case's shortest file",

@@ -240,7 +240,8 @@ fn lengths_of_buffers() {
 type Fault = (Refusal, fn(&mut Case));
 
 /// Of the case's faults, in their order, the first is given, and ahead of what is wrong with the window's days; a short
-/// buffer comes before all of them. Days in four bytes are checked behind the people. A refusal changes no buffer.
+/// buffer comes before all of them. Days in four bytes are checked behind the people, and the equity correlation behind
+/// them. A refusal changes no buffer.
 #[test]
 fn refused_valuations() {
     let ufr: [Fault; 1] = [(Refusal::Ufr, |case| case.ufr = 5_001)];
@@ -257,12 +258,13 @@ fn refused_valuations() {
         (Refusal::Shock, |case| case.shocks.duration = 501),
         (Refusal::People, |case| case.people.mean_age = 1_201),
     ];
+    let equity: [Fault; 1] = [(Refusal::Shock, |case| case.shocks.equity_correlation = 1_001)];
     let steep_day: [Fault; 1] = [(Refusal::Growth, |case| case.days.iter_mut().for_each(|day| day[58] = 10_000))];
     let steep_in_four: [Fault; 1] =
         [(Refusal::Growth, |case| case.days.iter_mut().for_each(|day| day[58] = 1_000_000))];
     let forms = [
-        (case("c1"), [&ufr[..], &days, &others, &steep_day].concat()),
-        (in_four_bytes(&case("c1")), [&ufr[..], &others, &days, &steep_in_four].concat()),
+        (case("c1"), [&ufr[..], &days, &others, &equity, &steep_day].concat()),
+        (in_four_bytes(&case("c1")), [&ufr[..], &others, &days, &equity, &steep_in_four].concat()),
     ];
     let refused = |window: &RollingWindow, case: &Case, refusal: Refusal| {
         let (mut factors, mut rates) = ([7; ENTRIES], [-7; ENTRIES]);

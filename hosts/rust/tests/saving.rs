@@ -35,6 +35,7 @@ fn up_case(days: Vec<[i32; DAY_RATES]>) -> Case {
             correlation: 401,
             spread: 2_345,
             duration: 73,
+            equity_correlation: 1_000,
         },
         people: People { heads: 1_237, pension_age: 804, mean_age: 541 },
     }
@@ -64,7 +65,9 @@ fn stored_cases_saved() {
             assert_eq!(value(&saved), value(&file), "{name}");
         }
     }
-    assert_eq!(Case::read(&file("largest")).unwrap().save().unwrap().len(), 9_223);
+    let mut largest = Case::read(&file("largest")).unwrap();
+    largest.shocks.equity_correlation = 999;
+    assert_eq!(largest.save().unwrap().len(), 9_225);
     assert_eq!(Case::read(&file("longest")).unwrap().save().unwrap().len(), FILE_BYTES);
 }
 
@@ -74,16 +77,19 @@ fn fields_left_out() {
         let mut case = Case { days_form: form, ..c1_case() };
         case.amounts.cash = 0;
         let shortest = case.save().unwrap();
-        assert_eq!((shortest.len(), shortest[1]), (least, bits));
+        assert_eq!((shortest.len(), shortest[0], shortest[1]), (least, 0, bits));
         case.ufr = 4_201;
         case.bonds = vec![0];
         case.amounts.currency = 1;
+        case.shocks.equity_correlation = 999;
         let whole = case.save().unwrap();
-        assert_eq!((whole.len(), whole[1]), (least + 2 + 5 + 64, bits | 0x19));
+        assert_eq!((whole.len(), whole[0], whole[1]), (least + 2 + 5 + 64 + 2, 1, bits | 0x19));
         assert_eq!(Case::read(&whole), Ok(case));
 
-        let mut longer = shortest.clone(); // the same case with a UFR of 4,200 and amounts of 0 written out
+        // the same case with a UFR of 4,200, amounts of 0 and an equity correlation of 1,000 written out
+        let mut longer = [&shortest[..], &[0x03, 0xe8]].concat();
         let amounts_at = if form == DaysForm::TwoBytes { 128 } else { 7 };
+        longer[0] = 1;
         longer[1] = bits | 0x11;
         longer.splice(amounts_at..amounts_at, [0; 64]);
         longer.splice(2..2, [0x10, 0x68]);
@@ -107,7 +113,7 @@ fn refused_in_order(case: &Case, faults: &[Fault]) {
     }
 }
 
-/// A fault of each kind. Days in four bytes are checked after the people.
+/// A fault of each kind. Days in four bytes are checked after the people, and the equity correlation after them.
 #[test]
 fn refused_cases() {
     let ufr: [Fault; 1] = [(9, |case| case.ufr = 5_001)];
@@ -126,10 +132,11 @@ fn refused_cases() {
         (12, |case| case.people.mean_age = 1_201),
         (12, |case| case.people.heads = 0),
     ];
+    let equity: [Fault; 1] = [(11, |case| case.shocks.equity_correlation = 1_001)];
     let steep: [Fault; 1] = [(6, |case| case.days.iter_mut().for_each(|day| day[58] = 10_000))];
     let steep_in_four: [Fault; 1] = [(6, |case| case.days.iter_mut().for_each(|day| day[58] = 1_000_000))];
-    refused_in_order(&c1_case(), &[&ufr[..], &days, &others, &steep].concat());
-    refused_in_order(&in_four_bytes(&c1_case()), &[&ufr[..], &others, &days, &steep_in_four].concat());
+    refused_in_order(&c1_case(), &[&ufr[..], &days, &others, &equity, &steep].concat());
+    refused_in_order(&in_four_bytes(&c1_case()), &[&ufr[..], &others, &days, &equity, &steep_in_four].concat());
 }
 
 /// Rates and forward rates at the limits of their form, and one step past them.

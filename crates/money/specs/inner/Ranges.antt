@@ -26,6 +26,14 @@ pub record WorthsFit (w : Three Bracket) : Type 0 where
   pub up : WorthFits w.up
   pub down : WorthFits w.down
 
+-- the correlation between the four classes of S2, and the loss on each in tenths of a cent
+pub record ClassesFit (c m e v p : ℕ) : Type 0 where
+  pub correlation : c ≤ 1000
+  pub mature : m ≤ 10 ^ 14
+  pub emerging : e ≤ 10 ^ 14
+  pub private : v ≤ 10 ^ 14
+  pub property : p ≤ 10 ^ 14
+
 -- each of the losses S1 to S6
 abbrev pub LossFits : Bracket → Type 0
 LossFits b = UpTo (50 * 10 ^ 12) b

@@ -18,9 +18,9 @@ use Rattle.model.specs.Numbers.{bytes_of, Bytes}
 use Rattle.model.specs.Case.{FileCase, known_form, per_step, with_days}
 use Rattle.model.specs.Limits.{WithinLimits}
 use Rattle.model.specs.Fields.{Check, right_all}
-use Rattle.model.specs.Layout.{day, days, Present, map_of, stands, rate_bytes_in, present_in, file_map, first_fields, layout}
+use Rattle.model.specs.Layout.{day, days, shocks_in_order, Present, map_of, stands, rate_bytes_in, present_in, file_map, first_fields, layout}
 use Rattle.model.specs.Layout.{case_from, parts_of, file_of, case_of}
-use Rattle.model.specs.inner.Positions.{rate_bytes, ufr_field}
+use Rattle.model.specs.inner.Positions.{rate_bytes, ufr_field, equity_field}
 use Rattle.model.specs.Layout.{Agrees, Keeps}
 use Rattle.model.specs.Refusals.{failing, exactly_one, bits_right, map_checks, forwards_right, checks, refusal, days_at, day_count}
 use Rattle.theory.proofs.general.Lists.{◌also◌}
@@ -76,7 +76,7 @@ module _ (file : List ℕ) (h : refusal file ≡ 0) where
   parts_are : parts_of (case_of file) ≡ (layout form shown).value file 2
   unfolding case_of
   parts_are =
-      parts-of-case form ((layout form shown).value file 2) (known_in (file_map file)) parts.0.1.0.1 parts.1.1
+      parts-of-case form ((layout form shown).value file 2) (known_in (file_map file)) parts.0.1.0.1 parts.1.0.1 refl
 
   -- its case is within the limits and agrees with those fields
   limits : WithinLimits (case_of file) × Agrees shown (case_of file)
@@ -181,16 +181,21 @@ pub no-days-refused : (file : List ℕ) (p : Present) (k : FileCase) → file �
     → failing (checks file) ≡ Some DayCount
 no-days-refused file p k e ufr =
     let (f, s, after, left) = fields-left file p (with_days 2 [] k) refl e in
-    let behind = (later_fields p).bytes (k.pension, (k.bonds, (k.amounts, (k.shocks, k.people)))) in
-    let fields = (first_fields 2 p).bytes (k.ufr, ([], (k.pension, (k.bonds, (k.amounts, (k.shocks, k.people)))))) in
-    let (value, days-on, held) = (ufr-lawful p).read file 2 k.ufr ((days 2).bytes [] ++ behind) ufr (after ∙ append-nil fields) in
+    let fields = (later_fields p).bytes (k.pension, (k.bonds, (k.amounts, (shocks_in_order k.shocks, k.people)))) in
+    let equity = (equity_field p).bytes k.shocks.equity_correlation in
+    let u = (ufr_field p).bytes k.ufr in
+    let none = (days 2).bytes [] in
+    let behind = fields ++ equity in
+    let bytes = append_assoc u (none ++ fields) equity ∙ ap (λ (l : List ℕ). u ++ l) (append_assoc none fields equity) in
+    let (value, days-on, held) = (ufr-lawful p).read file 2 k.ufr (none ++ behind) ufr (after ∙ bytes) in
     let at = (ufr_field p).end file 2 in
     let first = (ufr_field p).checks file 2 in
     let counted = (days 2).checks file at in
     let later = (later_fields p).checks file ((days 2).end file at) in
-    let last = last_checks file 2 p in
+    let own = (equity_field p).checks file ((first_fields 2 p).end file 2) in
+    let last = own ++ last_checks file 2 p in
     left
-    ∙ ap (λ (cs : List Check). failing (cs ++ last)) (append-nil (first ++ (counted ++ later)))
+    ∙ ap failing (append_assoc (first ++ (counted ++ later)) own (last_checks file 2 p))
     ∙ ap failing (append_assoc first (counted ++ later) last)
     ∙ after-hold first (counted ++ later ++ last) held
     ∙ ap failing (append_assoc counted later last)

@@ -1,5 +1,5 @@
--- A map whose bits are right is the map of the fields that it announces, and the map of some fields announces them. Where bits 8 to 15 do
--- not stand, a map is one of 256, and there are eight choices of optional fields beside each of the two days fields: both are computed,
+-- A map whose bits are right is the map of the fields that it announces, and the map of some fields announces them. Where bits 9 to 15 do
+-- not stand, a map is one of 512, and there are sixteen choices of optional fields beside each of the two days fields: both are computed,
 -- one by one.
 use mathlib.Core.Path.{◌≡◌, refl, ap, sym, ◌∙◌}
 use mathlib.Core.Bool.{Bool, true, false, ◌&&◌, not, cond}
@@ -38,13 +38,13 @@ one-days-field m h =
     let five = two && stands 5 m in
     let six = five && stands 6 m in
     first_so one (stands 2 m)
-    (first_so two (stands 5 m) (first_so five (stands 6 m) (first_so six (every (λ j. not (stands (8 + j) m)) 8) h)))
+    (first_so two (stands 5 m) (first_so five (stands 6 m) (first_so six (every (λ j. not (stands (9 + j) m)) 7) h)))
 
--- a map below 256 whose bits are right is that of the fields it announces: computed of each
+-- a map below 512 whose bits are right is that of the fields it announces: computed of each
 test : ℕ → Bool
 test m = cond (bits_right m) (eqb m (map_of (rate_bytes_in m) (present_in m))) true
 
-tested : every test 256 ≡ true
+tested : every test 512 ≡ true
 unfolding every test
 tested = refl
 
@@ -52,9 +52,9 @@ pub map-of-present : (m : ℕ) → m < 65536 → bits_right m ≡ true → map_o
 unfolding test
 map-of-present m l h =
     let must = exactly_one (stands 1 m) (stands 7 m) && stands 2 m && stands 5 m && stands 6 m in
-    let k = second_so must (every (λ j. not (stands (8 + j) m)) 8) h in
-    let z : m / 256 ≡ 0 = none_from m 8 8 k (div-eq_of_lt l) in
-    let t = every-at test 256 m tested (omega arith) in
+    let k = second_so must (every (λ j. not (stands (9 + j) m)) 7) h in
+    let z : m / 512 ≡ 0 = none_from m 9 7 k (div-eq_of_lt l) in
+    let t = every-at test 512 m tested (omega arith) in
     sym (eqb-true m (map_of (rate_bytes_in m) (present_in m)) (rw h at t))
 
 -- the other way: computed of each choice
@@ -63,24 +63,41 @@ Announced w p = (bits_right (map_of w p) ≡ true) × (map_of w p ≤ 65535) × 
 
 pub announced : (w : ℕ) (p : Present) → known_form w ≡ true → Announced w p
 unfolding every
-announced w p known = by_form (λ v. Announced v p) w known (two p.ufr p.bonds p.amounts) (four p.ufr p.bonds p.amounts)
+announced w p known =
+    by_form (λ v. Announced v p) w known (two p.ufr p.bonds p.amounts p.equity) (four p.ufr p.bonds p.amounts p.equity)
   where
-    two : (u b a : Bool) → Announced 2 (record { ufr = u; bonds = b; amounts = a })
-    two true true true = (refl, lit≤ tt, refl, refl)
-    two true true false = (refl, lit≤ tt, refl, refl)
-    two true false true = (refl, lit≤ tt, refl, refl)
-    two true false false = (refl, lit≤ tt, refl, refl)
-    two false true true = (refl, lit≤ tt, refl, refl)
-    two false true false = (refl, lit≤ tt, refl, refl)
-    two false false true = (refl, lit≤ tt, refl, refl)
-    two false false false = (refl, lit≤ tt, refl, refl)
+    two : (u b a q : Bool) → Announced 2 (record { ufr = u; bonds = b; amounts = a; equity = q })
+    two true true true true = (refl, lit≤ tt, refl, refl)
+    two true true true false = (refl, lit≤ tt, refl, refl)
+    two true true false true = (refl, lit≤ tt, refl, refl)
+    two true true false false = (refl, lit≤ tt, refl, refl)
+    two true false true true = (refl, lit≤ tt, refl, refl)
+    two true false true false = (refl, lit≤ tt, refl, refl)
+    two true false false true = (refl, lit≤ tt, refl, refl)
+    two true false false false = (refl, lit≤ tt, refl, refl)
+    two false true true true = (refl, lit≤ tt, refl, refl)
+    two false true true false = (refl, lit≤ tt, refl, refl)
+    two false true false true = (refl, lit≤ tt, refl, refl)
+    two false true false false = (refl, lit≤ tt, refl, refl)
+    two false false true true = (refl, lit≤ tt, refl, refl)
+    two false false true false = (refl, lit≤ tt, refl, refl)
+    two false false false true = (refl, lit≤ tt, refl, refl)
+    two false false false false = (refl, lit≤ tt, refl, refl)
 
-    four : (u b a : Bool) → Announced 4 (record { ufr = u; bonds = b; amounts = a })
-    four true true true = (refl, lit≤ tt, refl, refl)
-    four true true false = (refl, lit≤ tt, refl, refl)
-    four true false true = (refl, lit≤ tt, refl, refl)
-    four true false false = (refl, lit≤ tt, refl, refl)
-    four false true true = (refl, lit≤ tt, refl, refl)
-    four false true false = (refl, lit≤ tt, refl, refl)
-    four false false true = (refl, lit≤ tt, refl, refl)
-    four false false false = (refl, lit≤ tt, refl, refl)
+    four : (u b a q : Bool) → Announced 4 (record { ufr = u; bonds = b; amounts = a; equity = q })
+    four true true true true = (refl, lit≤ tt, refl, refl)
+    four true true true false = (refl, lit≤ tt, refl, refl)
+    four true true false true = (refl, lit≤ tt, refl, refl)
+    four true true false false = (refl, lit≤ tt, refl, refl)
+    four true false true true = (refl, lit≤ tt, refl, refl)
+    four true false true false = (refl, lit≤ tt, refl, refl)
+    four true false false true = (refl, lit≤ tt, refl, refl)
+    four true false false false = (refl, lit≤ tt, refl, refl)
+    four false true true true = (refl, lit≤ tt, refl, refl)
+    four false true true false = (refl, lit≤ tt, refl, refl)
+    four false true false true = (refl, lit≤ tt, refl, refl)
+    four false true false false = (refl, lit≤ tt, refl, refl)
+    four false false true true = (refl, lit≤ tt, refl, refl)
+    four false false true false = (refl, lit≤ tt, refl, refl)
+    four false false false true = (refl, lit≤ tt, refl, refl)
+    four false false false false = (refl, lit≤ tt, refl, refl)

@@ -1,6 +1,6 @@
 -- How far the fields of a file reach, and that no more of it is looked at. A field of at most `size` bytes, whose checks hold, ends at most
 -- `size` bytes after its start; and of two files that are alike up to there, the first check that fails is the same. So an accepted file
--- has at most 17,623 bytes, and the first 17,624 decide about any: where they have no other refusal, a longer file is refused with 2.
+-- has at most 17,625 bytes, and the first 17,626 decide about any: where they have no other refusal, a longer file is refused with 2.
 use mathlib.Core.Path.{◌≡◌, refl, ap, ap₂, sym, ◌∙◌}
 use mathlib.Core.Bool.{Bool, true, false, cond}
 use mathlib.Core.List.{List, [], ◌∷◌, ◌++◌}
@@ -16,12 +16,12 @@ use Rattle.std.specs.Cmp.{second_so}
 use Rattle.std.specs.Prelude.{Option, Some, None}
 use Rattle.refusal.specs.declared.Refusal.{Refusal}
 use Rattle.refusal.specs.declared.Refusal.TheVariants.{EndsEarly, BytesFollow, DayCount, Rate, Forward, FlowCount, Flow, Ufr, Amount, Shock}
-use Rattle.model.specs.Constants.{default_ufr}
+use Rattle.model.specs.Constants.{default_ufr, default_equity_correlation}
 use Rattle.model.specs.Numbers.{number, twos_complement}
 use Rattle.model.specs.Case.{units_per_step, per_step}
 use Rattle.model.specs.Fields.{Check, within, Fixed, number_of, pair_of, value_all, right_all, several, named}
 use Rattle.model.specs.Fields.{Field, field, counted, optional, ◌then◌}
-use Rattle.model.specs.Layout.{rate, days, flow, amounts_from, amounts_in_order, amounts, no_amounts, shocks_from, shocks_in_order, shocks}
+use Rattle.model.specs.Layout.{rate, days, flow, amounts_from, amounts_in_order, amounts, no_amounts, shocks}
 use Rattle.model.specs.Layout.{people_from, people_in_order, people, Present, Parts, layout}
 use Rattle.model.specs.Layout.{stands, file_map, rate_bytes_in, present_in, case_of}
 use Rattle.model.specs.Refusals.{failing, checks, map_checks, forwards_right, refusal}
@@ -184,15 +184,14 @@ amounts-read = named-read amounts_from amounts_in_order (several-read (number-re
 
 shocks-read : Read shocks
 shocks-read =
-    named-read shocks_from shocks_in_order
-    (pair-read (several-read (number-read 2 0 1000) 10) (pair-read (number-read 2 0 10000) (number-read 2 0 500)))
+    pair-read (several-read (number-read 2 0 1000) 10) (pair-read (number-read 2 0 10000) (number-read 2 0 500))
 
 people-read : Read people
 people-read =
     named-read people_from people_in_order
     (pair-read (number-read 4 1 1000000) (pair-read (number-read 2 0 1200) (number-read 2 0 1200)))
 
-two-decided : (p : Present) → Decided (layout 2 p) 9221
+two-decided : (p : Present) → Decided (layout 2 p) 9223
 two-decided p =
     (optional-decided p.ufr default_ufr (field-decided Ufr (number-read 2 0 5000))
     then_decided days-decided 2
@@ -202,8 +201,9 @@ two-decided p =
     then_decided field-decided Shock shocks-read
     then_decided field-decided Refusal.People people-read)
     then_decided absent-decided (days 4) []
+    then_decided optional-decided p.equity default_equity_correlation (field-decided Shock (number-read 2 0 1000))
 
-four-decided : (p : Present) → Decided (layout 4 p) 17621
+four-decided : (p : Present) → Decided (layout 4 p) 17623
 four-decided p =
     (optional-decided p.ufr default_ufr (field-decided Ufr (number-read 2 0 5000))
     then_decided absent-decided (days 2) []
@@ -213,30 +213,31 @@ four-decided p =
     then_decided field-decided Shock shocks-read
     then_decided field-decided Refusal.People people-read)
     then_decided days-decided 4
+    then_decided optional-decided p.equity default_equity_correlation (field-decided Shock (number-read 2 0 1000))
 
 -- ---- a whole file
 
 abbrev layout_in : List ℕ → Field Parts
 layout_in file = layout (rate_bytes_in (file_map file)) (present_in (file_map file))
 
--- of either form the fields end within 17,623 bytes
-in-layout : (b : Bool) (p : Present) → Decided (layout (cond b 4 2) p) 17621
+-- of either form the fields end within 17,625 bytes
+in-layout : (b : Bool) (p : Present) → Decided (layout (cond b 4 2) p) 17623
 in-layout true p = four-decided p
 in-layout false p = wider (two-decided p)
   where
-    wider : {A : Type 0} {f : Field A} → Decided f 9221 → Decided f 17621
+    wider : {A : Type 0} {f : Field A} → Decided f 9223 → Decided f 17623
     wider d = record {
       ends = λ file at h. omega (arith, d.ends file at h);
       same_end = λ n file front a at h. d.same_end n file front a at (omega (arith, h));
       same = λ n file front a at h. d.same n file front a at (omega (arith, h));
     }
 
-file-decided : (file : List ℕ) → Decided (layout_in file) 17621
+file-decided : (file : List ℕ) → Decided (layout_in file) 17623
 file-decided file = in-layout (stands 7 (file_map file)) (present_in (file_map file))
 
 -- an accepted file
 module _ (file : List ℕ) (h : refusal file ≡ 0) where
-  pub accepted-short : length file ≤ 17623
+  pub accepted-short : length file ≤ 17625
   unfolding refusal checks
   accepted-short =
       let fields = (layout_in file).checks file 2 in
@@ -244,33 +245,33 @@ module _ (file : List ℕ) (h : refusal file ≡ 0) where
       let (f, e) = hold-parts fields _ k in
       omega (arith, (file-decided file).ends file 2 f, leb-true (length file) ((layout_in file).end file 2) e.0)
 
-  pub front-whole : take 17624 file ≡ file
-  front-whole = take_all 17624 file (omega (arith, accepted-short))
+  pub front-whole : take 17626 file ≡ file
+  front-whole = take_all 17626 file (omega (arith, accepted-short))
 
 -- a longer file
-module _ (file : List ℕ) (long : 17624 ≤ length file) where
+module _ (file : List ℕ) (long : 17626 ≤ length file) where
   abbrev front : List ℕ
-  front = take 17624 file
+  front = take 17626 file
 
-  front-length : length front ≡ 17624
-  front-length = length-take-le 17624 file long
+  front-length : length front ≡ 17626
+  front-length = length-take-le 17626 file long
 
-  front-alike : Alike 17624 file front
+  front-alike : Alike 17626 file front
   front-alike = record {
     long = long;
     front_long = omega (arith, front-length);
-    same = λ i l. get_or-take 17624 file i 0 l;
+    same = λ i l. get_or-take 17626 file i 0 l;
   }
 
   same-map : file_map front ≡ file_map file
   unfolding file_map
-  same-map = number-alike 17624 file front front-alike 0 2 (lit≤ tt)
+  same-map = number-alike 17626 file front front-alike 0 2 (lit≤ tt)
 
   -- no file of this many bytes ends where its fields end
   abbrev last : List ℕ → List Check
   last f = (leb (length f) ((layout_in f).end f 2), BytesFollow) ∷ (forwards_right (per_step (case_of f)) (case_of f).days, Forward) ∷ []
 
-  too-long : (f : List ℕ) → 17624 ≤ length f → (layout_in f).end f 2 ≤ 17623 → failing (last f) ≡ Some BytesFollow
+  too-long : (f : List ℕ) → 17626 ≤ length f → (layout_in f).end f 2 ≤ 17625 → failing (last f) ≡ Some BytesFollow
   too-long f l e = rw (lt-leb (length f) ((layout_in f).end f 2) (omega (arith, l, e)))
 
   pub same-refusal : failing (checks front) ≡ failing (checks file)
@@ -279,13 +280,13 @@ module _ (file : List ℕ) (long : 17624 ≤ length file) where
       let d = file-decided file in
       let both : failing ((layout_in front).checks front 2) ≡ failing ((layout_in file).checks file 2) =
       ap (λ (m : ℕ). failing ((layout (rate_bytes_in m) (present_in m)).checks front 2)) same-map
-      ∙ d.same 17624 file front front-alike 2 (lit≤ tt) in
+      ∙ d.same 17626 file front front-alike 2 (lit≤ tt) in
       let end : Hold ((layout_in file).checks file 2) → (layout_in front).end front 2 ≡ (layout_in file).end file 2 =
       λ h.
       ap (λ (m : ℕ). (layout (rate_bytes_in m) (present_in m)).end front 2) same-map
-      ∙ d.same_end 17624 file front front-alike 2 (lit≤ tt) h in
+      ∙ d.same_end 17626 file front front-alike 2 (lit≤ tt) h in
       let map : failing (map_checks front) ≡ failing (map_checks file) =
-      rw (both-reach 17624 file front front-alike 2 (lit≤ tt), same-map) in
+      rw (both-reach 17626 file front front-alike 2 (lit≤ tt), same-map) in
       one-after (map_checks front) (map_checks file)
       ((layout_in front).checks front 2 ++ last front) ((layout_in file).checks file 2 ++ last file) map
       (by-fields (failing ((layout_in file).checks file 2)) refl both end)
@@ -312,9 +313,9 @@ module _ (file : List ℕ) (long : 17624 ≤ length file) where
           ∙ sym (holds-first ((layout_in file).checks file 2) (last file) k)
 
 -- every file: one of fewer bytes is its own front
-pub front-decides : (file : List ℕ) → failing (checks (take 17624 file)) ≡ failing (checks file)
-front-decides file = go (dec_le 17624 (length file))
+pub front-decides : (file : List ℕ) → failing (checks (take 17626 file)) ≡ failing (checks file)
+front-decides file = go (dec_le 17626 (length file))
   where
-    go : Dec (17624 ≤ length file) → failing (checks (take 17624 file)) ≡ failing (checks file)
+    go : Dec (17626 ≤ length file) → failing (checks (take 17626 file)) ≡ failing (checks file)
     go (yes l) = same-refusal file l
-    go (no n) = ap (λ (f : List ℕ). failing (checks f)) (take_all 17624 file (omega (arith, n)))
+    go (no n) = ap (λ (f : List ℕ). failing (checks f)) (take_all 17626 file (omega (arith, n)))

@@ -1,6 +1,6 @@
 -- The two days fields: what holds of rates of 2 bytes and of rates of 4 bytes holds of every case whose form is known. So the days of such
 -- a case are in one of the two fields, and the other is absent.
-use mathlib.Core.Path.{◌≡◌, refl, ap, sym, subst}
+use mathlib.Core.Path.{◌≡◌, refl, ap, ap₂, sym, subst}
 use mathlib.Core.Bool.{Bool, true, false, ◌||◌, cond}
 use mathlib.Core.List.{List, [], ◌++◌}
 use Prim.Native.Nat.{ℕ}
@@ -11,13 +11,12 @@ use Rattle.refusal.specs.declared.Refusal.TheVariants.{Shock}
 use Rattle.refusal.specs.declared.Refusal.TheVariants as Refusal
 use Rattle.model.specs.Case.{FileCase, known_form, with_days}
 use Rattle.model.specs.Fields.{Field, field, ◌then◌}
-use Rattle.model.specs.Layout.{days, shocks, people, Present, Parts, rate_bytes_in, stands, file_map, first_fields, layout, fields_of, case_from, parts_of, case_of}
+use Rattle.model.specs.Layout.{days, TwelveShocks, shocks_from, shocks_in_order, shocks, people, Present, Parts, rate_bytes_in, stands, file_map, first_fields, layout, fields_of, case_from, parts_of, case_of}
 use Rattle.model.specs.Refusals.{ufr_end, days_at}
 use Rattle.model.specs.declared.case.Amounts.{Amounts}
-use Rattle.model.specs.declared.case.Shocks.{Shocks}
 use Rattle.model.specs.declared.case.People.{People}
 use Rattle.theory.proofs.acceptance.Checks.{Hold, hold-parts}
-use Rattle.model.specs.inner.Positions.{rate_bytes, present, ufr_field, pension_field, bonds_field, amounts_field, pension_at, bonds_at, amounts_at, shocks_at, people_at, people_end}
+use Rattle.model.specs.inner.Positions.{rate_bytes, present, ufr_field, pension_field, bonds_field, amounts_field, equity_field, pension_at, bonds_at, amounts_at, shocks_at, people_at, people_end}
 
 pub by_form : (Q : ℕ → Type 0) (w : ℕ) → known_form w ≡ true → Q 2 → Q 4 → Q w
 by_form Q w known two four = go (eqb w 2) (eqb w 4) refl refl known
@@ -57,7 +56,7 @@ days-read file = go (stands 7 (file_map file)) (present file)
     go false p = refl
 
 -- the fields after two-byte days
-abbrev pub later_fields : Present → Field (List ℕ × (List ℕ × (Amounts × (Shocks × People))))
+abbrev pub later_fields : Present → Field (List ℕ × (List ℕ × (Amounts × (TwelveShocks × People))))
 later_fields p = pension_field then bonds_field p then amounts_field p then field Shock shocks then field Refusal.People people
 
 -- the checks of the days are among those of the fields
@@ -67,11 +66,16 @@ days-held file = go (stands 7 (file_map file)) (present file)
   where
     go : (b : Bool) (p : Present) → Hold ((layout (cond b 4 2) p).checks file 2)
         → Hold ((days (cond b 4 2)).checks file (cond b ((first_fields 4 p).end file 2) (cond p.ufr 4 2)))
-    go true p h = (hold-parts ((first_fields 4 p).checks file 2) ((days 4).checks file ((first_fields 4 p).end file 2)) h).1
+    go true p h =
+        let at = (first_fields 4 p).end file 2 in
+        let later = (equity_field p).checks file ((days 4).end file at) in
+        let last = (hold-parts ((first_fields 4 p).checks file 2) ((days 4).checks file at ++ later) h).1 in
+        (hold-parts ((days 4).checks file at) later last).0
     go false p h =
         let at = (ufr_field p).end file 2 in
         let later = (later_fields p).checks file ((days 2).end file at) in
-        let first = (hold-parts ((first_fields 2 p).checks file 2) [] h).0 in
+        let last = (equity_field p).checks file ((first_fields 2 p).end file 2) in
+        let first = (hold-parts ((first_fields 2 p).checks file 2) last h).0 in
         let on = (hold-parts ((ufr_field p).checks file 2) ((days 2).checks file at ++ later) first).1 in
         (hold-parts ((days 2).checks file at) later on).0
 
@@ -84,13 +88,19 @@ one_field w days known =
 pub case-of-parts : (k : FileCase) → known_form k.rate_bytes ≡ true → case_from k.rate_bytes (parts_of k) ≡ k
 case-of-parts k known = ap (λ (days : List (List ℤ)). with_days k.rate_bytes days k) (one_field k.rate_bytes k.days known)
 
-pub parts-of-case : (w : ℕ) (v : Parts) → known_form w ≡ true → (eqb w 2 ≡ false → v.0.1.0 ≡ []) → (eqb w 4 ≡ false → v.1 ≡ [])
+-- twelve shocks that are as many as their names
+pub parts-of-case : (w : ℕ) (v : Parts) → known_form w ≡ true → (eqb w 2 ≡ false → v.0.1.0 ≡ []) → (eqb w 4 ≡ false → v.1.0 ≡ [])
+    → shocks_in_order (shocks_from v.0.1.1.1.1.1.0 v.1.1) ≡ v.0.1.1.1.1.1.0
     → parts_of (case_from w v) ≡ v
-parts-of-case w v known no-two no-four =
+parts-of-case w v known no-two no-four twelve =
     by_form Q w known
-    (λ two four. ap (λ (days : List (List ℤ)). (v.0, days)) (sym (four refl)))
-    (λ two four. ap (λ (days : List (List ℤ)). ((v.0.0, (days, v.0.1.1)), v.1)) (sym (two refl)))
+    (λ two four. ap₂ (λ (x : TwelveShocks) (days : List (List ℤ)). parts x v.0.1.0 days) twelve (sym (four refl)))
+    (λ two four. ap₂ (λ (x : TwelveShocks) (days : List (List ℤ)). parts x days v.1.0) twelve (sym (two refl)))
     no-two no-four
   where
+    parts : TwelveShocks → List (List ℤ) → List (List ℤ) → Parts
+    parts x two four =
+        ((v.0.0, (two, (v.0.1.1.0, (v.0.1.1.1.0, (v.0.1.1.1.1.0, (x, v.0.1.1.1.1.1.1)))))), (four, v.1.1))
+
     Q : ℕ → Type 0
-    Q w = (eqb w 2 ≡ false → v.0.1.0 ≡ []) → (eqb w 4 ≡ false → v.1 ≡ []) → parts_of (case_from w v) ≡ v
+    Q w = (eqb w 2 ≡ false → v.0.1.0 ≡ []) → (eqb w 4 ≡ false → v.1.0 ≡ []) → parts_of (case_from w v) ≡ v

@@ -45,12 +45,13 @@ module _ (file : List ℕ) where
       let on = (days_field 2 w).end file at in
       let bonds = pension_field.end file on in
       let amounts = (bonds_field p).end file bonds in
+      let long = (first_fields w p).end file 2 in
       below-append 13 ((first_fields w p).checks file 2) _
       (below-append 13 ((ufr_field p).checks file 2) _ (below-if 13 p.ufr _ tt)
       (below-append 13 ((days_field 2 w).checks file at) _ (below-if 13 (eqb w 2) _ tt)
       (below-append 13 (pension_field.checks file on ++ (bonds_field p).checks file bonds) _ (below-if 13 p.bonds _ tt)
       (below-append 13 ((amounts_field p).checks file amounts) _ (below-if 13 p.amounts _ tt) tt))))
-      (below-if 13 (eqb w 4) _ tt)
+      (below-append 13 ((days_field 4 w).checks file long) _ (below-if 13 (eqb w 4) _ tt) (below-if 13 p.equity _ tt))
 
   under-thirteen : refusal file < 13
   unfolding refusal checks

@@ -13,15 +13,16 @@ use lib.Signed.{le_z}
 use Rattle.std.specs.Cmp.{first_so, second_so}
 use Rattle.refusal.specs.declared.Refusal.TheVariants.{DayCount, Rate, FlowCount, Flow, Ufr, Amount, Shock}
 use Rattle.refusal.specs.declared.Refusal.TheVariants as Refusal
-use Rattle.model.specs.Constants.{default_ufr}
+use Rattle.model.specs.Constants.{default_ufr, default_equity_correlation}
 use Rattle.model.specs.Numbers.{number, unsigned}
 use Rattle.model.specs.Case.{FileCase, known_form, units_per_step, per_step}
 use Rattle.model.specs.Limits.{Between, FlowsWithin, DayWithin, DaysWithin, forward, AmountsWithin, ShocksWithin, PeopleWithin, WithinLimits}
 use Rattle.model.specs.Fields.{within_z, number_of, counted, several}
-use Rattle.model.specs.Layout.{day, days, rate, flow, amounts_from, amounts_in_order, amounts, no_amounts, shocks_from, shocks_in_order, shocks}
+use Rattle.model.specs.Layout.{day, days, rate, flow, amounts_from, amounts_in_order, amounts, no_amounts, TwelveShocks, shocks_in_order, shocks, equity_correlation}
 use Rattle.model.specs.inner.Positions.{ufr_field}
 use Rattle.model.specs.Layout.{people_from, people_in_order, people, Present, Parts, layout, parts_of, Agrees}
 use Rattle.model.specs.Refusals.{forwards_right}
+use Rattle.model.specs.declared.case.Shocks.{Shocks}
 use Rattle.theory.proofs.general.Lists.{every-at, every-all}
 use Rattle.theory.proofs.acceptance.Encoding.{length-bytes, number_small, number-written, number_read, written-signed, read-signed}
 use Rattle.theory.proofs.acceptance.Form.{by_form}
@@ -164,12 +165,23 @@ amounts-lawful =
     (named-lawful amounts_from amounts_in_order (λ file at. refl) (λ a. refl)
     (several-lawful (upto-lawful 8 100000000000 (lit< tt)) 8))
 
-shocks-lawful : LawfulFixed shocks ShocksWithin
+abbrev pub TwelveWithin : TwelveShocks → Type 0
+TwelveWithin v = ((length v.0 ≡ 10) × WithinAll (λ n. n ≤ 1000) v.0) × ((v.1.0 ≤ 10000) × (v.1.1 ≤ 500))
+
+shocks-lawful : LawfulFixed shocks TwelveWithin
 shocks-lawful =
-    fixed-as (λ x h. search) (λ x h. search)
-    (named-lawful shocks_from shocks_in_order (λ file at. refl) (λ x. refl)
-    (pair-lawful (several-lawful (upto-lawful 2 1000 (lit< tt)) 10)
-    (pair-lawful (upto-lawful 2 10000 (lit< tt)) (upto-lawful 2 500 (lit< tt)))))
+    pair-lawful (several-lawful (upto-lawful 2 1000 (lit< tt)) 10)
+    (pair-lawful (upto-lawful 2 10000 (lit< tt)) (upto-lawful 2 500 (lit< tt)))
+
+equity-lawful : LawfulFixed equity_correlation (λ c. c ≤ 1000)
+equity-lawful = upto-lawful 2 1000 (lit< tt)
+
+-- the shocks of a case are the twelve and the correlation between the equity classes, both ways
+shocks-to : (x : Shocks) → TwelveWithin (shocks_in_order x) → x.equity_correlation ≤ 1000 → ShocksWithin x
+shocks-to x h e = search
+
+shocks-from : (x : Shocks) → ShocksWithin x → TwelveWithin (shocks_in_order x)
+shocks-from x h = search
 
 people-lawful : LawfulFixed people PeopleWithin
 people-lawful =
@@ -191,8 +203,8 @@ PartsWithin w p v =
     × (FlowsCounted 120 v.0.1.1.0
     × (IfThere p.bonds [] (FlowsCounted 60) v.0.1.1.1.0
     × (IfThere p.amounts no_amounts AmountsWithin v.0.1.1.1.1.0
-    × (ShocksWithin v.0.1.1.1.1.1.0 × PeopleWithin v.0.1.1.1.1.1.1))))))
-    × DaysIn 4 w v.1
+    × (TwelveWithin v.0.1.1.1.1.1.0 × PeopleWithin v.0.1.1.1.1.1.1))))))
+    × (DaysIn 4 w v.1.0 × IfThere p.equity default_equity_correlation (λ c. c ≤ 1000) v.1.1)
 
 pub layout-lawful : (w : ℕ) (p : Present) → Lawful (layout w p) (PartsWithin w p)
 layout-lawful w p =
@@ -204,6 +216,7 @@ layout-lawful w p =
     then_lawful field-lawful Shock (lit≤ tt) shocks-lawful
     then_lawful field-lawful Refusal.People (lit≤ tt) people-lawful)
     then_lawful optional-lawful (eqb w 4) [] (days-lawful 4 (lit< tt) (lit≤ tt))
+    then_lawful optional-lawful p.equity default_equity_correlation (field-lawful Shock (lit≤ tt) equity-lawful)
 
 -- the checks of a case in no file: nothing is said of an absent field
 abbrev pub PartsLimited : ℕ → Present → Parts → Type 0
@@ -213,8 +226,8 @@ PartsLimited w p v =
     × (FlowsCounted 120 v.0.1.1.0
     × ((p.bonds ≡ true → FlowsCounted 60 v.0.1.1.1.0)
     × ((p.amounts ≡ true → AmountsWithin v.0.1.1.1.1.0)
-    × (ShocksWithin v.0.1.1.1.1.1.0 × PeopleWithin v.0.1.1.1.1.1.1))))))
-    × (eqb w 4 ≡ true → DaysCounted 100 v.1)
+    × (TwelveWithin v.0.1.1.1.1.1.0 × PeopleWithin v.0.1.1.1.1.1.1))))))
+    × ((eqb w 4 ≡ true → DaysCounted 100 v.1.0) × (p.equity ≡ true → v.1.1 ≤ 1000))
 
 pub layout-limited : (w : ℕ) (p : Present) → Limited (layout w p) (PartsLimited w p)
 layout-limited w p =
@@ -226,6 +239,7 @@ layout-limited w p =
     then_limited field-limited Shock shocks-lawful
     then_limited field-limited Refusal.People people-lawful)
     then_limited optional-limited (eqb w 4) [] (days-limited 4 (lit< tt))
+    then_limited optional-limited p.equity default_equity_correlation (field-limited Shock equity-lawful)
 
 -- the days of a case whose form is known are in one of the two fields, both ways
 abbrev InOne : List (List ℤ) → ℕ → Type 0
@@ -249,7 +263,7 @@ module _ (p : Present) (k : FileCase) where
   pub parts-limits : known_form k.rate_bytes ≡ true → PartsWithin k.rate_bytes p (parts_of k) → ForwardsWithin (per_step k) k.days
       → WithinLimits k × Agrees p k
   unfolding number per_step
-  parts-limits known ((u, (d, (m, (b, (a, s))))), l) forwards =
+  parts-limits known ((u, (d, (m, (b, (a, (x, h)))))), (l, q)) forwards =
       let (least, most, each) = days-out k.rate_bytes k.days known (d, l) in
       let days : DaysWithin (units_per_step k.rate_bytes) k.days = record { some = least; most = most; each = each; forwards = forwards } in
       let ufr : k.ufr ≤ 5000 = either p.ufr u.0 (λ e. rw (u.1 e) (lit≤ tt)) in
@@ -258,9 +272,12 @@ module _ (p : Present) (k : FileCase) where
       either p.bonds (λ e. ((b.0 e).1, (b.0 e).2)) (λ e. rw (b.1 e) (lit≤ tt, none)) in
       let some : p.bonds ≡ true → 1 ≤ length k.bonds = λ e. (b.0 e).0 in
       let amounts : AmountsWithin k.amounts = either p.amounts a.0 (λ e. rw (a.1 e) (amounts-lawful.within no_amounts refl)) in
+      let equity : k.shocks.equity_correlation ≤ 1000 = either p.equity q.0 (λ e. rw (q.1 e) (lit≤ tt)) in
+      let shocks : ShocksWithin k.shocks = shocks-to k.shocks x equity in
       search
 
   pub limits-parts : WithinLimits k → Agrees p k → PartsWithin k.rate_bytes p (parts_of k)
   limits-parts w a =
       let (two, four) = days-in k.rate_bytes k.days w.form (w.days.some, w.days.most, w.days.each) in
+      let twelve = shocks-from k.shocks w.shocks in
       search a.bonds_there

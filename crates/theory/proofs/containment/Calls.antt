@@ -1,7 +1,7 @@
 -- What holds of every call that values a file: of every list of bytes, and of all buffers. Assumes nothing.
 use Prim.Native.Nat.{ℕ, ◌≤◌}
 use mathlib.Core.Path.{◌≡◌, refl, ap, sym, ◌∙◌}
-use mathlib.Core.Bool.{Bool, true, ◌&&◌}
+use mathlib.Core.Bool.{Bool, true, false, ◌&&◌}
 use mathlib.Core.List.{List, ◌∷◌, ◌++◌}
 use borrow.Author.Tests.{leb-true, le-leb}
 use lib.Dec.{leb}
@@ -13,17 +13,19 @@ use Rattle.refusal.specs.declared.Refusal.{Refusal}
 use Rattle.refusal.specs.declared.Refusal.TheVariants.{Buffers}
 use Rattle.model.specs.Numbers.{Bytes}
 use Rattle.model.specs.Fields.{Check}
-use Rattle.model.specs.Layout.{case_of}
+use Rattle.model.specs.Layout.{stands, file_map, case_of}
 use Rattle.model.specs.Refusals.{failing, first_of, checks, refusal}
 use Rattle.method.specs.Rounded as Rounded
 use Rattle.method.specs.Containment.{ContainmentAndWidth}
 use Rattle.method.specs.Buffers.{valuation_checks, valuation_refusal, factor_entries, rate_entries, factors_after, rates_after, answered, valuation_of}
+use Rattle.method.specs.EquityClasses.{SummedValuation}
 use Rattle.method.specs.Promises.{figures_given, RefusedCall, AcceptedCall, AcceptedExactly, Call, FiguresCall}
 use Rattle.model.specs.declared.figures.Valuation.{Valuation}
 use Rattle.theory.proofs.acceptance.Acceptance.{accepted-none, refusal-number, accepted-keeps, keeps-accepted, within-limits}
 use Rattle.theory.proofs.acceptance.Checks.{none-hold, hold-none, none-fails, first-fails}
+use Rattle.theory.proofs.money.EquityClasses.{absent-together}
 use Rattle.theory.proofs.containment.Files.{containment-of-files}
-use Rattle.theory.proofs.containment.Valued.{answered-number, case-valued}
+use Rattle.theory.proofs.containment.Valued.{answered-number, answer-summed, case-valued}
 use Rattle.theory.proofs.containment.Written.{no-refusal, figures_or, verdict_or}
 
 -- with both buffers long enough, a valuation has the refusal of its file
@@ -71,7 +73,13 @@ module _ (file : List ℕ) (factors : List ℕ) (rates : List ℤ) where
     accepted-call b =
         let p = enough h in
         let q = accepted-keeps file b p.2 in
-        record { keeps = q.0; held = q.1; valued = case-valued (case_of file) (within-limits file p.2) p.0 p.1 answer-is factors-are rates-are }
+        record {
+          keeps = q.0;
+          held = q.1;
+          valued = case-valued (case_of file) (within-limits file p.2) p.0 p.1 answer-is factors-are rates-are;
+          without_equity_field = λ absent v e.
+              answer-summed (case_of file) (within-limits file p.2) (absent-together file p.2 absent) v (sym e ∙ answer-is);
+        }
 
   accepted-exactly : Bytes file → AcceptedExactly file factors rates
   unfolding valuation_refusal
@@ -113,6 +121,13 @@ module _ (file : List ℕ) where
         rate = λ e t l m. refl;
       })
 
+  figures-summed : stands 8 (file_map file) ≡ false → (v : Valuation) → answered (failing (checks file)) (case_of file) ≡ Ok v
+      → SummedValuation (case_of file) v
+  figures-summed absent v e =
+      let none = no-refusal (failing (checks file)) (case_of file) v e in
+      let accepted = refusal-number file None none in
+      answer-summed (case_of file) (within-limits file accepted) (absent-together file accepted absent) v (rw none at (sym e))
+
   pub figures-call : Bytes file → FiguresCall file
   figures-call b = record {
     bytes = b;
@@ -122,4 +137,5 @@ module _ (file : List ℕ) where
     held = λ x. (keeps-accepted file x).1;
     answer = figures-answer;
     containment_and_width = figures-contained;
+    without_equity_field = figures-summed;
   }

@@ -9,10 +9,11 @@ use Rattle.method.specs.Containment.{Given, ContainmentAndWidth}
 use Rattle.method.specs.Promises.{EveryCall, RefusedCallsChangeNothing, AcceptedCallsGiveTheRoundedWorking, EveryFiguresCall, OfEvery, ExactWorkingIsContained}
 use Rattle.method.specs.Promises.{FactorsLieInTheirBrackets, ZeroRatesLieInTheirBrackets, MoneyLiesInItsBrackets}
 use Rattle.method.specs.Promises.{FactorsAreNarrow, ZeroRatesAreNarrow, MoneyIsNarrow}
-use Rattle.method.specs.Promises.{VerdictsAreExact, UndecidedOnlyNearABorder, NothingIsCutOff}
+use Rattle.method.specs.Promises.{VerdictsAreExact, UndecidedOnlyNearABorder, NothingIsCutOff, TogetherTheClassesAreSummed}
 use Rattle.theory.proofs.acceptance.Acceptance.{within-limits}
 use Rattle.theory.proofs.containment.Proved.{containment}
 use Rattle.theory.proofs.containment.Calls.{call, refused-call, accepted-call, figures-call}
+use Rattle.theory.proofs.money.EquityClasses.{summed, absent-together}
 
 -- ---- calls
 
@@ -91,3 +92,9 @@ nothing_is_cut_off = of-every NothingIsCutOff (λ k w. let d = met k w in record
 
 pub the_exact_working_is_contained : OfEvery ExactWorkingIsContained
 the_exact_working_is_contained = of-every ExactWorkingIsContained (λ k w. record { given = containment k w })
+
+pub classes_that_fall_together_are_summed : TogetherTheClassesAreSummed
+classes_that_fall_together_are_summed = record {
+  within_limits = summed;
+  without_field = λ file h absent. summed (case_of file) (within-limits file h) (absent-together file h absent);
+}

@@ -52,6 +52,7 @@ module _ (file : List ℕ) (none : refusal file ≡ 0) (one : stands 1 (file_map
           bonds_absent = agrees.bonds_absent;
           bonds_there = agrees.bonds_there;
           amounts_absent = agrees.amounts_absent;
+          equity_absent = agrees.equity_absent;
         };
         bytes = refl;
       }

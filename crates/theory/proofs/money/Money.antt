@@ -1,26 +1,30 @@
 -- Every money figure lies in its bracket, since each is made by steps that keep one (Steps): a difference takes the other end of what it
--- subtracts, and a maximum is taken of each end. S6 and S are roots of fractions, so their squares are compared.
+-- subtracts, and a maximum is taken of each end. S2 and S6 are roots of fractions, so their squares are compared; the square of S holds the
+-- root of S2, and is compared by squaring once more (Rooted).
 -- Assumes nothing.
 use Prim.Native.Nat.{ℕ, ◌+◌, ◌*◌, ◌^◌, ◌≤◌, ◌<◌, max}
 use mathlib.Core.Path.{◌≡◌}
 use native.Mathlib.Omega.{arith}
 use native.Mathlib.Nat.{mul-le-mul_left, mul-le-mul_right, le_of_mul-le-mul_right, mul-pos, max-eq_left, max-eq_right, max_comm, le-max_right}
 use native.Mathlib.Decide.{dec_le}
+use lib.Dec.{lit<}
 use Rattle.arith.specs.Rounding.{End, low, high, other, divide}
 use Rattle.arith.specs.Root.{root}
 use Rattle.arith.proofs.Ends.{◌and◌, ◌times◌, from, cancel, divide-end, root-end}
-use Rattle.method.specs.Fraction.{Fraction, ◌//◌, ◌+ᶠ◌, ◌*ᶠ◌, square, whole, larger, ◌≤ᶠ◌}
+use Rattle.method.specs.Fraction.{Fraction, ◌//◌, ◌+ᶠ◌, ◌*ᶠ◌, square, whole, larger, ◌≤ᶠ◌, RealRooted}
 use Rattle.model.specs.Case.{FileCase, all_except_currency, age_gap}
 use Rattle.model.specs.Limits.{WithinLimits}
 use Rattle.method.specs.Curve.{Move, base, up, down, curve}
 use Rattle.method.specs.Exact as Exact
-use Rattle.method.specs.Exact.{loss, S², S6²}
+use Rattle.method.specs.Exact.{loss, squares_of, pairs_of}
 use Rattle.method.specs.Rounded as Rounded
-use Rattle.method.specs.Rounded.{mortality}
+use Rattle.method.specs.Rounded.{class_squares, mortality}
+use Rattle.method.specs.Containment.{RootedOrdered}
 use Rattle.theory.proofs.curve.Bracket.{Bounded}
 use Rattle.theory.proofs.curve.CaseCurves.{curve-within}
 use Rattle.theory.proofs.general.Conditions.{cond-le, cond-gt}
 use Rattle.theory.proofs.curve.Steps.{exactly, same, sum, minus, prod}
+use Rattle.theory.proofs.money.Rooted.{rooted-in}
 use Rattle.theory.proofs.money.Worth.{adjusted-known, unadjusted-known, worth-in, worth-den}
 
 -- maxima: a lower end of x is also a lower end of every y that x is at most
@@ -78,39 +82,37 @@ S6-same : (x y h d : ℕ)
     ≡ x * (((960 + 9 * d * 1) * (960 + 9 * d * 1) * h + 829440000) * 1) * (y * (256000000 * h))
 S6-same x y h d = omega arith
 
-squares-sum : (c a1 a2 a3 a4 a5 a6 : ℕ)
-    → 1000 * (a1 * a1) + 1000 * (a2 * a2) + 2 * c * (a1 * a2) + 1000 * (a3 * a3) + 1000 * (a4 * a4) + 1000 * (a5 * a5) + 1000 * (a6 * a6)
-    ≡ 1000 * (a1 * a1 + a2 * a2 + a3 * a3 + a4 * a4 + a5 * a5 + a6 * a6) + 2 * c * (a1 * a2)
-squares-sum c a1 a2 a3 a4 a5 a6 = omega arith
+-- the four class losses, in tenths of a cent: the sum of their squares and of the pairs' products, with a correlation of c thousandths
+pub tenths : {e : End} (euros thousandths : ℕ) → Bounded e 10 (euros * thousandths) (loss euros thousandths)
+tenths euros thousandths = exactly (omega arith)
 
-sum-squares : (e : End) (c a1 a2 a3 a4 a5 a6 : ℕ) (x1 x2 x3 x4 x5 x6 : Fraction)
-    → Bounded e 1 a1 x1 → Bounded e 1 a2 x2 → Bounded e 1 a3 x3 → Bounded e 1 a4 x4 → Bounded e 1 a5 x5 → Bounded e 1 (a6 * a6) x6
-    → Bounded e 1000 (1000 * (a1 * a1 + a2 * a2 + a3 * a3 + a4 * a4 + a5 * a5 + a6 * a6) + 2 * c * (a1 * a2))
-    (square x1 +ᶠ square x2 +ᶠ ((2 * c) // 1000) *ᶠ (x1 *ᶠ x2) +ᶠ square x3 +ᶠ square x4 +ᶠ square x5 +ᶠ x6)
-sum-squares e c a1 a2 a3 a4 a5 a6 x1 x2 x3 x4 x5 x6 h1 h2 h3 h4 h5 h6 =
-    rw (← squares-sum c a1 a2 a3 a4 a5 a6)
-    (sum (sum (sum (sum (sum (sum (thousand (prod h1 h1)) (thousand (prod h2 h2))) (twice c (prod h1 h2))) (thousand (prod h3 h3))) (thousand (prod h4 h4)))
-    (thousand (prod h5 h5))) (thousand h6))
+pub class-squares-in : {e : End} {a1 a2 a3 a4 : ℕ} {x1 x2 x3 x4 : Fraction} (c : ℕ)
+    → Bounded e 10 a1 x1 → Bounded e 10 a2 x2 → Bounded e 10 a3 x3 → Bounded e 10 a4 x4
+    → Bounded e 100000 (class_squares c a1 a2 a3 a4) (squares_of x1 x2 x3 x4 +ᶠ ((2 * c) // 1000) *ᶠ pairs_of x1 x2 x3 x4)
+class-squares-in c h1 h2 h3 h4 =
+    sum (thousand (sum (sum (sum (prod h1 h1) (prod h2 h2)) (prod h3 h3)) (prod h4 h4)))
+    (twice c (sum (sum (sum (sum (sum (prod h1 h2) (prod h1 h3)) (prod h1 h4)) (prod h2 h3)) (prod h2 h4)) (prod h3 h4)))
+
+-- S², by its plain part and by the square of the part that holds the root
+plain_in : (e : End) (a1 a2 a3 a4 a5 a6 : ℕ) (x1 x2² x3 x4 x5 x6² : Fraction)
+    → Bounded e 1 a1 x1 → Bounded e 1 (a2 * a2) x2² → Bounded e 1 a3 x3 → Bounded e 1 a4 x4 → Bounded e 1 a5 x5 → Bounded e 1 (a6 * a6) x6²
+    → Bounded e 1 (a1 * a1 + a2 * a2 + a3 * a3 + a4 * a4 + a5 * a5 + a6 * a6)
+    (square x1 +ᶠ x2² +ᶠ square x3 +ᶠ square x4 +ᶠ square x5 +ᶠ x6²)
+plain_in e a1 a2 a3 a4 a5 a6 x1 x2² x3 x4 x5 x6² h1 h2 h3 h4 h5 h6 =
+    sum (sum (sum (sum (sum (prod h1 h1) h2) (prod h3 h3)) (prod h4 h4)) (prod h5 h5)) h6
+
+root-part-in : (e : End) (c a1 a2 : ℕ) (x1 x2² : Fraction) → Bounded e 1 a1 x1 → Bounded e 1 (a2 * a2) x2²
+    → Bounded e (1000 * 1000) (2 * c * (a1 * a2) * (2 * c * (a1 * a2))) (square (((2 * c) // 1000) *ᶠ x1) *ᶠ x2²)
+root-part-in e c a1 a2 x1 x2² h1 h2 =
+    let q : 2 * c * a1 * (2 * c * a1) * (a2 * a2) ≡ 2 * c * (a1 * a2) * (2 * c * (a1 * a2)) = omega arith in
+    rw (← q) (prod (prod (twice c h1) (twice c h1)) h2)
 
 -- the rounded numerators are those of the exact losses
-S2-same : (a b c d f g h i : ℕ)
-    → 100 * (a * f + b * g + c * h + d * i) * (1 * 1000 * (1 * 1000) * (1 * 1000) * (1 * 1000))
-    ≡ (((100 * a * f * (1 * 1000) + 100 * b * g * (1 * 1000)) * (1 * 1000) + 100 * c * h * (1 * 1000 * (1 * 1000))) * (1 * 1000)
-    + 100 * d * i * (1 * 1000 * (1 * 1000) * (1 * 1000)))
-    * 1000
-S2-same a b c d f g h i = omega arith
-
 loss-same : (a f : ℕ) → 100 * (a * f) * (1 * 1000) ≡ 100 * a * f * 1000
 loss-same a f = omega arith
 
 S5-same : (a d s r : ℕ) → 100 * (a * d * s * r) * (1 * 10 * 100000 * 1000) ≡ 100 * a * d * s * r * 10 ^ 9
 S5-same a d s r = omega arith
-
-den_pos : (s l h : ℕ) → 0 < s → 0 < l → 0 < h
-    → 0 < s * s * (10 ^ 12 * 10 ^ 12) * (1000 * (s * 10 ^ 12)) * (1000 * 1000) * (1000 * 1000) * (10 ^ 9 * 10 ^ 9) * (l * l * (230400 * h * 10000))
-den_pos s l h hs hl hh =
-    mul-pos (mul-pos (mul-pos (mul-pos (mul-pos (mul-pos (mul-pos hs hs) (omega arith)) (omega arith)) (omega arith)) (omega arith)) (omega arith))
-    (mul-pos (mul-pos hl hl) (omega arith))
 
 -- ---- the figures of a case within the limits
 module _ (k : FileCase) (w : WithinLimits k) where
@@ -148,14 +150,17 @@ module _ (k : FileCase) (w : WithinLimits k) where
   pub S1-den : 0 < (Exact.S1 k).den
   S1-den = larger-den (whole 0) (larger (Exact.fall k up) (Exact.fall k down)) (omega arith) falls-den
 
-  pub S2-in : (e : End) → Bounded e 1 (Rounded.S2 k e) (Exact.S2 k)
+  -- S2 through its square: a root of whole numbers
+  pub S2-in : (e : End) → Bounded e 1 (Rounded.S2 k e * Rounded.S2 k e) (Exact.S2² k)
   S2-in e =
       let a = k.amounts in
       let x = k.shocks in
-      let n : ℕ = a.mature * x.mature_fall + a.emerging * x.emerging_fall + a.private * x.private_fall + a.property * x.property_fall in
-      same (Exact.S2 k) (omega arith)
-      (S2-same a.mature a.emerging a.private a.property x.mature_fall x.emerging_fall x.private_fall x.property_fall)
-      (once e (100 * n) 1000 (omega arith))
+      rooted (lit< tt)
+      (class-squares-in x.equity_correlation (tenths a.mature x.mature_fall) (tenths a.emerging x.emerging_fall)
+      (tenths a.private x.private_fall) (tenths a.property x.property_fall))
+
+  pub S2-den : 0 < (Exact.S2² k).den
+  S2-den = lit< tt
 
   loss-in : (e : End) (euros thousandths : ℕ) → Bounded e 1 (divide e (100 * (euros * thousandths)) 1000) (loss euros thousandths)
   loss-in e euros thousandths =
@@ -188,12 +193,21 @@ module _ (k : FileCase) (w : WithinLimits k) where
   pub S6-den : 0 < (Exact.S6² k).den
   S6-den = mul-pos (mul-pos (L-den base) (L-den base)) (omega (arith, w.people.some))
 
-  pub S-in : (e : End) → Bounded e 1 (Rounded.S k e * Rounded.S k e) (Exact.S² k)
+  pub S-in : (e : End) → RootedOrdered e (Rounded.S k e * Rounded.S k e) (Exact.S² k)
   S-in e =
-      rooted (omega arith)
-      (sum-squares e k.shocks.correlation (Rounded.S1 k e) (Rounded.S2 k e) (Rounded.S3 k e) (Rounded.S4 k e) (Rounded.S5 k e) (Rounded.S6 k e)
-      (Exact.S1 k) (Exact.S2 k) (Exact.S3 k) (Exact.S4 k) (Exact.S5 k) (Exact.S6² k)
+      let c : ℕ = k.shocks.correlation in
+      let (s1, s2, s3, s4, s5, s6) : ℕ × ℕ × ℕ × ℕ × ℕ × ℕ =
+      (Rounded.S1 k e, Rounded.S2 k e, Rounded.S3 k e, Rounded.S4 k e, Rounded.S5 k e, Rounded.S6 k e) in
+      let plain = s1 * s1 + s2 * s2 + s3 * s3 + s4 * s4 + s5 * s5 + s6 * s6 in
+      rooted-in e (Exact.S² k) plain (2 * c * (s1 * s2)) (Rounded.S k e * Rounded.S k e)
+      (plain_in e s1 s2 s3 s4 s5 s6 (Exact.S1 k) (Exact.S2² k) (Exact.S3 k) (Exact.S4 k) (Exact.S5 k) (Exact.S6² k)
       (S1-in e) (S2-in e) (S3-in e) (S4-in e) (S5-in e) (S6-in e))
+      (root-part-in e c s1 s2 (Exact.S1 k) (Exact.S2² k) (S1-in e) (S2-in e))
+      (root-end e (1000 * plain + 2 * c * (s1 * s2)) 1000 (omega arith))
 
-  pub S-den : 0 < (Exact.S² k).den
-  S-den = den_pos (Exact.S1 k).den (Exact.L k base).den k.people.heads S1-den (L-den base) w.people.some
+  pub S-real : RealRooted (Exact.S² k)
+  S-real = (
+    mul-pos (mul-pos (mul-pos (mul-pos (mul-pos (mul-pos S1-den S1-den) S2-den) (lit< tt)) (lit< tt)) (lit< tt)) S6-den,
+    mul-pos (lit< tt) S1-den,
+    S2-den,
+  )

@@ -5,14 +5,16 @@ use Prim.Native.Nat.{ℕ, ◌+◌, ◌*◌, ◌^◌, ◌≤◌, max}
 use native.Mathlib.Omega.{arith}
 use native.Mathlib.Nat.{mul-le-mul, mul-le-mul_left, mul-le-mul_right, le_trans, le_refl}
 use Rattle.std.proofs.lemmas.Nat.{mul-le}
+use lib.Dec.{lit<, lit≤}
 use Rattle.arith.specs.Rounding.{End, low, high}
+use Rattle.arith.specs.Root.{root}
 use Rattle.arith.proofs.Rounding.{divide-le}
 use Rattle.arith.proofs.Root.{root-le}
 use Rattle.model.specs.Case.{FileCase, age_gap}
 use Rattle.model.specs.Limits.{WithinLimits}
 use Rattle.method.specs.Curve.{Curve, Move, base, up, down, curve}
 use Rattle.method.specs.Rounded as Rounded
-use Rattle.method.specs.Rounded.{mortality, buffer}
+use Rattle.method.specs.Rounded.{class_squares, mortality, buffer}
 use Rattle.method.specs.inner.CurveWithin.{CurveWithin}
 use Rattle.theory.proofs.curve.CaseCurves.{curve-within}
 use Rattle.theory.proofs.curve.Factor.{factor-ends}
@@ -31,6 +33,18 @@ buffer-most : (e : End) (c a1 a2 a3 a4 a5 a6 : ℕ) → c ≤ 1000 → buffer e 
 buffer-most e c a1 a2 a3 a4 a5 a6 h =
     root-le e (1000 * (a1 * a1 + a2 * a2 + a3 * a3 + a4 * a4 + a5 * a5 + a6 * a6) + 2 * c * (a1 * a2)) 1000 (a1 + a2 + a3 + a4 + a5 + a6) (omega arith)
     (omega (arith, mul-le-mul_right (a1 * a2) h))
+
+-- four losses of at most 10^14 tenths of a cent each, with a correlation of at most 1: the root of their squares is at most their sum, and
+-- so at most 4 × 10^13 cents
+pub classes-sum : (c m e v p : ℕ) → c ≤ 1000 → class_squares c m e v p ≤ 1000 * ((m + e + v + p) * (m + e + v + p))
+classes-sum c m e v p h = omega (arith, mul-le-mul_right (m * e + m * v + m * p + e * v + e * p + v * p) h)
+
+pub classes-most : (end : End) (c m e v p : ℕ) → c ≤ 1000 → m ≤ 10 ^ 14 → e ≤ 10 ^ 14 → v ≤ 10 ^ 14 → p ≤ 10 ^ 14
+    → root end (class_squares c m e v p) 100000 ≤ 40 * 10 ^ 12
+classes-most end c m e v p hc hm he hv hp =
+    let s : m + e + v + p ≤ 4 * 10 ^ 14 = omega arith in
+    root-le end (class_squares c m e v p) 100000 (40 * 10 ^ 12) (lit< tt)
+    (le_trans (classes-sum c m e v p hc) (le_trans (mul-le-mul_left 1000 (mul-le-mul s s)) (lit≤ tt)))
 
 module _ (k : FileCase) (w : WithinLimits k) where
   pub L-most : (m : Move) (e : End) → Rounded.L k m e ≤ 264 * 10 ^ 10
@@ -69,15 +83,12 @@ module _ (k : FileCase) (w : WithinLimits k) where
   S2-most e =
       let a = k.amounts in
       let x = k.shocks in
-      divide-le e (100 * (a.mature * x.mature_fall + a.emerging * x.emerging_fall + a.private * x.private_fall + a.property * x.property_fall)) 1000
-      (40 * 10 ^ 12) (omega arith)
-      (omega (
-        arith,
-        mul-le a.mature x.mature_fall 100000000000 1000 w.amounts.mature w.shocks.mature_fall,
-        mul-le a.emerging x.emerging_fall 100000000000 1000 w.amounts.emerging w.shocks.emerging_fall,
-        mul-le a.private x.private_fall 100000000000 1000 w.amounts.private w.shocks.private_fall,
-        mul-le a.property x.property_fall 100000000000 1000 w.amounts.property w.shocks.property_fall,
-      ))
+      classes-most e x.equity_correlation (a.mature * x.mature_fall) (a.emerging * x.emerging_fall) (a.private * x.private_fall)
+      (a.property * x.property_fall) w.shocks.equity_correlation
+      (mul-le a.mature x.mature_fall 100000000000 1000 w.amounts.mature w.shocks.mature_fall)
+      (mul-le a.emerging x.emerging_fall 100000000000 1000 w.amounts.emerging w.shocks.emerging_fall)
+      (mul-le a.private x.private_fall 100000000000 1000 w.amounts.private w.shocks.private_fall)
+      (mul-le a.property x.property_fall 100000000000 1000 w.amounts.property w.shocks.property_fall)
 
   pub S3-most : (e : End) → Rounded.S3 k e ≤ 10 * 10 ^ 12
   S3-most e =

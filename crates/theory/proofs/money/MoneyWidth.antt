@@ -1,7 +1,7 @@
 -- The widths of the money figures. S moves no more than its parts move together: it is the root of a sum of squares with a correlation
 -- of at most 1, and such a root has slope at most 1 in each part (`grow`). S1 is 2 × WL + 2 × WB wide, from two values of L and two of
--- B; S2 to S5 are rounded once, so 1 each; S6 is WL + 1, since the mortality margin is at most 1 (`slope`); and S is rounded once more.
--- That is 3 × WL + 2 × WB + 6, and 8 are allowed.
+-- B; S2 to S5 are rounded once, S2 as a root, so 1 each; S6 is WL + 1, since the mortality margin is at most 1 (`slope`); and S is
+-- rounded once more. That is 3 × WL + 2 × WB + 6, and 8 are allowed.
 -- Assumes nothing.
 use Prim.Native.Nat.{ℕ, ◌+◌, ◌*◌, ◌^◌, ◌≤◌, ◌<◌, max}
 use native.Mathlib.Omega.{arith}
@@ -14,7 +14,7 @@ use Rattle.model.specs.Case.{FileCase, age_gap}
 use Rattle.model.specs.Limits.{WithinLimits}
 use Rattle.method.specs.Curve.{Move, base, up, down, curve}
 use Rattle.method.specs.Rounded as Rounded
-use Rattle.method.specs.Rounded.{mortality, buffer}
+use Rattle.method.specs.Rounded.{class_squares, mortality, buffer}
 use Rattle.method.specs.Margins.{WL, WB}
 use Rattle.theory.proofs.curve.CaseCurves.{curve-within}
 use Rattle.theory.proofs.money.Worth.{adjusted-known, unadjusted-known, worth-width}
@@ -26,6 +26,10 @@ squares c a b x y z v = 1000 * (a * a + b * b + x * x + y * y + z * z + v * v) +
 -- past the floor root of x ÷ b, and reached by the ceiling root
 past : (x b : ℕ) → 0 < b → x ≤ (root low x b + 1) * (root low x b + 1) * b
 past x b h = omega (arith, (root-floor x b h).last)
+
+-- a root of whole numbers is at most 1 wide
+root-width : (x b : ℕ) → 0 < b → root high x b ≤ root low x b + 1
+root-width x b h = root-le high x b (root low x b + 1) h (past x b h)
 
 -- l √(p ÷ b) with p at most b: the root moves no more than l does
 slope : (l h w p b R : ℕ) → h ≤ l + w → p ≤ b → l * l * p ≤ R * R * b → h * h * p ≤ (R + w) * (R + w) * b
@@ -139,7 +143,9 @@ module _ (k : FileCase) (w : WithinLimits k) where
       (Rounded.S1 k high) (Rounded.S2 k high) (Rounded.S3 k high) (Rounded.S4 k high) (Rounded.S5 k high) (Rounded.S6 k high) (WL k) (WB k)
       w.shocks.correlation
       S1-width
-      (divide-width (100 * (a.mature * x.mature_fall + a.emerging * x.emerging_fall + a.private * x.private_fall + a.property * x.property_fall)) 1000 (omega arith))
+      (root-width
+      (class_squares x.equity_correlation (a.mature * x.mature_fall) (a.emerging * x.emerging_fall) (a.private * x.private_fall) (a.property * x.property_fall))
+      100000 (omega arith))
       (divide-width (100 * (a.currency * x.currency_fall)) 1000 (omega arith))
       (divide-width (100 * (a.commodities * x.commodities_fall)) 1000 (omega arith))
       (divide-width (100 * (a.credit * x.duration * x.spread * x.spread_rise)) (10 ^ 9) (omega arith))

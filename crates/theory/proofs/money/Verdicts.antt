@@ -1,17 +1,19 @@
 -- Each verdict given, other than undecided, is the exact one; undecided is said only within the margins. A comparison that decides sets
 -- the upper end of the smaller side against the lower end of the larger, so the exact figures, which lie in their brackets, are in that
--- order too. Undecided means that the brackets of the two sides of a border overlap, so the exact sides differ by no more than both
--- brackets are wide: 20 × WB + 21 × WL at the first border; WB for A, WL for L and 3 × WL + 2 × WB + 8 for S at the second.
+-- order too; the square of S, which holds a root, is beside the squares of its ends (Rooted). Undecided means that the brackets of the two
+-- sides of a border overlap, so the exact sides differ by no more than both brackets are wide: 20 × WB + 21 × WL at the first border; WB for
+-- A, WL for L and 3 × WL + 2 × WB + 8 for S at the second.
 -- Assumes nothing.
 use Prim.Native.Nat.{ℕ, suc, ◌+◌, ◌*◌, ◌-◌, ◌≤◌, ◌<◌}
-use mathlib.Core.Path.{◌≡◌, sym, ◌∙◌}
+use mathlib.Core.Path.{◌≡◌, ap, sym, ◌∙◌}
+use mathlib.Core.Bool.{Bool, cond}
 use mathlib.Core.Logic.{◌≢◌, ◌⊎◌, inl, inr}
 use native.Mathlib.Omega.{arith}
 use native.Mathlib.Nat.{mul-le-mul, mul-le-mul_right, mul-lt-mul_of_pos_right, mul-pos, le_of_mul-le-mul_left, lt_of_mul-lt-mul_left}
 use native.Mathlib.Decide.{dec_le}
 use Rattle.arith.specs.Rounding.{End, low, high}
 use Rattle.arith.proofs.Ends.{◌≤⟨◌⟩◌, ◌and◌, ◌times◌, from}
-use Rattle.method.specs.Fraction.{Fraction, ◌∸ᶠ◌, ◌*ᶠ◌, square, whole, ◌≤ᶠ◌}
+use Rattle.method.specs.Fraction.{Fraction, ◌+ᶠ◌, ◌∸ᶠ◌, ◌*ᶠ◌, square, whole, ◌≤ᶠ◌, Rooted, RealRooted, ◌≤ʳ◌, ◌ʳ≤◌}
 use Rattle.model.specs.Case.{FileCase}
 use Rattle.model.specs.Limits.{WithinLimits}
 use Rattle.method.specs.Curve.{base}
@@ -22,7 +24,8 @@ use Rattle.model.specs.declared.figures.Verdict.TheVariants.{Dekkingstekort, Res
 use Rattle.theory.proofs.curve.Bracket.{Bounded}
 use Rattle.theory.proofs.general.Conditions.{cond-le, cond-gt}
 use Rattle.theory.proofs.curve.Steps.{exactly, sum, minus, prod, multiple, ends}
-use Rattle.theory.proofs.money.Money.{L-in, A-in, S-in, L-den, A-den, S-den}
+use Rattle.theory.proofs.money.Rooted.{rooted-real, rooted-within, rooted-beyond, at-most-below, at-most-above, not-between}
+use Rattle.theory.proofs.money.Money.{L-in, A-in, S-in, L-den, A-den, S-real}
 use Rattle.theory.proofs.money.MoneyWidth.{L-width, A-width, S-width}
 
 -- an upper end of x below a lower end of y, or at most it
@@ -89,30 +92,27 @@ not-v : VrijVermogen ≢ Onbeslist
 not-v e = let q : ◌≡◌ {A = ℕ} 0 1 = cc in omega arith
 
 -- the exact verdict, by its two comparisons
-module _ (x y z : Fraction) where
+module _ (x y : Fraction) (z : Rooted) where
   exact-d : (whole 20 *ᶠ x).num * (whole 21 *ᶠ y).den < (whole 21 *ᶠ y).num * (whole 20 *ᶠ x).den → Exact.judge x y z ≡ Dekkingstekort
   unfolding Exact.judge
   exact-d h = cond-le (suc ((whole 20 *ᶠ x).num * (whole 21 *ᶠ y).den)) ((whole 21 *ᶠ y).num * (whole 20 *ᶠ x).den) _ _ h
 
-  exact-r : whole 21 *ᶠ y ≤ᶠ whole 20 *ᶠ x → (square (x ∸ᶠ y)).num * z.den < z.num * (square (x ∸ᶠ y)).den → Exact.judge x y z ≡ Reservetekort
+  exact-r : whole 21 *ᶠ y ≤ᶠ whole 20 *ᶠ x → (z ʳ≤ square (x ∸ᶠ y) → ⊥) → Exact.judge x y z ≡ Reservetekort
   unfolding Exact.judge
   exact-r h k =
       cond-gt (suc ((whole 20 *ᶠ x).num * (whole 21 *ᶠ y).den)) ((whole 21 *ᶠ y).num * (whole 20 *ᶠ x).den) _ _ (omega (arith, h))
-      ∙ cond-le (suc ((square (x ∸ᶠ y)).num * z.den)) (z.num * (square (x ∸ᶠ y)).den) _ _ k
+      ∙ ap (λ (b : Bool). cond b VrijVermogen Reservetekort) (rooted-beyond z (square (x ∸ᶠ y)) k)
 
-  exact-v : whole 21 *ᶠ y ≤ᶠ whole 20 *ᶠ x → z ≤ᶠ square (x ∸ᶠ y) → Exact.judge x y z ≡ VrijVermogen
+  exact-v : whole 21 *ᶠ y ≤ᶠ whole 20 *ᶠ x → z ʳ≤ square (x ∸ᶠ y) → Exact.judge x y z ≡ VrijVermogen
   unfolding Exact.judge
   exact-v h k =
       cond-gt (suc ((whole 20 *ᶠ x).num * (whole 21 *ᶠ y).den)) ((whole 21 *ᶠ y).num * (whole 20 *ᶠ x).den) _ _ (omega (arith, h))
-      ∙ cond-gt (suc ((square (x ∸ᶠ y)).num * z.den)) (z.num * (square (x ∸ᶠ y)).den) _ _ (after k)
-    where
-      after : {a b : ℕ} → a ≤ b → a < suc b
-      after h = omega arith
+      ∙ ap (λ (b : Bool). cond b VrijVermogen Reservetekort) (rooted-within z (square (x ∸ᶠ y)) k)
 
--- exact figures x, y and the square z of a third, in brackets A, L and S
-module _ (x y z : Fraction) (hx : 0 < x.den) (hy : 0 < y.den) (hz : 0 < z.den) (A L S : End → ℕ)
+-- exact figures x, y and the square z of a third, which holds a root, in brackets A, L and S
+module _ (x y : Fraction) (z : Rooted) (hx : 0 < x.den) (hy : 0 < y.den) (hz : RealRooted z) (A L S : End → ℕ)
     (xl : Bounded low 1 (A low) x) (xh : Bounded high 1 (A high) x) (yl : Bounded low 1 (L low) y) (yh : Bounded high 1 (L high) y)
-    (zl : Bounded low 1 (S low * S low) z) (zh : Bounded high 1 (S high * S high) z) where
+    (zl : whole (S low * S low) ≤ʳ z) (zh : z ʳ≤ whole (S high * S high)) where
   covered : 21 * L high ≤ 20 * A low → whole 21 *ᶠ y ≤ᶠ whole 20 *ᶠ x
   covered k = ordered (omega arith) (multiple 21 yh) (multiple 20 xl) k
 
@@ -121,12 +121,18 @@ module _ (x y z : Fraction) (hx : 0 < x.den) (hy : 0 < y.den) (hz : 0 < z.den) (
 
   right-r : 21 * L high ≤ 20 * A low → A high < L low + S low → Exact.judge x y z ≡ Reservetekort
   right-r k m =
-      exact-r x y z (covered k)
-      (apart (mul-pos (mul-pos hx hy) (mul-pos hx hy)) hz (squared (A high - L low) (omega arith) (minus high xh yl)) zl
-      (lt-square (A high - L low) (S low) (omega (arith, ends hx xl xh, ends hy yl yh))))
+      let q : Fraction = square (x ∸ᶠ y) in
+      let below : q.num * 1 < S low * S low * q.den =
+      apart {x = q} {y = whole (S low * S low)} (mul-pos (mul-pos hx hy) (mul-pos hx hy)) (omega arith)
+      (squared (A high - L low) (omega arith) (minus high xh yl)) (cents (S low * S low))
+      (lt-square (A high - L low) (S low) (omega (arith, ends hx xl xh, ends hy yl yh))) in
+      exact-r x y z (covered k) (not-between z q (S low * S low) hz.0 (rooted-real z hz) (omega (arith, below)) zl)
 
   right-v : 21 * L high ≤ 20 * A low → L high + S high ≤ A low → Exact.judge x y z ≡ VrijVermogen
-  right-v k m = exact-v x y z (covered k) (ordered (omega arith) zh (squared (S high) (omega arith) (minus low xl yh)) (omega arith))
+  right-v k m =
+      exact-v x y z (covered k)
+      (at-most-above z (square (x ∸ᶠ y)) (S high * S high) zh
+      (ordered (omega arith) (cents (S high * S high)) (squared (S high) (omega arith) (minus low xl yh)) (omega arith)))
 
   pub right : Rounded.judge A L S ≢ Onbeslist → Rounded.judge A L S ≡ Exact.judge x y z
   right n = go (dec_le (suc (20 * A high)) (21 * L low)) (dec_le (21 * L high) (20 * A low)) (dec_le (suc (A high)) (L low + S low)) (dec_le (L high + S high) (A low))
@@ -152,9 +158,11 @@ module _ (x y z : Fraction) (hx : 0 < x.den) (hy : 0 < y.den) (hz : 0 < z.den) (
     near-second h k m =
         let c : ℕ = 4 * wl + 3 * wb + 8 in
         record {
-          above = ordered (omega arith) (squared (S low) (omega arith) (minus high xh (sum yl (cents c)))) zl (omega arith);
+          above = at-most-below z (square (x ∸ᶠ (y +ᶠ whole c))) (S low * S low)
+              (ordered (omega arith) (squared (S low) (omega arith) (minus high xh (sum yl (cents c)))) (cents (S low * S low)) (omega arith)) zl;
           positive = ordered (omega arith) yh (sum xl (cents c)) (omega arith);
-          below = ordered (omega arith) zh (squared (S high) (omega arith) (minus low (sum xl (cents c)) yh)) (omega arith);
+          below = at-most-above z (square ((x +ᶠ whole c) ∸ᶠ y)) (S high * S high) zh
+              (ordered (omega arith) (cents (S high * S high)) (squared (S high) (omega arith) (minus low (sum xl (cents c)) yh)) (omega arith));
         }
 
     pub margin : Rounded.judge A L S ≡ Onbeslist → NearFirst (20 * wb + 21 * wl) x y ⊎ NearSecond (4 * wl + 3 * wb + 8) x y z
@@ -172,12 +180,12 @@ module _ (x y z : Fraction) (hx : 0 < x.den) (hy : 0 < y.den) (hz : 0 < z.den) (
 module _ (k : FileCase) (w : WithinLimits k) where
   pub verdict-right : Rounded.verdict k ≢ Onbeslist → Rounded.verdict k ≡ Exact.verdict k
   verdict-right =
-      right (Exact.A k) (Exact.L k base) (Exact.S² k) (A-den k w) (L-den k w base) (S-den k w) (Rounded.A k) (Rounded.L k base) (Rounded.S k)
+      right (Exact.A k) (Exact.L k base) (Exact.S² k) (A-den k w) (L-den k w base) (S-real k w) (Rounded.A k) (Rounded.L k base) (Rounded.S k)
       (A-in k w low) (A-in k w high) (L-in k w base low) (L-in k w base high) (S-in k w low) (S-in k w high)
 
   pub verdict-margin : Rounded.verdict k ≡ Onbeslist
       → NearFirst (first_margin k) (Exact.A k) (Exact.L k base) ⊎ NearSecond (second_margin k) (Exact.A k) (Exact.L k base) (Exact.S² k)
   verdict-margin =
-      margin (Exact.A k) (Exact.L k base) (Exact.S² k) (A-den k w) (L-den k w base) (S-den k w) (Rounded.A k) (Rounded.L k base) (Rounded.S k)
+      margin (Exact.A k) (Exact.L k base) (Exact.S² k) (A-den k w) (L-den k w base) (S-real k w) (Rounded.A k) (Rounded.L k base) (Rounded.S k)
       (A-in k w low) (A-in k w high) (L-in k w base low) (L-in k w base high) (S-in k w low) (S-in k w high)
       (WL k) (WB k) (A-width k w) (L-width k w base) (S-width k w)

@@ -11,10 +11,10 @@ use lib.ListN.{drop, length-append}
 use lib.Seq.{drop_at}
 use Rattle.model.specs.Numbers.{bytes_of, Bytes}
 use Rattle.model.specs.Case.{FileCase, known_form, with_ufr}
-use Rattle.model.specs.Layout.{shocks, people, Present, map_of, stands, file_map, days_if, file_of, case_of, Keeps}
+use Rattle.model.specs.Layout.{shocks_in_order, shocks, people, Present, map_of, stands, file_map, days_if, file_of, case_of, Keeps}
 use Rattle.model.specs.Refusals.{refusal, ufr_end}
 use Rattle.monthsmodel.specs.Months.{with_ufr_field}
-use Rattle.model.specs.inner.Positions.{days_field, pension_field, bonds_field, amounts_field}
+use Rattle.model.specs.inner.Positions.{days_field, pension_field, bonds_field, amounts_field, equity_field}
 use Rattle.theory.proofs.acceptance.Acceptance.{accepted-keeps, keeps-accepted}
 use Rattle.theory.proofs.acceptance.Bitmap.{announced}
 use Rattle.theory.proofs.acceptance.Encoding.{length-bytes, number_read}
@@ -22,16 +22,16 @@ use Rattle.theory.proofs.curve.Changed.{within-ufr}
 
 -- the same optional fields, and the UFR's
 abbrev with_field : Present → Present
-with_field p = record { ufr = true; bonds = p.bonds; amounts = p.amounts }
+with_field p = record { ufr = true; bonds = p.bonds; amounts = p.amounts; equity = p.equity }
 
 -- the bytes after the UFR
 abbrev later_bytes : Present → FileCase → List ℕ
 later_bytes p k =
     (days_field 2 k.rate_bytes).bytes (days_if 2 k) ++ (pension_field.bytes k.pension ++ ((bonds_field p).bytes k.bonds
-    ++ ((amounts_field p).bytes k.amounts ++ (shocks.bytes k.shocks ++ people.bytes k.people))))
+    ++ ((amounts_field p).bytes k.amounts ++ (shocks.bytes (shocks_in_order k.shocks) ++ people.bytes k.people))))
 
-abbrev last_bytes : FileCase → List ℕ
-last_bytes k = (days_field 4 k.rate_bytes).bytes (days_if 4 k)
+abbrev last_bytes : Present → FileCase → List ℕ
+last_bytes p k = (days_field 4 k.rate_bytes).bytes (days_if 4 k) ++ (equity_field p).bytes k.shocks.equity_correlation
 
 module _ (p : Present) (k : FileCase) (known : known_form k.rate_bytes ≡ true) where
   abbrev file : List ℕ
@@ -53,30 +53,31 @@ module _ (p : Present) (k : FileCase) (known : known_form k.rate_bytes ≡ true)
   bit-set = go p.ufr
     where
       go : (u : Bool)
-          → (let q : Present = record { ufr = u; bonds = p.bonds; amounts = p.amounts } in
+          → (let q : Present = record { ufr = u; bonds = p.bonds; amounts = p.amounts; equity = p.equity } in
           cond u (map_of k.rate_bytes q) (map_of k.rate_bytes q + 1) ≡ map_of k.rate_bytes (with_field q))
       go true = refl
       go false = omega arith
 
   -- the rest of the file
-  rest_read : drop (cond p.ufr 4 2) file ≡ later_bytes p k ++ last_bytes k
+  rest_read : drop (cond p.ufr 4 2) file ≡ later_bytes p k ++ last_bytes p k
   unfolding file_of
-  rest_read = go p.ufr p.bonds p.amounts
+  rest_read = go p.ufr p.bonds p.amounts p.equity
     where
-      go : (u b a : Bool)
-          → (let q : Present = record { ufr = u; bonds = b; amounts = a } in drop (cond u 4 2) (file_of q k) ≡ later_bytes q k ++ last_bytes k)
-      go true b a =
-          let q : Present = record { ufr = true; bonds = b; amounts = a } in
+      go : (u b a c : Bool)
+          → (let q : Present = record { ufr = u; bonds = b; amounts = a; equity = c } in
+          drop (cond u 4 2) (file_of q k) ≡ later_bytes q k ++ last_bytes q k)
+      go true b a c =
+          let q : Present = record { ufr = true; bonds = b; amounts = a; equity = c } in
           let map = bytes_of 2 (map_of k.rate_bytes q) in
           let ufr = bytes_of 2 k.ufr in
-          let rest = later_bytes q k ++ last_bytes k in
-          ap (λ (l : List ℕ). drop 4 (map ++ l)) (append_assoc ufr (later_bytes q k) (last_bytes k))
+          let rest = later_bytes q k ++ last_bytes q k in
+          ap (λ (l : List ℕ). drop 4 (map ++ l)) (append_assoc ufr (later_bytes q k) (last_bytes q k))
           ∙ ap (drop 4) (sym (append_assoc map ufr rest))
           ∙ drop_at (map ++ ufr) rest 4
           (omega (arith, length-append map ufr, length-bytes 2 (map_of k.rate_bytes q), length-bytes 2 k.ufr))
-      go false b a =
-          let q : Present = record { ufr = false; bonds = b; amounts = a } in
-          drop_at (bytes_of 2 (map_of k.rate_bytes q)) (later_bytes q k ++ last_bytes k) 2 (length-bytes 2 (map_of k.rate_bytes q))
+      go false b a c =
+          let q : Present = record { ufr = false; bonds = b; amounts = a; equity = c } in
+          drop_at (bytes_of 2 (map_of k.rate_bytes q)) (later_bytes q k ++ last_bytes q k) 2 (length-bytes 2 (map_of k.rate_bytes q))
 
   field-written : (ufr : ℕ) → with_ufr_field ufr (file_of p k) ≡ file_of (with_field p) (with_ufr ufr k)
   unfolding with_ufr_field ufr_end file_of
@@ -85,12 +86,12 @@ module _ (p : Present) (k : FileCase) (known : known_form k.rate_bytes ≡ true)
       let rest = ap (λ (b : Bool). drop (cond b 4 2) file) bit-read ∙ rest_read in
       ap₂ (λ (m : ℕ) (l : List ℕ). bytes_of 2 m ++ bytes_of 2 ufr ++ l) map rest ∙ written
     where
-      written : bytes_of 2 (map_of k.rate_bytes (with_field p)) ++ bytes_of 2 ufr ++ (later_bytes p k ++ last_bytes k)
+      written : bytes_of 2 (map_of k.rate_bytes (with_field p)) ++ bytes_of 2 ufr ++ (later_bytes p k ++ last_bytes p k)
           ≡ file_of (with_field p) (with_ufr ufr k)
       written =
-          append_assoc (bytes_of 2 (map_of k.rate_bytes (with_field p))) (bytes_of 2 ufr) (later_bytes p k ++ last_bytes k)
+          append_assoc (bytes_of 2 (map_of k.rate_bytes (with_field p))) (bytes_of 2 ufr) (later_bytes p k ++ last_bytes p k)
           ∙ ap (λ (l : List ℕ). bytes_of 2 (map_of k.rate_bytes (with_field p)) ++ l)
-          (sym (append_assoc (bytes_of 2 ufr) (later_bytes p k) (last_bytes k)))
+          (sym (append_assoc (bytes_of 2 ufr) (later_bytes p k) (last_bytes p k)))
 
 module _ (given : List ℕ) (b : Bytes given) (accepted : refusal given ≡ 0) (ufr : ℕ) (most : ufr ≤ 5000) where
   field-keeps : Keeps given → Keeps (with_ufr_field ufr given)
@@ -103,6 +104,7 @@ module _ (given : List ℕ) (b : Bytes given) (accepted : refusal given ≡ 0) (
       bonds_absent = x.agrees.bonds_absent;
       bonds_there = x.agrees.bonds_there;
       amounts_absent = x.agrees.amounts_absent;
+      equity_absent = x.agrees.equity_absent;
     };
     bytes = ap (with_ufr_field ufr) x.bytes ∙ field-written x.present x.held x.within.form ufr;
   }

@@ -48,8 +48,8 @@ module _ (w : RollingWindow) (k : FileCase) (right : rolling_right w ≡ true) (
       let least = le-leb 1 n (omega (arith, held-count w)) in
       let most = le-leb n 70 (omega (arith, held-count w, (right-facts w right).count)) in
       let days = (days-limited 2 (lit< tt)).within (days_held w) (and_from (leb 1 n) (leb n 70) least most also (right-facts w right).days also tt) in
-      let ((ufr, (own, others)), later) = limits-parts p k (case-within k accepted) agrees in
-      ((ufr, ((λ e. days, λ e. absurd (subst T e tt)), others)), (λ e. absurd (subst T (sym e) tt), λ e. refl))
+      let ((ufr, (own, others)), (long, equity)) = limits-parts p k (case-within k accepted) agrees in
+      ((ufr, ((λ e. days, λ e. absurd (subst T e tt)), others)), ((λ e. absurd (subst T (sym e) tt), λ e. refl), equity))
 
   -- ---- the case with the days held
 

@@ -39,7 +39,7 @@ case_refused_exactly_outside_limits = record { within_accepted = case-accepted; 
 pub every_case_can_be_handed_in : EveryCaseCanBeHandedIn
 every_case_can_be_handed_in = record { handed_in = case-given }
 
-saved-short : (k : FileCase) → WithinLimits k → length (shortest k) ≤ 17623
+saved-short : (k : FileCase) → WithinLimits k → length (shortest k) ≤ 17625
 saved-short k w = accepted-short (shortest k) (saved_read k w).0
 
 pub saved_files_are_short : SavedFilesAreShort

@@ -13,16 +13,16 @@ use Rattle.std.specs.Cmp.{first_so, second_so}
 use Rattle.std.specs.Prelude.{Option, None, Some}
 use Rattle.refusal.specs.Numbered.{number_in}
 use Rattle.refusal.specs.declared.Refusal.{Refusal}
-use Rattle.refusal.specs.declared.Refusal.TheVariants.{FlowCount, Flow, Ufr, Amount, Room}
-use Rattle.model.specs.Constants.{default_ufr}
+use Rattle.refusal.specs.declared.Refusal.TheVariants.{FlowCount, Flow, Ufr, Amount, Shock, Room}
+use Rattle.model.specs.Constants.{default_ufr, default_equity_correlation}
 use Rattle.model.specs.Numbers.{bytes_of}
 use Rattle.model.specs.Case.{FileCase, per_step}
 use Rattle.model.specs.Limits.{WithinLimits}
 use Rattle.model.specs.Fields.{Check, Field, number_of, field, counted, optional}
-use Rattle.model.specs.Layout.{flow, amounts_from, amounts_in_order, amounts, no_amounts, shocks, people, Present, map_of, first_fields, layout}
+use Rattle.model.specs.Layout.{flow, amounts_from, amounts_in_order, amounts, no_amounts, shocks_in_order, shocks, people, equity_correlation, Present, map_of, first_fields, layout}
 use Rattle.model.specs.Layout.{days_if, parts_of}
 use Rattle.model.specs.Layout.{file_of, case_of, Agrees, Keeps}
-use Rattle.model.specs.inner.Positions.{ufr_field, days_field, pension_field, bonds_field, amounts_field}
+use Rattle.model.specs.inner.Positions.{ufr_field, days_field, pension_field, bonds_field, amounts_field, equity_field}
 use Rattle.model.specs.Refusals.{failing, refusal}
 use Rattle.savingmodel.specs.Saving.{all_zero, needed, shortest, case_checks, case_refusal, save_checks, save_refusal}
 use Rattle.theory.proofs.general.Lists.{◌also◌}
@@ -55,6 +55,9 @@ agrees-needed k = record {
   bonds_absent = no-entry k.bonds;
   bonds_there = ltb-true 0 (length k.bonds);
   amounts_absent = λ e. no-amounts (amounts_in_order k.amounts) (not-false (all_zero (amounts_in_order k.amounts)) e);
+  equity_absent = λ e.
+      let c = k.shocks.equity_correlation in
+      eqb-true c default_equity_correlation (not-false (eqb c default_equity_correlation) e);
 }
 
 -- ---- "A case outside the limits gets the number that its file would have"
@@ -87,10 +90,12 @@ module _ (k : FileCase) where
   case-within h =
       let (known, checked) = none-hold (case_checks k) h in
       let (fields, six) = hold-parts field_checks (sixth k) checked in
-      let ((u, (d, (m, (b, (a, s))))), l) = (layout-limited k.rate_bytes (needed k)).within (parts_of k) fields in
+      let ((u, (d, (m, (b, (a, s))))), (l, q)) = (layout-limited k.rate_bytes (needed k)).within (parts_of k) fields in
       let agrees = agrees-needed k in
-      let within : PartsWithin k.rate_bytes (needed k) (parts_of k) =
-      (((u, agrees.ufr_absent), ((d, none_in 2), (m, ((b, agrees.bonds_absent), ((a, agrees.amounts_absent), s))))), (l, none_in 4)) in
+      let within : PartsWithin k.rate_bytes (needed k) (parts_of k) = (
+        ((u, agrees.ufr_absent), ((d, none_in 2), (m, ((b, agrees.bonds_absent), ((a, agrees.amounts_absent), s))))),
+        ((l, none_in 4), (q, agrees.equity_absent)),
+      ) in
       (parts-limits (needed k) k known within (forwards-true (per_step k) k.days six.0)).0
     where
       -- the other days field has no days
@@ -122,14 +127,15 @@ fewer f absent v false there h = omega arith
 fewer f absent v true true h = omega arith
 fewer f absent v true false h = absurd (subst T (h refl) tt)
 
--- the bytes of the three optional fields, and all others
+-- the bytes of the four optional fields, and all others
 abbrev pub optional_bytes : Present → FileCase → ℕ
 optional_bytes p k =
     length ((ufr_field p).bytes k.ufr) + length ((bonds_field p).bytes k.bonds) + length ((amounts_field p).bytes k.amounts)
+    + length ((equity_field p).bytes k.shocks.equity_correlation)
 
 abbrev pub other_bytes : FileCase → ℕ
 other_bytes k =
-    2 + length ((days_field 2 k.rate_bytes).bytes (days_if 2 k)) + length (pension_field.bytes k.pension) + length (shocks.bytes k.shocks)
+    2 + length ((days_field 2 k.rate_bytes).bytes (days_if 2 k)) + length (pension_field.bytes k.pension) + length (shocks.bytes (shocks_in_order k.shocks))
     + length (people.bytes k.people) + length ((days_field 4 k.rate_bytes).bytes (days_if 4 k))
 
 pub file-length : (p : Present) (k : FileCase) → length (file_of p k) ≡ optional_bytes p k + other_bytes k
@@ -141,15 +147,17 @@ file-length p k =
     let m = pension_field.bytes k.pension in
     let b = (bonds_field p).bytes k.bonds in
     let a = (amounts_field p).bytes k.amounts in
-    let s = shocks.bytes k.shocks in
+    let s = shocks.bytes (shocks_in_order k.shocks) in
     let h = people.bytes k.people in
     let l = (days_field 4 w).bytes (days_if 4 k) in
+    let q = (equity_field p).bytes k.shocks.equity_correlation in
     let first = u ++ (d ++ (m ++ (b ++ (a ++ (s ++ h))))) in
     omega (
       arith,
-      length-append (bytes_of 2 (map_of w p)) (first ++ l),
+      length-append (bytes_of 2 (map_of w p)) (first ++ (l ++ q)),
       length-bytes 2 (map_of w p),
-      length-append first l,
+      length-append first (l ++ q),
+      length-append l q,
       length-append u (d ++ (m ++ (b ++ (a ++ (s ++ h))))),
       length-append d (m ++ (b ++ (a ++ (s ++ h)))),
       length-append m (b ++ (a ++ (s ++ h))),
@@ -169,7 +177,9 @@ saved-shortest file x =
     let u = fewer (field Ufr (number_of 2 0 5000)) default_ufr k.ufr q.ufr p.ufr (λ e. rw (a.ufr_absent e)) in
     let b = fewer (counted 60 FlowCount Flow flow) [] k.bonds q.bonds p.bonds (λ e. rw (a.bonds_absent e)) in
     let m = fewer (field Amount amounts) no_amounts k.amounts q.amounts p.amounts (λ e. rw (a.amounts_absent e)) in
-    omega (arith, file-length q k, ap length x.bytes ∙ file-length p k, u, b, m)
+    let c = k.shocks.equity_correlation in
+    let n = fewer (field Shock equity_correlation) default_equity_correlation c q.equity p.equity (λ e. rw (a.equity_absent e)) in
+    omega (arith, file-length q k, ap length x.bytes ∙ file-length p k, u, b, m, n)
 
 -- ---- "then 14 when the lent buffer is shorter than the bytes needed"
 
@@ -180,12 +190,12 @@ case-below k =
     let w = k.rate_bytes in
     let p = needed k in
     below-append 14 ((layout w p).limits (parts_of k)) (sixth k)
-    (below-append 14 ((first_fields w p).limits (parts_of k).0) ((days_field 4 w).limits (days_if 4 k))
+    (below-append 14 ((first_fields w p).limits (parts_of k).0) ((days_field 4 w).limits (days_if 4 k) ++ (equity_field p).limits k.shocks.equity_correlation)
     (below-append 14 ((ufr_field p).limits k.ufr) _ (below-if 14 p.ufr _ tt)
     (below-append 14 ((days_field 2 w).limits (days_if 2 k)) _ (below-if 14 (eqb w 2) _ tt)
     (below-append 14 (pension_field.limits k.pension ++ (bonds_field p).limits k.bonds) _ (below-if 14 p.bonds _ tt)
     (below-append 14 ((amounts_field p).limits k.amounts) _ (below-if 14 p.amounts _ tt) tt))))
-    (below-if 14 (eqb w 4) _ tt))
+    (below-append 14 ((days_field 4 w).limits (days_if 4 k)) _ (below-if 14 (eqb w 4) _ tt) (below-if 14 p.equity _ tt)))
     tt
 
 under-fourteen : (k : FileCase) → case_refusal k < 14

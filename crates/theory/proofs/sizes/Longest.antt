@@ -33,6 +33,7 @@ longest_case = record {
     correlation = 0;
     spread = 0;
     duration = 0;
+    equity_correlation = 0;
   };
   people = record { heads = 1; pension_age = 0; mean_age = 0 };
 }
@@ -44,6 +45,6 @@ longest-not-refused = refl
 pub longest-within : WithinLimits longest_case
 longest-within = case-within longest_case longest-not-refused
 
-pub longest-length : length (shortest longest_case) ≡ 17623
+pub longest-length : length (shortest longest_case) ≡ 17625
 unfolding shortest file_of bytes_of
 longest-length = refl

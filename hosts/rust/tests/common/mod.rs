@@ -46,20 +46,7 @@ pub fn c1_case() -> Case {
         pension: vec![1_000_000],
         bonds: vec![],
         amounts: Amounts { cash: 1_100_000, ..Amounts::default() },
-        shocks: Shocks {
-            up_shift: 0,
-            down_shift: 0,
-            mature_fall: 0,
-            emerging_fall: 0,
-            private_fall: 0,
-            property_fall: 0,
-            currency_fall: 0,
-            commodities_fall: 0,
-            spread_rise: 0,
-            correlation: 0,
-            spread: 0,
-            duration: 0,
-        },
+        shocks: Shocks::default(),
         people: People { heads: 100, pension_age: 780, mean_age: 460 },
     }
 }
@@ -72,13 +59,15 @@ pub fn in_four_bytes(case: &Case) -> Case {
 }
 
 /// A file with days in two bytes, rewritten to four: bit 7 in place of bit 1, every rate times 100, the days after the
-/// people.
+/// people, and so before the field of bit 8.
 pub fn rewritten(file: &[u8]) -> Vec<u8> {
     let count_at = if file[1] & 1 == 1 { 4 } else { 2 };
     let (days, others) = file[count_at..].split_at(1 + 2 * DAY_RATES * usize::from(file[count_at]));
+    let (others, equity) = others.split_at(others.len() - 2 * usize::from(file[0] & 1));
     let rates = days[1..].chunks(2).map(|pair| 100 * i32::from(i16::from_be_bytes([pair[0], pair[1]])));
     let mut all = [&[file[0], file[1] ^ 0x82], &file[2..count_at], others, &days[..1]].concat();
     all.extend(rates.flat_map(i32::to_be_bytes));
+    all.extend(equity);
     all
 }
 

@@ -17,7 +17,7 @@ returns-in_err-check-2-clause-refusal c =
     let l = c.layout-announced.ensures in
     rw (refused _ _ c.from_residual-in_err-check-2.ensures)
     (field-refused k.fields.now k.rates.now k.pension.now k.bonds.now c.is_form.ensures c.in_ok-check.ensures.checked.0 (present_of c.needed.result) c.needed.ensures
-    c.map_of.ensures l.ufr l.short l.bonds l.amounts l.long c.parts_of-parts.ensures c.in_err-check-2.field-0.0 c.in_err-check-2.ensures)
+    c.map_of.ensures l.ufr l.short l.bonds l.amounts l.long l.equity c.parts_of-parts.ensures c.in_err-check-2.field-0.0 c.in_err-check-2.ensures)
 
 pub returns-in_err-forwards_of-clause-refusal : goal.returns-in_err-forwards_of-clause-refusal
 returns-in_err-forwards_of-clause-refusal c =
@@ -25,7 +25,7 @@ returns-in_err-forwards_of-clause-refusal c =
     let l = c.layout-announced.ensures in
     rw (refused _ _ c.from_residual-in_err-forwards_of.ensures)
     (six-refused k.fields.now k.rates.now k.pension.now k.bonds.now c.is_form.ensures c.in_ok-check.ensures.checked.0 (present_of c.needed.result) c.needed.ensures
-    c.map_of.ensures l.ufr l.short l.bonds l.amounts l.long c.parts_of-parts.ensures (sym c.in_ok-check-2.ensures) c.in_err-forwards_of.field-0.0
+    c.map_of.ensures l.ufr l.short l.bonds l.amounts l.long l.equity c.parts_of-parts.ensures (sym c.in_ok-check-2.ensures) c.in_err-forwards_of.field-0.0
     c.in_err-forwards_of.ensures)
 
 pub returns-clause-refusal : goal.returns-clause-refusal
@@ -33,18 +33,18 @@ returns-clause-refusal c =
     let k = c.args.case.now in
     let l = c.layout-announced.ensures in
     accepted k.fields.now k.rates.now k.pension.now k.bonds.now c.is_form.ensures c.in_ok-check.ensures.checked.0 (present_of c.needed.result) c.needed.ensures
-    c.map_of.ensures l.ufr l.short l.bonds l.amounts l.long c.parts_of-parts.ensures (sym c.in_ok-check-2.ensures) c.in_ok-forwards_of.ensures
+    c.map_of.ensures l.ufr l.short l.bonds l.amounts l.long l.equity c.parts_of-parts.ensures (sym c.in_ok-check-2.ensures) c.in_ok-forwards_of.ensures
 
 pub returns-clause-limits : goal.returns-clause-limits
 returns-clause-limits c =
     let k = c.args.case.now in
     let l = c.layout-announced.ensures in
     limits-hold k.fields.now k.rates.now k.pension.now k.bonds.now c.is_form.ensures c.in_ok-check.ensures.checked.0 (present_of c.needed.result) c.needed.ensures
-    c.map_of.ensures l.ufr l.short l.bonds l.amounts l.long c.parts_of-parts.ensures (sym c.in_ok-check-2.ensures)
+    c.map_of.ensures l.ufr l.short l.bonds l.amounts l.long l.equity c.parts_of-parts.ensures (sym c.in_ok-check-2.ensures)
 
 pub returns-clause-bytes : goal.returns-clause-bytes
 returns-clause-bytes c =
     let k = c.args.case.now in
     let l = c.layout-announced.ensures in
     file_is k.fields.now k.rates.now k.pension.now k.bonds.now c.is_form.ensures c.in_ok-check.ensures.checked.0 (present_of c.needed.result) c.needed.ensures
-    c.map_of.ensures l.ufr l.short l.bonds l.amounts l.long c.parts_of-parts.ensures
+    c.map_of.ensures l.ufr l.short l.bonds l.amounts l.long l.equity c.parts_of-parts.ensures

@@ -94,8 +94,17 @@ def sections(text):
     return re.findall(r"^## (.*)$", re.sub(r"^```.*?^```", "", text, flags=re.M | re.S), re.M)
 
 
+def after_patch(text):
+    """The lines that a patch leaves or adds, without their marks, in the places where they were."""
+    return re.sub(r"^[+ ]", "", text, flags=re.M)
+
+
 def unknown_sections(path, text, known):
-    """The places where a comment or a page cites a section of METHOD that is not there. A name may go on in the next line."""
+    """The places where a comment or a page cites a section of METHOD that is not there. A name may go on in the next line. A patch may
+    cite the sections that it brings."""
+    if path.endswith(".patch"):
+        text = after_patch(text)
+        known = known + sections(text)
     names = sorted(known, key=len, reverse=True)
     found = []
     for match in re.finditer(r"\bMETHOD," + GAP + r"(?=[A-Z])", text):
@@ -204,6 +213,14 @@ class TestOfTheTest(unittest.TestCase):
         for wrong in ("Refusal.", "The case", "Buffers, window", "Refusalsome", "Nothing"):
             self.assertEqual(len(unknown_sections("x", "See " + cite + wrong, known)), 1, wrong)
         self.assertEqual(unknown_sections("x", "METHOD" ", in its words", known), [])
+
+    def test_sections_of_a_patch(self):
+        cite = "+METHOD" ", "
+        right = "+++ b/docs/METHOD.md\n@@ -1,2 +1,3 @@\n # Method\n+## A new one\n"
+        for words in ("Refusals", "A new one", "A new\n+one"):
+            self.assertEqual(unknown_sections("x.patch", right + cite + words, ["Refusals"]), [], words)
+        self.assertEqual(len(unknown_sections("x.patch", right + cite + "Another", ["Refusals"])), 1)
+        self.assertEqual(len(unknown_sections("x.txt", right + cite + "A new one", ["Refusals"])), 1)
 
     def test_quotations(self):
         text = '-- A rate, "each 2\n-- bytes"; not "this" .. and "The map .. in bit order."\nx = "code"\n'

@@ -9,7 +9,7 @@ mod row;
 use batch::Stopped;
 use refusal::Refusal;
 use std::io;
-use std::io::{BufWriter, Write};
+use std::io::Write;
 
 fn print_answers<W: Write>(out: &mut W, file: &[u8]) -> io::Result<()> {
     reading::print_reading(out, file)?;
@@ -17,12 +17,12 @@ fn print_answers<W: Write>(out: &mut W, file: &[u8]) -> io::Result<()> {
     buffers::print_buffers(out, file)
 }
 
-// Ends with 1 where an answer cannot be written, and with 0 where the input cannot be read. The output is buffered, since a write for each
-// number would take most of a run's time.
+// Ends with 1 where an answer cannot be written, and with 0 where the input cannot be read. Nothing is held back: the answers of a file are
+// out before the next is read, for a caller who waits for them.
 fn main(rt: HostRuntime) -> io::Result<()> {
-    let mut out = BufWriter::new(rt.alloc(), rt.stdout())?;
+    let mut out = rt.stdout();
     match batch::for_each(&mut rt.stdin(), |file| print_answers(&mut out, file)) {
-        Ok(()) | Err(Stopped::Read(_)) => out.flush(),
+        Ok(()) | Err(Stopped::Read(_)) => Ok(()),
         Err(Stopped::Write(error)) => Err(error),
     }
 }

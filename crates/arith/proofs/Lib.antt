@@ -3,7 +3,7 @@ pub mod Rounding
 pub mod Root
 pub mod Ends
 pub mod LongDivision
-pub mod Roots
+pub mod Bisection
 pub mod Units
 pub mod Worked
 pub mod Plain

@@ -1,11 +1,37 @@
--- A number times a ratio, by how many units the ratio is, rounded down: exact at either end, where the number times the divisor is below
--- the units of 1. Assumes nothing.
-use Prim.Native.Nat.{ℕ, ◌+◌, ◌-◌, ◌*◌, ◌/◌, ◌^◌, ◌≤◌, ◌<◌}
-use mathlib.Core.Path.{◌≡◌, subst, sym}
-use native.Mathlib.Nat.{mul-le-mul, mul-le-mul_left, mul-le-mul_right, lt_of_mul-lt-mul_right, div-mul-le_self, lt-div-mul-add}
+-- How many units a ratio is, rounded down, by a division in three digits; and a number times a ratio by these units: exact at either end,
+-- where the number times the divisor is below the units of 1. Assumes nothing.
+use Prim.Native.Nat.{ℕ, ◌+◌, ◌-◌, ◌*◌, ◌/◌, ◌%◌, ◌^◌, ◌≤◌, ◌<◌}
+use mathlib.Core.Path.{◌≡◌, subst, sym, ap, ◌∙◌}
+use native.Mathlib.Nat.{mul-le-mul, mul-le-mul_left, mul-le-mul_right, lt_of_mul-lt-mul_right, div-mul-le_self, lt-div-mul-add, div-add-mod', mod-lt}
 use native.Mathlib.Omega.{arith}
+use lib.Arith.{digits_div}
 use Rattle.arith.specs.Rounding.{low, high, divide}
 use Rattle.arith.proofs.Rounding.{divide-low-is, divide-high-is}
+
+-- what each digit leaves is divided for the next: 2^28 units, and twice 2^26 for each of these
+joined : (a b p q r s t u : ℕ)
+    → p * b + s ≡ a * 268435456 → q * b + t ≡ s * 67108864 → r * b + u ≡ t * 67108864
+    → ((p * 67108864 + q) * 67108864 + r) * b + u ≡ a * 2 ^ 80
+joined a b p q r s t u e f g = omega arith
+
+-- the numbers on the way
+abbrev first : ℕ → ℕ
+first a = a * 268435456
+
+abbrev second : (a b : ℕ) → ℕ
+second a b = first a % b * 67108864
+
+abbrev third : (a b : ℕ) → ℕ
+third a b = second a b % b * 67108864
+
+abbrev units : (a b : ℕ) → ℕ
+units a b = (first a / b * 67108864 + second a b / b) * 67108864 + third a b / b
+
+pub three-digits : (a b : ℕ) → 0 < b → units a b ≡ a * 2 ^ 80 / b
+three-digits a b some =
+    let whole : units a b * b + third a b % b ≡ a * 2 ^ 80 =
+    joined a b _ _ _ _ _ _ (div-add-mod' (first a) b) (div-add-mod' (second a b) b) (div-add-mod' (third a b) b) in
+    sym (ap (λ (n : ℕ). n / b) (sym whole) ∙ digits_div (units a b) (mod-lt (third a b) some))
 
 -- by the properties of the two quotients: v of the ratio, k of the product
 module _ (x a b u v k : ℕ) (some : 0 < b) (fits : x * b < u) (least : v * b ≤ a * u) (last : a * u < v * b + b) where

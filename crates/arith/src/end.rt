@@ -9,6 +9,8 @@ ghost use Rattle.arith.specs.Root.{root};
 ghost use Rattle.arith.specs.Brackets.{end_of};
 
 use super::bracket::Bracket;
+use super::digits::Wide;
+use super::halving::{root_ceil, root_floor};
 use super::ratio::{Ratio, UNITS};
 
 /// An end of a bracket. A lower number rounds down at every step, an upper one up.
@@ -59,7 +61,7 @@ impl End for Low {
     }
 
     fn root(n: u128, d: u64) -> u64 {
-        (n / d as u128).isqrt() as u64
+        root_floor(Wide::of(n), d)
     }
 }
 
@@ -79,10 +81,7 @@ impl End for High {
         ((x as u128 * ratio.units + (UNITS - 1)) / UNITS) as u64
     }
 
-    // One more than rounded down, where that is not exact.
     fn root(n: u128, d: u64) -> u64 {
-        let r = Low::root(n, d);
-        let square = r as u128 * r as u128;
-        if square * d as u128 == n { r } else { r + 1 }
+        root_ceil(Wide::of(n), d)
     }
 }

@@ -1,4 +1,4 @@
-// A ratio by which numbers are multiplied again and again: one division serves all of them.
+// A ratio by which numbers are multiplied again and again: it is divided once for all of them.
 ghost use Rattle.std.specs.Prelude.{◌≡◌, ◌*◌, ◌/◌, ◌^◌, ◌≤◌, ◌<◌};
 
 /// The units of 1: 2^80.
@@ -19,15 +19,20 @@ pub struct Ratio {
 }
 
 impl Ratio {
-    /// The ratio of two numbers, by one division of 128 bits.
+    /// The ratio of two numbers, divided by hand in digits of 28, 26 and 26 bits: what is left each time is below 2^34, so that the next
+    /// digit takes a division of 64 bits. One of 128 bits is a function of the compiler's library, which a host need not have.
     pub fn of(dividend: u64, divisor: u64) -> Ratio
         requires { (0 < divisor) × (divisor ≤ 2 ^ 34) × (dividend ≤ 2 * divisor) }
         ensures { (result.dividend ≡ dividend) × (result.divisor ≡ divisor) }
     {
+        let first = dividend * 0x1000_0000;
+        let second = first % divisor * 0x400_0000;
+        let third = second % divisor * 0x400_0000;
+        let upper = first / divisor * 0x400_0000 + second / divisor;
         Ratio {
             dividend,
             divisor,
-            units: dividend as u128 * UNITS / divisor as u128,
+            units: upper as u128 * 0x400_0000 + (third / divisor) as u128,
         }
     }
 }

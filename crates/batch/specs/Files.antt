@@ -13,6 +13,14 @@ pub record NextFile (before : Option (List ℕ)) (file : List ℕ) (after : Opti
   pub most : length file ≤ wanted
   pub cut : length file < wanted → IsAtEnd after
 
+-- the reader has lost the length of a file, and of the file what came before a read failed
+pub record FileCut (before : Option (List ℕ)) (file : List ℕ) (after : Option (List ℕ)) : Type 0 where
+  pub wanted : ℕ
+  pub middle : Option (List ℕ)
+  pub told : LengthRead before middle wanted
+  pub lost : Consumes middle after file
+  pub most : length file ≤ wanted
+
 -- no file follows that there is room for: fewer than the four bytes of a length are left, or it is above 100,000
 abbrev pub NoFile : Option (List ℕ) → Type 0
 NoFile before = IfSome before (λ bytes. length bytes < 4)

@@ -2,15 +2,19 @@
 // highest first.
 #![tactic(auto)]
 
-ghost use Rattle.std.specs.Prelude.{◌<◌, ◌≤◌, ◌≡◌, IfErr, IfOk, Ok, Err, OnOk, length, drop};
+ghost use Rattle.std.specs.Prelude.{◌<◌, ◌≤◌, ◌≡◌, ◌⊎◌, IfErr, IfOk, Ok, Err, OnOk, length, take, drop};
 ghost use Rattle.std.specs.Fn.{CalledAt};
-ghost use Rattle.std.specs.Io.KnownBytes.{IsAtEnd};
+ghost use Rattle.std.specs.Io.KnownBytes.{Consumes, IsAtEnd};
 ghost use Rattle.batch.specs.Files.{Visited};
-ghost use Rattle.batch.specs.Input.{LosesFront, LosesCount, LengthGiven, FileGiven};
+ghost use Rattle.batch.specs.Unread.{VisitedBefore};
+ghost use Rattle.batch.specs.Input.{LosesFront, LosesCount, end_of_input, LengthOrEnd, LengthRead, LengthGiven, IsPrefixLen, FileRead, FileGiven};
 ghost use Rattle.batch.specs.declared.Stopped.TheVariants.{Write};
 
 use std::io;
 use std::io::Read;
+
+// No file is so long: what next_length answers at the end of the input.
+const END: usize = usize::MAX;
 
 // What for_each has room for.
 const MOST_BYTES: usize = 100_000;
@@ -53,7 +57,7 @@ pub fn read_full<R: Read>(input: &mut R, buf: &mut [u8]) -> Result<usize, Cut>
 }
 
 /// The length before the next file; none at the end of the input, where fewer than its four bytes are left.
-pub fn next_length<R: Read>(input: &mut R) -> Result<Option<usize>, Cut>
+pub fn try_next_length<R: Read>(input: &mut R) -> Result<Option<usize>, Cut>
     ensures length { IfOk result (LengthGiven (R.remaining input.old) (R.remaining input.new)) }
     ensures failed { IfErr result (λ cut. (cut.count ≤ 4) × LosesCount (R.remaining input.old) (R.remaining input.new) cut.count) }
 {
@@ -68,7 +72,7 @@ pub fn next_length<R: Read>(input: &mut R) -> Result<Option<usize>, Cut>
 /// Reads the next `wanted` bytes to the front of `buf`, and answers how many there were; none, and nothing is read, where `buf` is
 /// shorter. What `buf` holds between that count and `wanted` is not said: a read may leave anything there. `wanted` is given beside `buf`,
 /// since the caller has one buffer for files of any length, and a file that is too long for it is no error.
-pub fn read_file<R: Read>(
+pub fn try_read_file<R: Read>(
     input: &mut R,
     wanted: usize,
     buf: &mut [u8],
@@ -85,26 +89,60 @@ pub fn read_file<R: Read>(
     Ok(Some(count))
 }
 
-/// Calls `visit` with each file in turn; of a file that the input cuts short, with what there is. It ends well where the input does, or a
-/// file has more than 100,000 bytes. After an error, of a read or of `visit`, no file is read.
+/// The length before the next file; at the end of the input, and where a read fails, one that no buffer has.
+pub fn next_length<R: Read>(input: &mut R) -> usize
+    ensures range { LengthOrEnd result }
+    ensures bytes { (result ≡ end_of_input) ⊎ LengthRead (R.remaining input.old) (R.remaining input.new) result }
+{
+    match try_next_length(input) {
+        Ok(Some(length)) => length,
+        Ok(None) | Err(_) => END,
+    }
+}
+
+/// Reads the next so many bytes to the front of `buf`, and answers how many there were, also where a read fails; 0, and nothing is read,
+/// where `buf` is shorter. What `buf` holds between that count and `length` is not said: a read may leave anything there.
+pub fn read_file<R: Read>(input: &mut R, length: usize, buf: &mut [u8]) -> usize
+    ensures count { IsPrefixLen result buf.new }
+    ensures read { FileRead length result buf.old buf.new }
+    ensures bytes { Consumes (R.remaining input.old) (R.remaining input.new) (take result buf.new) }
+{
+    if buf.len() < length {
+        return 0;
+    }
+    match read_full(input, &mut buf[..length]) {
+        Ok(count) => count,
+        Err(cut) => cut.count,
+    }
+}
+
+/// Calls `visit` with each file in turn; of a file that the input or a failed read cuts short, with what there is. It ends well where the
+/// input does, or a file has more than 100,000 bytes. After an error, of a read or of `visit`, no file is read.
 pub fn for_each<R: Read, F: FnMut(&[u8]) -> io::Result<()>>(
     input: &mut R,
     mut visit: F,
 ) -> Result<(), Stopped>
     requires { F.IsAlwaysCallable visit }
     ensures visited { OnOk result (Visited (λ f file g. CalledAt F.FnMut f file (Ok tt) g) visit (R.remaining input.old)) }
+    ensures unread { IfErr result (VisitedBefore (λ f file g. CalledAt F.FnMut f file (Ok tt) g) visit (R.remaining input.old) (R.remaining input.new)) }
     ensures stopped { IfErr result (λ stopped. (error : _) → stopped ≡ Write error → (state : F) × (file : _) × F.post state file (Err error)) }
 {
     let mut buf = [0u8; MOST_BYTES];
     // A proved loop has to end, and nothing says that the input does. No run uses up the turns.
     for _ in 0..u64::MAX {
-        let Some(wanted) = next_length(input).map_err(Stopped::Read)? else {
-            return Ok(());
+        let wanted = match try_next_length(input) {
+            Ok(None) => return Ok(()),
+            Ok(Some(wanted)) => wanted,
+            Err(cut) => return Err(Stopped::Read(cut)),
         };
-        let Some(count) = read_file(input, wanted, &mut buf).map_err(Stopped::Read)? else {
-            return Ok(());
-        };
-        visit(&buf[..count]).map_err(Stopped::Write)?;
+        match try_read_file(input, wanted, &mut buf) {
+            Ok(None) => return Ok(()),
+            Ok(Some(count)) => visit(&buf[..count]).map_err(Stopped::Write)?,
+            Err(cut) => {
+                visit(&buf[..cut.count]).map_err(Stopped::Write)?;
+                return Err(Stopped::Read(cut));
+            }
+        }
     }
     Ok(())
 }

@@ -10,7 +10,7 @@ ghost use Rattle.method.specs.Promises.{Call, FiguresCall};
 use model::figures::Valuation;
 use reader::file::read;
 use refusal::Refusal;
-use working::{money_of, value_case};
+use working::{money_of, value_into};
 
 /// Values a case file into two lent buffers, for factors and for zero rates, lower and upper, term by term. A buffer of fewer than
 /// 240 entries is `Buffers`, ahead of all; a refused file has its own refusal. A refusal leaves both buffers as they were. Hosts in C lend
@@ -25,7 +25,7 @@ pub fn value(file: &[u8], factors: &mut [u64], rates: &mut [i64]) -> Result<Valu
     let rates = rates.first_chunk_mut().ok_or(Refusal::Buffers)?;
     // Not by `?`, which gets no proof of a result that holds a case: contracts see its flows as lists.
     match read(file) {
-        Ok(reading) => Ok(value_case(&reading.case, factors, rates)),
+        Ok(reading) => Ok(value_into(&reading.case, factors, rates)),
         Err(refusal) => Err(refusal),
     }
 }

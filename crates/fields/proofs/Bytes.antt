@@ -2,9 +2,10 @@
 use Prim.Native.Nat.{ℕ, zero, suc, ◌+◌, ◌*◌, ◌-◌, ◌/◌, ◌%◌, ◌^◌, ◌≤◌, ◌<◌}
 use mathlib.Core.Path.{◌≡◌, refl, ap, ap₂, sym, ◌∙◌}
 use mathlib.Core.List.{List, [], ◌∷◌, ◌++◌, append_assoc, append-nil}
-use native.Mathlib.Nat.{pow-succ', div-div-eq-div-mul}
+use native.Mathlib.Nat.{pow-suc, pow-succ', div-div-eq-div-mul, div-lt_iff_lt-mul}
 use native.Mathlib.Numerals.{add-one}
 use native.Mathlib.Omega.{arith}
+use lib.Dec.{lit<}
 use lib.ListN.{length, take, drop, get_or, length-append}
 use lib.Seq.{take-suc, take_all}
 use Rattle.std.specs.Int.{byte_at, bytes_high_first}
@@ -38,6 +39,25 @@ pub last-bytes : (w n : ℕ) → w ≤ 8 → take (8 - (8 - w)) (drop (8 - w) (b
 last-bytes w n h =
     ap (take (8 - (8 - w))) (drop-high (8 - w) 8 w n (omega arith) ∙ high-bytes w n)
     ∙ take_all (8 - (8 - w)) (bytes_of w n) (omega (arith, length-bytes w n))
+
+-- ---- a number in more bytes than it has
+
+pub zero-more : (k : ℕ) → bytes_of k 0 ++ (0 ∷ []) ≡ bytes_of (k + 1) 0
+unfolding bytes_of
+zero-more k = rw add-one refl
+
+pub zeros-first : (d w n v : ℕ) → n ≡ d + w → v < 256 ^ w → bytes_of d 0 ++ bytes_of w v ≡ bytes_of n v
+unfolding bytes_of
+zeros-first d zero n v e l =
+    let none : v < 1 = l in
+    let nothing : 0 ≡ v = omega arith in
+    let same : d ≡ n = omega arith in
+    append-nil (bytes_of d 0) ∙ ap₂ bytes_of same nothing
+zeros-first d (suc w) zero v e l = let never : ⊥ = omega arith in absurd never
+zeros-first d (suc w) (suc n) v e l =
+    let q : v / 256 < 256 ^ w = (div-lt_iff_lt-mul (lit< tt)).1 (rw pow-suc at l) in
+    sym (append_assoc (bytes_of d 0) (bytes_of w (v / 256)) (v % 256 ∷ []))
+    ∙ ap (λ (bs : List ℕ). bs ++ (v % 256 ∷ [])) (zeros-first d w n (v / 256) (omega arith) q)
 
 -- ---- runs
 

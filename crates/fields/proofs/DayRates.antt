@@ -26,11 +26,11 @@ rate-small w r h = go (eqb w 4) (between-true h)
     go true h = record { least = omega (arith, ints, h.least, h.most); most = omega (arith, ints, h.most) }
     go false h = record { least = omega (arith, ints, h.least, h.most); most = omega (arith, ints, h.most) }
 
-pub sum-fits : (s r : ℤ) → Between (neg_ℤ (pos 69000000)) (pos 69000000) s → Between (neg_ℤ (pos 1000000)) (pos 1000000) r
+pub sum-fits : (s r : ℤ) → Between (neg_ℤ (pos 254000000)) (pos 254000000) s → Between (neg_ℤ (pos 1000000)) (pos 1000000) r
     → FitsSigned w64 (to_z w64 (of_z w64 s) +ℤ to_z w64 (of_z w64 r))
 sum-fits s r h k = omega (arith, ints, h.least, h.most, k.least, k.most)
 
-pub sum-is : (s r : ℤ) → Between (neg_ℤ (pos 69000000)) (pos 69000000) s → Between (neg_ℤ (pos 1000000)) (pos 1000000) r
+pub sum-is : (s r : ℤ) → Between (neg_ℤ (pos 254000000)) (pos 254000000) s → Between (neg_ℤ (pos 1000000)) (pos 1000000) r
     → to_z w64 (of_z w64 (to_z w64 (of_z w64 s) +ℤ to_z w64 (of_z w64 r))) ≡ s +ℤ r
 sum-is s r h k = omega (arith, ints, h.least, h.most, k.least, k.most)
 

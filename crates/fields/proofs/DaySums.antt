@@ -81,10 +81,10 @@ module _ (w : ℕ) where
       go true = omega arith
       go false = omega arith
 
-  -- room for one day more
-  pub sums-room : (ds : List (List ℤ)) → right_all (day w) ds ≡ true → length ds ≤ 69 → Bounded 69000000 (sums_of ds)
-  sums-room ds h l =
-      let few = mul-le-mul {n₁ = units} {m₁ = length ds} {n₂ = 100} {m₂ = 69} few-units l in record {
+  -- n days leave room for one day more
+  pub sums-room : (n : ℕ) (ds : List (List ℤ)) → right_all (day w) ds ≡ true → length ds ≤ n → Bounded (1000000 * n) (sums_of ds)
+  sums-room n ds h l =
+      let few = mul-le-mul {n₁ = units} {m₁ = length ds} {n₂ = 100} {m₂ = n} few-units l in record {
         each = λ t k.
             let b = sum-bound ds h t k in
             let e = get_or-table (λ t. s ds (suc t)) 60 t (pos 0) k in
@@ -175,8 +175,8 @@ sums-bounded w u ds sums right is e = record {
   each = λ t l. rw (is, get_or-table (λ t. s ds (suc t)) 60 t (pos 0) l, e) (sum-bound w ds right t l);
 }
 
-pub few-steps : (u n : ℕ) → u ≤ 100 → n ≤ 70 → u * n ≤ 7000
-few-steps u n h k = mul-le-mul {n₁ = u} {m₁ = n} {n₂ = 100} {m₂ = 70} h k
+pub few-steps : (u n : ℕ) → u ≤ 100 → n ≤ 255 → u * n ≤ 25500
+few-steps u n h k = mul-le-mul {n₁ = u} {m₁ = n} {n₂ = 100} {m₂ = 255} h k
 
 -- ---- the limits of 6
 

@@ -19,6 +19,10 @@ pub number-next : (file : List ℕ) (k : ℕ) → number file 0 (k + 1) ≡ numb
 unfolding number
 number-next file k = rw add-one (let e : 0 + k ≡ k = omega arith in rw e refl)
 
+pub number-next-at : (file : List ℕ) (at k : ℕ) → number file at (k + 1) ≡ number file at k * 256 + get_or file (at + k) 0
+unfolding number
+number-next-at file at k = rw add-one refl
+
 -- one digit more
 pub digit : {q b : ℕ} (k : ℕ) → q < 256 ^ k → b < 256 → q * 256 + b < 256 ^ (k + 1)
 digit {q} {b} k h l = rw (add-one, pow-suc) (digits_lt h l)

@@ -1,15 +1,15 @@
 -- The limits of 6, as the code tests them.
-use Rattle.std.proofs.Common.{◌≡◌, ◌∙◌, ℕ, suc, ◌+◌, ◌*◌, ◌≤◌, ◌<◌, Bool, true, false, ◌&&◌, ap, sym, refl, arith, ℤ, pos, negsuc, neg_ℤ, ◌-ℤ◌, ◌*ℤ◌, to_z, of_z, w64}
+use Rattle.std.proofs.Common.{◌≡◌, ◌∙◌, ℕ, suc, ◌+◌, ◌*◌, ◌≤◌, ◌<◌, Bool, true, false, ◌&&◌, List, ap, sym, refl, arith, ℤ, pos, negsuc, neg_ℤ, ◌-ℤ◌, ◌*ℤ◌, to_z, of_z, w64}
 use Rattle.std.proofs.lemmas.Int.{ints}
 use mathlib.Core.Path.{ap₂}
 use lib.Signed.{le_z}
 use Rattle.model.specs.Numbers.{every}
 use Rattle.model.specs.Limits.{Between}
 use Rattle.theory.proofs.general.Lists.{every-at}
-use Rattle.fields.specs.Sums.{difference_right}
+use Rattle.fields.specs.Sums.{Bounded, difference_right}
 
-module _ (u : ℕ) (last next : ℤ) (few : u ≤ 7000) (l : Between (neg_ℤ (pos 4200000000)) (pos 4200000000) last)
-    (n : Between (neg_ℤ (pos 4200000000)) (pos 4200000000) next) where
+module _ (u : ℕ) (last next : ℤ) (few : u ≤ 25500) (l : Between (neg_ℤ (pos 66000000000000)) (pos 66000000000000) last)
+    (n : Between (neg_ℤ (pos 66000000000000)) (pos 66000000000000) next) where
   abbrev forward : ℤ
   forward = to_z w64 (of_z w64 (to_z w64 (of_z w64 next) -ℤ to_z w64 (of_z w64 last)))
 
@@ -35,11 +35,21 @@ module _ (u : ℕ) (last next : ℤ) (few : u ≤ 7000) (l : Between (neg_ℤ (p
   when-below e = e ∙ ap (λ b. b && le_z (next -ℤ last) (pos (12000 * u))) (sym e ∙ ap₂ le_z lower-is forward-is)
 
 -- a sum that is handed on
-pub sum-passed : (z : ℤ) (u : ℕ) → u ≤ 7000 → Between (neg_ℤ (pos (10000 * u))) (pos (10000 * u)) z → to_z w64 (of_z w64 z) ≡ z
+pub sum-passed : (z : ℤ) (u : ℕ) → u ≤ 25500 → Between (neg_ℤ (pos (10000 * u))) (pos (10000 * u)) z → to_z w64 (of_z w64 z) ≡ z
 sum-passed z u l h = omega (arith, ints, h.least, h.most)
 
-pub product-passed : (z : ℤ) → Between (neg_ℤ (pos 4200000000)) (pos 4200000000) z → to_z w64 (of_z w64 z) ≡ z
+pub term-passed : (z : ℤ) → Between (neg_ℤ (pos 1100000000000)) (pos 1100000000000) z → to_z w64 (of_z w64 z) ≡ z
+term-passed z h = omega (arith, ints, h.least, h.most)
+
+pub product-passed : (z : ℤ) → Between (neg_ℤ (pos 66000000000000)) (pos 66000000000000) z → to_z w64 (of_z w64 z) ≡ z
 product-passed z h = omega (arith, ints, h.least, h.most)
+
+-- sums of days within the limits are within those that any 255 days leave
+pub days-bounded : (u : ℕ) {sums : List ℤ} → u ≤ 25500 → Bounded (10000 * u) sums → Bounded 1100000000000 sums
+days-bounded u few h = record {
+  each = λ t l.
+      let b = h.each t l in record { least = omega (arith, ints, b.least); most = omega (arith, ints, b.most) };
+}
 
 -- one test more
 pub every-next : (test : ℕ → Bool) (t : ℕ) → every test t ≡ true → test t ≡ true → every test (t + 1) ≡ true

@@ -19,10 +19,11 @@ use crate::sums::{DaySums, FileDays};
 use crate::writer::Writer;
 use refusal::Refusal;
 
-// Adds the rates of a day to the sums of their terms, if each is within its limits. That the sums are of at most 69 days is asked here alone.
+// Adds the rates of a day to the sums of their terms, if each is within its limits. That the sums are of at most 254 days is asked here
+// alone.
 fn add_day<F: RateForm>(day: &[u8], sums: &mut [i64; 60]) -> Result<(), Refusal>
     requires terms { length day.now ≡ F.WIDTH * 60 }
-    requires room { Bounded 69000000 sums.old }
+    requires room { Bounded 254000000 sums.old }
     ensures { let rates = value_all (daily_rate F.WIDTH) day.now 0 60 in
         Checked ((right_all (daily_rate F.WIDTH) rates, Rate) ∷ []) (λ _. sums.new ≡ added sums.old rates) result }
 {
@@ -36,9 +37,9 @@ fn add_day<F: RateForm>(day: &[u8], sums: &mut [i64; 60]) -> Result<(), Refusal>
     Ok(())
 }
 
-// The sums of the whole days of these rates, if each rate is within its limits.
-fn sum_days<F: RateForm>(rates: &[u8]) -> Result<[i64; 60], Refusal>
-    requires few { length rates.now / (F.WIDTH * 60) ≤ 70 }
+// The sums of the whole days of these rates, if each rate is within its limits: of up to 255 days, as many as a count byte can say.
+pub fn sum_days<F: RateForm>(rates: &[u8]) -> Result<[i64; 60], Refusal>
+    requires few { length rates.now / (F.WIDTH * 60) ≤ 255 }
     ensures { let ds = value_all (day F.WIDTH) rates.now 0 (length rates.now / (F.WIDTH * 60)) in
         Checked ((right_all (day F.WIDTH) ds, Rate) ∷ []) (λ sums. sums ≡ sums_of ds) result }
 {

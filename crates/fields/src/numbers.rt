@@ -1,5 +1,5 @@
 // Big-endian numbers.
-ghost use Rattle.std.specs.Prelude.{◌≡◌, ◌+◌, ◌*◌, ◌^◌, ◌<◌, ◌≤◌, length, nat_le};
+ghost use Rattle.std.specs.Prelude.{◌≡◌, ◌+◌, ◌*◌, ◌^◌, ◌<◌, ◌≤◌, get_or, length, nat_le};
 ghost use Rattle.std.specs.List.{list_all};
 ghost use Rattle.model.specs.Fields.{number_of, value_all};
 ghost use Rattle.model.specs.Numbers.{number};
@@ -13,6 +13,25 @@ pub fn big_endian(bytes: &[u8]) -> u64
     let mut v: u64 = 0;
     for b in bytes {
         v = v * 256 + *b as u64;
+    }
+    v
+}
+
+// A byte past the end of the file counts as 0.
+fn byte_in(file: &[u8], at: usize) -> u64
+    ensures { (result ≡ get_or file.now at 0) × (result < 256) }
+{
+    if at < file.len() { file[at] as u64 } else { 0 }
+}
+
+// The big-endian number of up to 8 bytes at a place of a file, which may end before them.
+pub fn number_at(file: &[u8], at: usize, width: usize) -> u64
+    requires { (at + width < 2 ^ 64) × (width ≤ 8) }
+    ensures { (result ≡ number file.now at width) × (result < 256 ^ width) }
+{
+    let mut v: u64 = 0;
+    for i in 0..width {
+        v = v * 256 + byte_in(file, at + i);
     }
     v
 }

@@ -15,7 +15,7 @@ use refusal::Refusal;
 pub struct DaySums {
     pub per_step: u64,
     pub sums: [i64; 60],
-    ghost few: { per_step ≤ 7000 },
+    ghost few: { per_step ≤ 25500 },
     ghost bounded: { Bounded (10000 * per_step) sums },
 }
 
@@ -32,18 +32,18 @@ pub struct FileDays<'a> {
 // next step.
 fn weighted(t: usize, sum: i64) -> i64
     requires term { t ≤ 60 }
-    requires small { Between (neg_ℤ (pos 70000000)) (pos 70000000) sum }
+    requires small { Between (neg_ℤ (pos 1100000000000)) (pos 1100000000000) sum }
     ensures value { result ≡ pos t *ℤ sum }
-    ensures small { Between (neg_ℤ (pos 4200000000)) (pos 4200000000) result }
+    ensures small { Between (neg_ℤ (pos 66000000000000)) (pos 66000000000000) result }
 {
     t as i64 * sum
 }
 
 // The limits of 6, from (t - 1) × s(t-1) to t × s(t).
 fn difference_within(per_step: u64, last: i64, next: i64) -> bool
-    requires step { per_step ≤ 7000 }
-    requires last { Between (neg_ℤ (pos 4200000000)) (pos 4200000000) last }
-    requires next { Between (neg_ℤ (pos 4200000000)) (pos 4200000000) next }
+    requires step { per_step ≤ 25500 }
+    requires last { Between (neg_ℤ (pos 66000000000000)) (pos 66000000000000) last }
+    requires next { Between (neg_ℤ (pos 66000000000000)) (pos 66000000000000) next }
     ensures { result ≡ difference_right per_step last next }
 {
     let step = per_step as i64;
@@ -52,9 +52,28 @@ fn difference_within(per_step: u64, last: i64, next: i64) -> bool
     -2_000 * step <= forward && forward <= 12_000 * step
 }
 
+// Whether each t × s(t) - (t - 1) × s(t-1) is within the limits of 6, where a step adds `per_step` to a sum. What is asked of
+// these leaves room for 255 days, as many as a count byte can say, whether or not their rates are within their limits.
+pub fn forwards_within(per_step: u64, sums: &[i64; 60]) -> bool
+    requires step { per_step ≤ 25500 }
+    requires small { Bounded 1100000000000 sums.now }
+    ensures { result ≡ every (forward_right per_step sums.now) 60 }
+{
+    let mut last = 0;
+    // t is a number of the rule: the sum of term t + 1 weighs t + 1.
+    for (t, sum) in sums.iter().enumerate() {
+        let next = weighted(t + 1, *sum);
+        if !difference_within(per_step, last, next) {
+            return false;
+        }
+        last = next;
+    }
+    true
+}
+
 // P(t).
 fn raised_sum(per_step: u64, sum: i64) -> u64
-    requires step { per_step ≤ 7000 }
+    requires step { per_step ≤ 25500 }
     requires small { Between (neg_ℤ (pos (10000 * per_step))) (pos (10000 * per_step)) sum }
     ensures { result ≡ natural (pos (100000 * per_step) +ℤ sum) }
 {
@@ -66,17 +85,7 @@ impl DaySums {
     pub fn forwards_within(&self) -> Result<(), Refusal>
         ensures { Checked ((every (forward_right self.now.per_step self.now.sums) 60, Forward) ∷ []) (λ _. Unit {0}) result }
     {
-        let mut last = 0;
-        // t is a number of the rule: the sum of term t + 1 weighs t + 1.
-        for (t, sum) in self.sums.iter().enumerate() {
-            let next = weighted(t + 1, *sum);
-            check(
-                difference_within(self.per_step, last, next),
-                Refusal::Forward,
-            )?;
-            last = next;
-        }
-        Ok(())
+        check(forwards_within(self.per_step, &self.sums), Refusal::Forward)
     }
 
     // P(t) of the terms 1 to 60.

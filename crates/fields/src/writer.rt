@@ -28,12 +28,27 @@ impl<'a> Writer<'a> {
         self.at = end;
     }
 
-    // The lowest `width` bytes of a number, the highest first. No field has numbers of more than 8 bytes: this and `numbers` ask for it.
-    pub fn number(&mut self, width: usize, v: u64)
+    // A number in 8 bytes or more, the highest first: those before its last 8 are 0.
+    fn wide_number(&mut self, width: usize, v: u64)
         requires room { self.old.at + width ≤ length self.old.out.now }
-        requires narrow { width ≤ 8 }
+        requires wide { 8 ≤ width }
         ensures { Wrote self.old (bytes_of width v) self.new }
     {
+        for _ in 0..width - 8 {
+            self.put(&[0]);
+        }
+        self.put(&v.to_be_bytes());
+    }
+
+    // The lowest `width` bytes of a number, the highest first.
+    pub fn number(&mut self, width: usize, v: u64)
+        requires room { self.old.at + width ≤ length self.old.out.now }
+        ensures { Wrote self.old (bytes_of width v) self.new }
+    {
+        if width > 8 {
+            self.wide_number(width, v);
+            return;
+        }
         let bytes = v.to_be_bytes();
         self.put(&bytes[8 - width..]);
     }
@@ -41,7 +56,6 @@ impl<'a> Writer<'a> {
     // Numbers of one width, one after another.
     pub fn numbers(&mut self, width: usize, values: &[u64])
         requires room { self.old.at + width * length values.now ≤ length self.old.out.now }
-        requires narrow { width ≤ 8 }
         ensures { Wrote self.old (bytes_of_each width values.now) self.new }
     {
         for v in values {

@@ -50,6 +50,11 @@ abbrev pub host_valuation : Result Valuation Refusal → HostValuation
 host_valuation (Err r) = record { refusal = number_of r; verdict = 0; figures = no_figures }
 host_valuation (Ok v) = record { refusal = 0; verdict = verdict_number v.verdict; figures = v.figures }
 
+-- the same, with the refusal by a number, also one that no refusal has
+abbrev pub host_valuation_by_number : Result Valuation ℕ → HostValuation
+host_valuation_by_number (Err number) = record { refusal = number; verdict = 0; figures = no_figures }
+host_valuation_by_number (Ok v) = host_valuation (Ok v)
+
 -- what a host's struct says, whether or not a valuation gave it: a number other than 0 is a refusal, whatever is beside it, also one that
 -- no refusal has
 abbrev pub numbered : ℕ → ℕ → Figures → Result Valuation ℕ
@@ -70,7 +75,17 @@ abbrev pub host_saved : Result ℕ Refusal → HostSaved
 host_saved (Ok count) = record { refusal = 0; written = count }
 host_saved (Err r) = record { refusal = number_of r; written = 0 }
 
+-- the same, with the refusal by a number
+abbrev pub host_saved_by_number : Result ℕ ℕ → HostSaved
+host_saved_by_number (Ok count) = host_saved (Ok count)
+host_saved_by_number (Err number) = record { refusal = number; written = 0 }
+
 -- "The UFR found"; a refusal has found none
 abbrev pub host_ufr : Result ℕ Refusal → HostUfr
 host_ufr (Ok ufr) = record { refusal = 0; ufr = ufr }
 host_ufr (Err r) = record { refusal = number_of r; ufr = 0 }
+
+-- the same, with the refusal by a number
+abbrev pub host_ufr_by_number : Result ℕ ℕ → HostUfr
+host_ufr_by_number (Ok ufr) = host_ufr (Ok ufr)
+host_ufr_by_number (Err number) = record { refusal = number; ufr = 0 }

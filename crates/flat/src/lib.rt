@@ -5,7 +5,7 @@
 pub mod part;
 
 ghost use Rattle.std.specs.Prelude.{◌≡◌};
-ghost use Rattle.flat.specs.Flat.{verdict_from};
+ghost use Rattle.flat.specs.Flat.{verdict_from, host_valuation_by_number, host_saved_by_number, host_ufr_by_number};
 
 use model::figures::{Figures, Valuation, Verdict};
 use model::window::Point;
@@ -56,24 +56,31 @@ pub struct HostVersion {
     pub kit: [u8; 32],
 }
 
+/// The error is the number of a refusal. It is given as it is: also 0, which a host takes for no refusal, and one that no refusal has.
+pub fn flat_valuation(answer: Result<Valuation, u8>) -> HostValuation
+    ensures { result ≡ host_valuation_by_number answer }
+{
+    match answer {
+        Ok(valued) => HostValuation {
+            refusal: 0,
+            verdict: valued.verdict as u8,
+            figures: valued.figures,
+        },
+        Err(refusal) => HostValuation {
+            refusal,
+            verdict: 0,
+            figures: Figures::default(),
+        },
+    }
+}
+
 impl From<Result<Valuation, Refusal>> for HostValuation {
     ghost use Rattle.flat.specs.Flat.{host_valuation};
 
     ghost from_gives = { λ answer host. host ≡ host_valuation answer };
 
     fn from(answer: Result<Valuation, Refusal>) -> HostValuation {
-        match answer {
-            Ok(valued) => HostValuation {
-                refusal: 0,
-                verdict: valued.verdict as u8,
-                figures: valued.figures,
-            },
-            Err(refusal) => HostValuation {
-                refusal: refusal.number(),
-                verdict: 0,
-                figures: Figures::default(),
-            },
-        }
+        flat_valuation(answer.map_err(Refusal::number))
     }
 }
 
@@ -109,22 +116,39 @@ impl TryFrom<HostValuation> for Valuation {
     }
 }
 
+/// The error is the number of a refusal, as that of `flat_valuation`.
+pub fn flat_saved(answer: Result<usize, u8>) -> HostSaved
+    ensures { result ≡ host_saved_by_number answer }
+{
+    match answer {
+        Ok(written) => HostSaved {
+            refusal: 0,
+            written,
+        },
+        Err(refusal) => HostSaved {
+            refusal,
+            written: 0,
+        },
+    }
+}
+
 impl From<Result<usize, Refusal>> for HostSaved {
     ghost use Rattle.flat.specs.Flat.{host_saved};
 
     ghost from_gives = { λ answer host. host ≡ host_saved answer };
 
     fn from(answer: Result<usize, Refusal>) -> HostSaved {
-        match answer {
-            Ok(written) => HostSaved {
-                refusal: 0,
-                written,
-            },
-            Err(refusal) => HostSaved {
-                refusal: refusal.number(),
-                written: 0,
-            },
-        }
+        flat_saved(answer.map_err(Refusal::number))
+    }
+}
+
+/// The error is the number of a refusal, as that of `flat_valuation`.
+pub fn flat_ufr(answer: Result<u64, u8>) -> HostUfr
+    ensures { result ≡ host_ufr_by_number answer }
+{
+    match answer {
+        Ok(ufr) => HostUfr { refusal: 0, ufr },
+        Err(refusal) => HostUfr { refusal, ufr: 0 },
     }
 }
 
@@ -134,13 +158,7 @@ impl From<Result<u64, Refusal>> for HostUfr {
     ghost from_gives = { λ answer host. host ≡ host_ufr answer };
 
     fn from(answer: Result<u64, Refusal>) -> HostUfr {
-        match answer {
-            Ok(ufr) => HostUfr { refusal: 0, ufr },
-            Err(refusal) => HostUfr {
-                refusal: refusal.number(),
-                ufr: 0,
-            },
-        }
+        flat_ufr(answer.map_err(Refusal::number))
     }
 }
 

@@ -12,7 +12,7 @@ use model::figures::Valuation;
 use reader::file::read;
 use refusal::Refusal;
 use ufr::ufr_of;
-use working::value_case;
+use working::value_into;
 
 /// Values a case file with the UFR that a history gives into two lent buffers, as `engine::value` does a file that has that UFR in its
 /// field. A refusal leaves both buffers as they were. Hosts in C lend each by a pointer and a length, so they stay two slices.
@@ -37,5 +37,5 @@ pub fn value_with_months(
     };
     let ufr = ufr_of(history, start)?;
     let case = Case { ufr, ..own };
-    Ok(value_case(&case, factors, rates))
+    Ok(value_into(&case, factors, rates))
 }

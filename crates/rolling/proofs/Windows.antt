@@ -91,6 +91,9 @@ module _ (w : RollingWindow) where
           sums = λ t l. ap (λ (z : List ℤ). get_or z t (pos 0)) (sym same ∙ are ∙ ap sums_of whole) ∙ sums_at (days_held w) t l;
         }
 
+    pub sums-held : sums ≡ w.sums → w.sums ≡ sums_of (days_held w)
+    sums-held same = sym same ∙ are ∙ ap sums_of whole
+
     pub sums-wrong : length w.sums ≡ 60 → (sums ≡ w.sums → ⊥) → rolling_right w ≡ false
     unfolding sums_of
     sums-wrong long other = not-right (λ r. other (are ∙ ap sums_of whole ∙ stored r))

@@ -7,7 +7,7 @@ ghost use Rattle.std.specs.Prelude.{◌≡◌, ◌<◌, [], is_ok, IfOk, IfErr};
 ghost use Rattle.model.specs.Fields.{right_all};
 ghost use Rattle.model.specs.Layout.{daily_rate, day};
 ghost use Rattle.fields.specs.Sums.{Bounded};
-ghost use Rattle.rollingmodel.specs.Rolling.{day_in, with_day_in, rolling_right, add_day, drop_day, empty_window};
+ghost use Rattle.rollingmodel.specs.Rolling.{day_in, with_day_in, days_held, sums_of, rolling_right, add_day, drop_day, empty_window};
 ghost use Rattle.rollingmodel.specs.Promises.{Holds, AddCall, DropCall};
 ghost use Rattle.refusal.specs.declared.Refusal.TheVariants.{Damaged, Rate};
 ghost use Rattle.refusal.specs.Numbered.{refused_by};
@@ -95,9 +95,11 @@ fn subtract(sums: &mut [i64; 60], oldest: &[i16; 60])
     }
 }
 
-// Where the days of a window are. Refusal 27 for one with a count or place out of range, a held rate out of limits or a wrong sum.
+// Where the days of a window are, whose stored sums are then those of these days. Refusal 27 for one with a count or place out of range, a
+// held rate out of limits or a wrong sum.
 pub fn place_of(w: &RollingWindow) -> Result<Place<70>, Refusal>
     ensures right { is_ok result ≡ rolling_right w.now }
+    ensures sums { IfOk result (λ _. w.now.sums ≡ sums_of (days_held w.now)) }
     ensures count { IfOk result (λ place. place.count ≡ w.now.count) }
     ensures start { IfOk result (λ place. place.start ≡ w.now.start) }
     ensures refusal { IfErr result (λ e. e ≡ Damaged) }

@@ -5,7 +5,7 @@ ghost use Rattle.heldcase.specs.Held.{held};
 ghost use Rattle.model.specs.Case.{with_days};
 ghost use Rattle.model.specs.Refusals.{failing};
 ghost use Rattle.fields.specs.Sums.{raised};
-ghost use Rattle.rollingmodel.specs.Rolling.{days_held, rolling_right, rolling_checks, rolling_valuation, rolling_factors_after, rolling_rates_after};
+ghost use Rattle.rollingmodel.specs.Rolling.{days_held, sums_of, rolling_right, rolling_checks, rolling_valuation, rolling_factors_after, rolling_rates_after};
 ghost use Rattle.rollingmodel.specs.Promises.{WindowCall};
 ghost use Rattle.saving.specs.Said.{said};
 ghost use Rattle.refusal.specs.declared.Refusal.TheVariants.{Damaged};
@@ -21,13 +21,14 @@ use refusal::Refusal;
 use rollingmodel::RollingWindow;
 use saving::case::checked_file;
 use saving::given::GivenCase;
-use working::value_case;
+use working::value_into;
 
-// The sums of the days that a window holds; 27 for a window that is not right.
-fn days_in(w: &RollingWindow) -> Result<DaySums, Refusal>
+/// How many days a window holds, and of each term the sum of their rates, in steps of 0.00001; 27 for a window that is not right.
+pub fn days_in(w: &RollingWindow) -> Result<DaySums, Refusal>
     ensures right { is_ok result ≡ rolling_right w.now }
     ensures count { IfOk result (λ days. days.per_step ≡ w.now.count) }
-    ensures sums { IfOk result (λ days. days.sums ≡ w.now.sums) }
+    ensures sums { IfOk result (λ days. days.sums ≡ sums_of (days_held w.now)) }
+    ensures stored { IfOk result (λ days. days.sums ≡ w.now.sums) }
     ensures refusal { IfErr result (λ e. e ≡ Damaged) }
 {
     place_of(w)?;
@@ -89,7 +90,7 @@ pub fn value_window(
     let rates = rates.first_chunk_mut().ok_or(Refusal::Buffers)?;
     // Not by `?`, which gets no proof of a result that holds a case: contracts see its flows as lists.
     match window_case(w, days, given) {
-        Ok(case) => Ok(value_case(&case, factors, rates)),
+        Ok(case) => Ok(value_into(&case, factors, rates)),
         Err(refusal) => Err(refusal),
     }
 }

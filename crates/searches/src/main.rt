@@ -7,22 +7,29 @@ ghost use Rattle.std.specs.Prelude.{IfOk, ◌≤◌};
 
 use arith::bracket::Bracket;
 use arith::end::{High, Low};
+use arrayvec::ArrayVec;
 use batch::Stopped;
 use std::io;
-use std::io::{BufWriter, Write};
+use std::io::Write;
 use zerorates::known::{LAST_GUESS, known_near};
 use zerorates::rates::TESTS;
 use zerorates::search::{RateEnd, Search};
 
-// The row of one search. Each number of tests is a search of its own, from the beginning.
-fn print_row<E: RateEnd, W: Write>(out: &mut W, search: Search) -> io::Result<()> {
-    write!(out, " {}", search.term)?;
+// A letter, 33 numbers of up to 20 digits, a space before each, and the line's end: 695 bytes.
+type Row = ArrayVec<u8, 695>;
+
+// The row of one search, put together on the stack and written at once. Each number of tests is a search of its own, from the beginning.
+fn print_row<E: RateEnd, W: Write>(out: &mut W, letter: u8, search: Search) -> io::Result<()> {
+    let mut row = Row::new();
+    row.write_all(&[letter])?;
+    write!(row, " {}", search.term)?;
     // `tests` is not an index: a search asks for the number of tests.
     for tests in 0..=TESTS {
         let left = search.steps_left::<E>(tests).left;
-        write!(out, " {} {}", left.first, left.last)?;
+        write!(row, " {} {}", left.first, left.last)?;
     }
-    out.write_all(b"\n")
+    row.write_all(b"\n")?;
+    out.write_all(row.as_slice())
 }
 
 // The rows of both rates of a term. Answers the step of the lower rate, as a guess for the next term.
@@ -41,10 +48,8 @@ fn print_term<W: Write>(out: &mut W, t: usize, factor: Bracket, guess: u64) -> i
         factor: factor.lower,
         known,
     };
-    out.write_all(b"L")?;
-    print_row::<Low, W>(out, by_upper)?;
-    out.write_all(b"U")?;
-    print_row::<High, W>(out, by_lower)?;
+    print_row::<Low, W>(out, b'L', by_upper)?;
+    print_row::<High, W>(out, b'U', by_lower)?;
     let lower = by_upper.steps_left::<Low>(TESTS).left;
     Ok(lower.first.min(LAST_GUESS))
 }
@@ -69,11 +74,12 @@ fn print_searches<W: Write>(out: &mut W, file: &[u8]) -> io::Result<()> {
     }
 }
 
-// Ends with 1 where a row cannot be written, and with 0 where the input cannot be read.
+// Ends with 1 where a row cannot be written, and with 0 where the input cannot be read. Nothing is held back: the rows of a file are out
+// before the next is read, for a caller who waits for them.
 fn main(rt: HostRuntime) -> io::Result<()> {
-    let mut out = BufWriter::new(rt.alloc(), rt.stdout())?;
+    let mut out = rt.stdout();
     match batch::for_each(&mut rt.stdin(), |file| print_searches(&mut out, file)) {
-        Ok(()) | Err(Stopped::Read(_)) => out.flush(),
+        Ok(()) | Err(Stopped::Read(_)) => Ok(()),
         Err(Stopped::Write(error)) => Err(error),
     }
 }

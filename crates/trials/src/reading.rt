@@ -1,6 +1,8 @@
 // A read that fails in mid-stream: the error comes out, with the count of the bytes before it, and the next call goes on after them.
 use super::faults::Breaking;
-use batch::{Cut, Stopped, for_each, next_length, read_file, read_full};
+use batch::{
+    Cut, Stopped, for_each, next_length, read_file, read_full, try_next_length, try_read_file,
+};
 use std::io;
 use std::io::{ErrorKind, Write};
 use std::process::Abort;
@@ -50,23 +52,53 @@ fn neither_length_nor_file_is_told_where_a_read_fails(rt: HostRuntime) -> Result
             kind,
         };
         let mut buf = [7u8; 6];
-        assert_cut(&rt, next_length(&mut input), kind, 3);
-        assert_eq!(rt; next_length(&mut input).ok(), Some(Some(5)));
-        assert_cut(&rt, read_file(&mut input, 5, &mut buf), kind, 2);
+        assert_cut(&rt, try_next_length(&mut input), kind, 3);
+        assert_eq!(rt; try_next_length(&mut input).ok(), Some(Some(5)));
+        assert_cut(&rt, try_read_file(&mut input, 5, &mut buf), kind, 2);
         assert!(rt; buf.starts_with(b"ab"));
-        assert_eq!(rt; read_file(&mut input, 3, &mut buf).ok(), Some(Some(3)));
+        assert_eq!(rt; try_read_file(&mut input, 3, &mut buf).ok(), Some(Some(3)));
         assert!(rt; buf.starts_with(b"cde"));
-        assert_eq!(rt; next_length(&mut input).ok(), Some(None));
+        assert_eq!(rt; try_next_length(&mut input).ok(), Some(None));
     }
     Ok(())
 }
 
 #[test]
-fn no_file_is_visited_that_a_failed_read_cuts(rt: HostRuntime) -> Result<(), Fail> {
+fn a_failed_read_is_told_as_the_end_and_a_part(rt: HostRuntime) {
     for (kind, step) in FAULTS {
-        for (left, before) in [
-            (b"\0\0\0\x02ab\0\0\0\x01c\0\0!\0\x01x".as_slice(), 2),
-            (b"\0\0\0\x02ab\0\0\0\x01c\0\0\0\x09defg!hijk\0\0\0\x01x", 4),
+        let mut input = Breaking {
+            left: b"\0\0\0!\0\0\0\x05ab!cde\0\0\0",
+            step,
+            kind,
+        };
+        let mut buf = [7u8; 6];
+        assert_eq!(rt; next_length(&mut input), usize::MAX);
+        assert_eq!(rt; next_length(&mut input), 5);
+        assert_eq!(rt; read_file(&mut input, 7, &mut buf), 0);
+        assert_eq!(rt; read_file(&mut input, 5, &mut buf), 2);
+        assert!(rt; buf.starts_with(b"ab"));
+        assert_eq!(rt; read_file(&mut input, 3, &mut buf), 3);
+        assert!(rt; buf.starts_with(b"cde"));
+        assert_eq!(rt; next_length(&mut input), usize::MAX);
+    }
+}
+
+#[test]
+fn a_file_that_a_failed_read_cuts_is_visited_as_far_as_it_came(
+    rt: HostRuntime,
+) -> Result<(), Fail> {
+    for (kind, step) in FAULTS {
+        for (left, before, visited) in [
+            (
+                b"\0\0\0\x02ab\0\0\0\x01c\0\0!\0\x01x".as_slice(),
+                2,
+                b"ab.c.".as_slice(),
+            ),
+            (
+                b"\0\0\0\x02ab\0\0\0\x01c\0\0\0\x09defg!hijk\0\0\0\x01x",
+                4,
+                b"ab.c.defg.",
+            ),
         ] {
             let mut input = Breaking { left, step, kind };
             let mut seen = Vec::new(rt.alloc());
@@ -78,7 +110,7 @@ fn no_file_is_visited_that_a_failed_read_cuts(rt: HostRuntime) -> Result<(), Fai
                 panic!(rt; "no failed read");
             };
             assert_eq!(rt; (cut.error.kind(), cut.count), (kind, before));
-            assert_eq!(rt; seen.as_slice(), b"ab.c.".as_slice());
+            assert_eq!(rt; seen.as_slice(), visited);
         }
     }
     Ok(())

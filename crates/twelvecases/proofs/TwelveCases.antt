@@ -1,9 +1,13 @@
 -- The twelve hand-worked cases give what was worked out by hand. What is quick to compute of them is in Worked.antt of `method`; here is
 -- which of their files are accepted, and all of it in one result, `twelve_cases`. Assumes nothing.
 use mathlib.Core.Path.{◌≡◌, refl}
-use lib.Dec.{lit≤}
+use Prim.Native.Nat.{◌*◌, ◌≤◌}
+use lib.Dec.{lit≤, lit<}
 use lib.ListN.{length}
+use Rattle.model.specs.Layout.{case_of}
 use Rattle.model.specs.Refusals.{refusal}
+use Rattle.method.specs.EquityClasses.{summed_S²}
+use Rattle.method.specs.Fraction.{◌//◌, ◌≐◌}
 use Rattle.method.specs.TwelveFiles.{flat, with_days, file_c1, file_c2, file_c5, file_c8, file_c9, file_c10, file_c11}
 use Rattle.method.proofs.Computing.{all}
 use Rattle.twelvecases.specs.TwelveCases.{TwelveCases}
@@ -65,6 +69,11 @@ c11-accepted : refusal file_c11 ≡ 0
 unfolding all
 c11-accepted = refl
 
+-- its classes fall together
+c9-summed : (summed_S² (case_of file_c9) ≐ 3700000000 // 1) × (60827 * 60827 ≤ 3700000000) × (3700000000 ≤ 60828 * 60828)
+unfolding all
+c9-summed = ((lit< tt, lit< tt, refl), lit≤ tt, lit≤ tt)
+
 pub twelve_cases : TwelveCases
 twelve_cases = record {
   c1 = (c1-bytes.0, c1-bytes.1, c1-listing, c1-exact);
@@ -75,7 +84,8 @@ twelve_cases = record {
   c6 = c6-factor;
   c7 = (c7-accepted, c7-growth);
   c8 = c8-refusals;
-  c9 = (c9-buffer.0, c9-buffer.1, c9-accepted, c9-exact.0, c9-exact.1, c9-exact.2, c9-exact.3);
+  c9 =
+      (c9-buffer.0, c9-buffer.1, c9-accepted, c9-exact.0, c9-exact.1, c9-summed.0, c9-exact.2, c9-exact.3, c9-summed.1, c9-summed.2);
   c10 = (c10-accepted, c10-TSO);
   c11 = (c11-TSO, c11-accepted, c11-file.0, c11-file.1);
   c12 = c12-refusal;

@@ -1,5 +1,5 @@
 -- The twelve hand-worked cases: what each file gives, as it was worked out by hand. All of it has to be believed. Assumes nothing.
-use Rattle.std.specs.Prelude.{◌*◌, ◌<◌, ◌≡◌, [], ◌∷◌, length, replicate, pos, neg_ℤ}
+use Rattle.std.specs.Prelude.{◌*◌, ◌<◌, ◌≤◌, ◌≡◌, [], ◌∷◌, length, replicate, pos, neg_ℤ}
 use Rattle.refusal.specs.Numbered.{answer_of}
 use Rattle.arith.specs.Rounding.{low, high}
 use Rattle.model.specs.Numbers.{number, twos_complement}
@@ -9,6 +9,7 @@ use Rattle.model.specs.Refusals.{refusal}
 use Rattle.model.specs.declared.figures.Verdict.TheVariants.{Reservetekort, VrijVermogen}
 use Rattle.method.specs.Fraction.{◌//◌, ◌≐◌, whole, ◌≤ʳ◌, ◌ʳ≤◌}
 use Rattle.method.specs.Curve.{base, curve}
+use Rattle.method.specs.EquityClasses.{summed_S²}
 use Rattle.method.specs.Exact as Exact
 use Rattle.method.specs.Rounded as Rounded
 use Rattle.method.specs.Buffers.{valuation_of}
@@ -43,14 +44,17 @@ pub record TwelveCases : Type 0 where
   -- C8: "One day, rate 0 then 6,000 for all later terms: .. passes. With 6,001 it is 12,002 and gives 6"
   pub c8 : (refusal (file_c8 0x17 0x70) ≡ 0) × (refusal (file_c8 0x17 0x71) ≡ 6)
   -- C9: "S1 300, S2 400 euros, correlation 500, others 0: .. S is 60,827 to 60,828 cents": rounded from these, and the exact S of a file
-  -- that has them
+  -- that has them: it has no field of bit 8, so its S² is the number `summed_S²`
   pub c9 : (Rounded.buffer low 500 30000 40000 0 0 0 0 ≡ 60827)
       × (Rounded.buffer high 500 30000 40000 0 0 0 0 ≡ 60828)
       × (refusal file_c9 ≡ 0)
       × (Exact.S1 (case_of file_c9) ≐ 30000 // 1)
       × (Exact.S2² (case_of file_c9) ≐ 1600000000 // 1)
+      × (summed_S² (case_of file_c9) ≐ 3700000000 // 1)
       × (whole (60827 * 60827) ≤ʳ Exact.S² (case_of file_c9))
       × (Exact.S² (case_of file_c9) ʳ≤ whole (60828 * 60828))
+      × (60827 * 60827 ≤ 3700000000)
+      × (3700000000 ≤ 60828 * 60828)
   -- C10: "Pension age 780, mean 540: .. TSO = 2 + 9/40 × 20 = 6.5"
   pub c10 : (refusal file_c10 ≡ 0) × (Exact.TSO (case_of file_c10) ≐ 65 // 10)
   -- C11: "Mean age above pension age: TSO = 2", of every case, and of a file

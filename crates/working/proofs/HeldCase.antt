@@ -73,7 +73,7 @@ module _ (k : FileCase) (w : WithinLimits k) where
   unfolding rate_entries
   held-rates = ap (λ (f : End → ℕ → ℕ). by_term (rate_of f) last_term) (held-factor k w base)
 
-  -- what `value_case` answers and leaves in both buffers, of a struct that holds the case
+  -- what `value_into` answers and leaves in both buffers, of a struct that holds the case
   pub held-valued : (f₀ : List ℕ) (z₀ : List ℤ) {c : Case} {v : Valuation} {factors : List ℕ} {rates : List ℤ} → c ≡ held k
       → v ≡ money_of c
       → factors ≡ factors_on c base ++ drop 240 f₀

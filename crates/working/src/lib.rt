@@ -4,7 +4,7 @@
 
 mod lend;
 
-ghost use Rattle.std.specs.Prelude.{◌≡◌, ◌≤◌, length};
+ghost use Rattle.std.specs.Prelude.{◌≡◌, ◌≤◌, ◌++◌, length, drop};
 ghost use Rattle.arith.specs.Brackets.{bracket};
 ghost use Rattle.method.specs.Curve.{base, Move};
 ghost use Rattle.method.specs.Rounded as Rounded;
@@ -86,8 +86,9 @@ pub fn money_of(case: &Case) -> Valuation
     money_at(case, &sums, &adjusted)
 }
 
-/// Values a case: writes its factors and its zero rates, lower and upper, term by term, and answers the figures and the verdict.
-pub fn value_case(case: &Case, factors: &mut [u64; 240], rates: &mut [i64; 240]) -> Valuation
+/// Values a case: writes its factors and its zero rates, lower and upper, term by term, and answers the figures and the verdict. The rooms
+/// of 240 entries are what `first_chunk_mut` gives of a lent buffer.
+pub fn value_into(case: &Case, factors: &mut [u64; 240], rates: &mut [i64; 240]) -> Valuation
     requires { CaseFits case.now }
     ensures value { result ≡ money_of case.now }
     ensures factors { factors.new ≡ factors_on case.now base }
@@ -98,4 +99,17 @@ pub fn value_case(case: &Case, factors: &mut [u64; 240], rates: &mut [i64; 240])
     lend(&adjusted.base, factors);
     lend(&zero_rates(&adjusted.base), rates);
     money_at(case, &sums, &adjusted)
+}
+
+/// Values a case into the fronts of two buffers of 240 entries or more, as `value_into` does: their later entries keep their content.
+pub fn value_case(case: &Case, factors: &mut [u64], rates: &mut [i64]) -> Valuation
+    requires case { CaseFits case.now }
+    requires room { (240 ≤ length factors.old) × (240 ≤ length rates.old) }
+    ensures value { result ≡ money_of case.now }
+    ensures factors { factors.new ≡ factors_on case.now base ++ drop 240 factors.old }
+    ensures rates { rates.new ≡ rates_on case.now ++ drop 240 rates.old }
+{
+    let factors = factors.first_chunk_mut().unwrap();
+    let rates = rates.first_chunk_mut().unwrap();
+    value_into(case, factors, rates)
 }

@@ -33,8 +33,8 @@ returns-in_err-rates c =
     let p = err_from_is_err_and c.from_residual-in_err-rates.result c.from_residual-in_err-rates.ensures.1 in
     rw (p.1, p.2, told, unwritten factors) (short-rates (call-of-slice _ _ _ c.type_inv.file) (rw none at c.first_chunk_mut-2.ensures.cases))
 
-pub value_case-requires : goal.value_case-requires
-value_case-requires c = let read = c.in-Ok.ensures.value in reading-fits c.args.file.now read.refusal _ read.given.0
+pub value_into-requires : goal.value_into-requires
+value_into-requires c = let read = c.in-Ok.ensures.value in reading-fits c.args.file.now read.refusal _ read.given.0
 
 pub returns-in-Err : goal.returns-in-Err
 returns-in-Err c =
@@ -49,6 +49,6 @@ returns-in-Ok c =
     let factors = of-factors at.In_ok-factors in
     let rates = of-rates at.In_ok-rates in
     let read = c.in-Ok.ensures.value in
-    let valued = c.value_case.ensures in
+    let valued = c.value_into.ensures in
     accepted-file (call-of-slice _ _ _ c.type_inv.file) factors.enough rates.enough
     read.refusal _ read.given.0 _ _ _ valued.value (rw valued.factors) (rw valued.rates)

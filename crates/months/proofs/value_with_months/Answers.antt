@@ -51,9 +51,9 @@ returns-in_err-ufr c =
     rw (p.1, p.2, unwritten factors, unwritten rates) (refused-history (call-of-slice _ _ _ _ _ c.type_inv.file) factors.enough rates.enough
     c.in-Ok.ensures.value.refusal c.in_err-ufr.ensures.value _ refl)
 
-pub value_case-requires : goal.value_case-requires
-value_case-requires c =
-    let at = goal.at.value_case-requires c in
+pub value_into-requires : goal.value_into-requires
+value_into-requires c =
+    let at = goal.at.value_into-requires c in
     let read = c.in-Ok.ensures.value in
     case-fits (call-of-slice _ _ _ _ _ c.type_inv.file) (of-factors at.In_ok-factors).enough (of-rates at.In_ok-rates).enough
     read.refusal c.in_ok-ufr.ensures.value refl read.given.0 refl
@@ -62,7 +62,7 @@ pub returns : goal.returns
 returns c =
     let at = goal.at.returns c in
     let read = c.in-Ok.ensures.value in
-    let valued = c.value_case.ensures in
+    let valued = c.value_into.ensures in
     valued-months (call-of-slice _ _ _ _ _ c.type_inv.file) (of-factors at.In_ok-factors).enough (of-rates at.In_ok-rates).enough
     read.refusal c.in_ok-ufr.ensures.value refl read.given.0 refl
     valued.value (rw valued.factors) (rw valued.rates)

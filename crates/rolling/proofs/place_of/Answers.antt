@@ -9,7 +9,7 @@ use Rattle.model.specs.Case.{s}
 use Rattle.model.specs.Numbers.{table}
 use Rattle.rollingmodel.specs.Rolling.{day_in, slot, sums_of}
 use Rattle.theory.proofs.rolling.Held.{day-long}
-use Rattle.rolling.proofs.Windows.{none-told, not-right, wrong-day, next-day, first-small, sums-right, sums-wrong}
+use Rattle.rolling.proofs.Windows.{none-told, not-right, wrong-day, next-day, first-small, sums-right, sums-held, sums-wrong}
 use Rattle.rolling.proofs.place_of.Goals as goal
 
 pub returns-in_err-place-clause-right : goal.returns-in_err-place-clause-right
@@ -66,3 +66,12 @@ returns-clause-right c =
     let equal = same.0 (not-false _ (sym c.ne.ensures ∙ c.if-ne.false)) in
     sym (sums-right w (omega (arith, c.loop-i.invariant.count, place.counted)) (omega (arith, c.loop-i.invariant.start, place.started)) (omega arith)
     c.loop-i.invariant.right c.loop-i.invariant.sums equal)
+
+pub returns-clause-sums : goal.returns-clause-sums
+returns-clause-sums c =
+    let w = c.args.w.now in
+    let place = c.in_ok-place.place in
+    let same = slice_eq-Decides Decides-int_eq c.loop-i.sums w.sums _ refl in
+    let equal = same.0 (not-false _ (sym c.ne.ensures ∙ c.if-ne.false)) in
+    sums-held w (omega (arith, c.loop-i.invariant.count, place.counted)) (omega (arith, c.loop-i.invariant.start, place.started)) (omega arith)
+    c.loop-i.invariant.right c.loop-i.invariant.sums equal

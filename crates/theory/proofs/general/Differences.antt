@@ -1,7 +1,7 @@
 -- Integers as differences of two natural numbers, so that `omega` does their arithmetic.
 -- Assumes nothing.
 use Prim.Native.Nat.{ℕ, zero, suc, ◌+◌, ◌*◌, ◌-◌, ◌≤◌, ◌<◌}
-use mathlib.Core.Path.{◌≡◌, refl, ap, ◌∙◌}
+use mathlib.Core.Path.{◌≡◌, refl, ap, sym, ◌∙◌, subst}
 use mathlib.Core.Bool.{Bool, true, false, not, cond}
 use native.Mathlib.Omega.{arith}
 use native.Mathlib.Nat.{not-suc-le-zero, mul-le-mul_left}
@@ -99,6 +99,15 @@ natural-is (negsuc m) a b n h e = absurd (bad h)
 pub not-cut : (z : ℤ) → 0 < natural z → pos (natural z) ≡ z
 not-cut (pos n) h = refl
 not-cut (negsuc n) h = absurd (not-suc-le-zero h)
+
+-- r is m + z: z raised by m
+pub raised-diff : (z : ℤ) (r m : ℕ) → pos r ≡ pos m +ℤ z → Diff z r m
+raised-diff (pos n) r m e = let k : Diff (pos r) (m + n) 0 = subst (λ y. Diff y (m + n) 0) (sym e) (diff-pos (m + n)) in omega arith
+raised-diff (negsuc n) r m e = let k : Diff (pos r) m (suc n) = subst (λ y. Diff y m (suc n)) (sym e) (diff-sub m (suc n)) in omega arith
+
+pub diff-raised : (z : ℤ) (r m : ℕ) → Diff z r m → pos r ≡ pos m +ℤ z
+diff-raised z r m h =
+    one-diff (pos r) (pos m +ℤ z) (m + r) (0 + m) (omega arith) (diff-sum (pos m) z m 0 r m (diff-pos m) h)
 
 -- ---- multiples of an integer
 

@@ -4,12 +4,14 @@ use Prim.Native.Nat.{ℕ, zero, suc, ◌+◌, ◌*◌, ◌-◌, ◌≤◌, ◌<�
 use mathlib.Core.Path.{◌≡◌, refl, ap, sym, ◌∙◌}
 use mathlib.Core.List.{List, [], ◌∷◌, ◌++◌}
 use mathlib.Core.Logic.{◌⊎◌, inl, inr}
+use native.Mathlib.Numerals.{add-one}
 use native.Mathlib.Omega.{arith}
 use native.Mathlib.Nat.{not-suc-le-zero, le_of_suc-le-suc, eq-or-lt_of_le}
-use lib.ListN.{length, get_or, length-append, get_or-append}
-use lib.Seq.{get_or-append-add}
+use lib.ListN.{length, get_or, drop, set, length-append, get_or-append}
+use lib.Seq.{get_or-append-add, append_snoc}
 use Rattle.arith.specs.Rounding.{End, low, high}
 use Rattle.method.specs.Buffers.{by_term, entry_of, entry_or}
+use Rattle.theory.proofs.general.Lists.{one-filled}
 
 module _ {A : Type 0} (f : End → ℕ → A) where
   pub length-by_term : (n : ℕ) → length (by_term f n) ≡ 2 * n
@@ -81,3 +83,15 @@ unfolding by_term
 same-terms f g zero h = refl
 same-terms f g (suc n) h =
     rw (same-terms f g n (λ e t l. h e t (omega arith)), h low (suc n) (omega arith), h high (suc n) (omega arith))
+
+-- an array that a loop fills, one term more: its two entries
+pub term-filled : {A : Type 0} (f : End → ℕ → A) (held out : List A) (t : ℕ) (a b : A) → 2 * t + 1 < length held → a ≡ f low (t + 1) → b ≡ f high (t + 1)
+    → out ≡ by_term f t ++ drop (2 * t) held → set (set out (2 * t) a) (2 * t + 1) b ≡ by_term f (t + 1) ++ drop (2 * (t + 1)) held
+unfolding by_term
+term-filled {A} f held out t a b h p q e =
+    let n = length-by_term f t in
+    let first = one-filled held out (by_term f t) (2 * t) a n (omega arith) e in
+    let front = by_term f t ++ (a ∷ []) in
+    let m : length front ≡ 2 * t + 1 = length-append (by_term f t) (a ∷ []) ∙ (omega arith) in
+    let i : 2 * t + 1 + 1 ≡ 2 * (t + 1) = omega arith in
+    one-filled held (set out (2 * t) a) front (2 * t + 1) b m h first ∙ rw (append_snoc (by_term f t) a (b ∷ []), i, p, q, add-one t)

@@ -35,7 +35,7 @@ add_day-requires-clause-room g c =
     let d = length c.loop-day.yielded in
     let (size, (is, long), remainder) = c.in-Some.ensures.steps in
     let less = turn-within w rates _ _ d (sym l.left ∙ is) (long ∙ l.size) g.met.F.RateForm.known in
-    rw l.held (sums-room w (value_all (day w) rates 0 d) l.right (omega (arith, less, c.requires, values_length (day w) rates 0 d)))
+    rw l.held (sums-room w 254 (value_all (day w) rates 0 d) l.right (omega (arith, less, c.requires, values_length (day w) rates 0 d)))
 
 pub loop-day-preserved : goal.loop-day-preserved
 loop-day-preserved g c =

@@ -32,7 +32,7 @@ add_day-requires g c =
     let few : n ≤ 70 = leb-true n 70 (second_so (leb 1 n) (leb n 70) l.invariant.count) in
     let front = take l.rates-index c.args.held.now in
     let less : length front ≤ 69 = omega (arith, length-take-le l.rates-index c.args.held.now (omega arith)) in
-    rw l.invariant.sums (sums-room g.F.RateForm.WIDTH front l.invariant.right less)
+    rw l.invariant.sums (sums-room g.F.RateForm.WIDTH 69 front l.invariant.right less)
 
 pub returns-in_err-check-2-clause-refusal : goal.returns-in_err-check-2-clause-refusal
 returns-in_err-check-2-clause-refusal g c =

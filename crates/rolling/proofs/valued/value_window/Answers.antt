@@ -45,8 +45,8 @@ returns-in_err-rates c =
     rw (p.1, p.2, told, unwritten factors)
     (short-rates a.w.now (said a.given.now) a.factors.now a.rates.now (sym c.in_ok-days.ensures.right) (rw none at c.first_chunk_mut-2.ensures.cases))
 
-pub value_case-requires : goal.value_case-requires
-value_case-requires c =
+pub value_into-requires : goal.value_into-requires
+value_into-requires c =
     let told = c.in-Ok.ensures in
     case-fits c.args.w.now (said c.args.given.now) c.args.factors.now c.args.rates.now told.refusal told.case
 
@@ -55,7 +55,7 @@ returns-in-Ok c =
     let a = c.args in
     let at = goal.at.returns-in-Ok c in
     let told = c.in-Ok.ensures in
-    let valued = c.value_case.ensures in
+    let valued = c.value_into.ensures in
     valued-window a.w.now (said a.given.now) a.factors.now a.rates.now told.refusal told.case (of-factors at.In_ok-factors).enough (of-rates at.In_ok-rates).enough
     valued.value (rw valued.factors) (rw valued.rates)
 

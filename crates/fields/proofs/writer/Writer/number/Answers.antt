@@ -1,5 +1,5 @@
 -- `number`: the last of its eight bytes. The check leaves this goal open without its answer.
-use Rattle.std.proofs.Common.{◌∙◌, List, ℕ, ap, drop, take, ◌-◌}
+use Rattle.std.proofs.Common.{◌∙◌, List, ℕ, ap, arith, drop, take, ◌-◌}
 use Rattle.fields.proofs.Bytes.{last-bytes}
 use Rattle.fields.proofs.Written.{as-text}
 use Rattle.fields.proofs.writer.Writer.number.Goals as goal
@@ -7,4 +7,5 @@ use Rattle.fields.proofs.writer.Writer.number.Goals as goal
 pub returns : goal.returns
 returns c =
     let a = c.args in
-    as-text (ap (λ (bs : List ℕ). take (8 - (8 - a.width)) (drop (8 - a.width) bs)) c.to_be_bytes-bytes.ensures ∙ last-bytes a.width a.v c.requires.narrow) c.put.ensures
+    let low = last-bytes a.width a.v (omega arith) in
+    as-text (ap (λ (bs : List ℕ). take (8 - (8 - a.width)) (drop (8 - a.width) bs)) c.to_be_bytes-bytes.ensures ∙ low) c.put.ensures

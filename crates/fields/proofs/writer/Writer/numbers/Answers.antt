@@ -5,10 +5,12 @@ use Rattle.theory.proofs.acceptance.Encoding.{length-bytes}
 use Rattle.fields.proofs.Written.{room-next, one-more}
 use Rattle.fields.proofs.writer.Writer.numbers.Goals as goal
 
-pub number-requires-clause-room : goal.number-requires-clause-room
-number-requires-clause-room c =
+pub number-requires : goal.number-requires
+number-requires c =
     let w = c.args.width in
-    room-next (number_of w 0 0) (length-bytes w) c.args.values.now c.loop-v.v-index (omega arith) c.requires.room c.loop-v.invariant
+    let i = c.loop-v.v-index in record {
+      room = room-next (number_of w 0 0) (length-bytes w) c.args.values.now i (omega arith) c.requires.room c.loop-v.invariant;
+    }
 
 pub loop-v-preserved : goal.loop-v-preserved
 loop-v-preserved c =

@@ -1,10 +1,10 @@
--- `next_length`: the four bytes that were read are a length.
+-- `try_next_length`: the four bytes that were read are a length.
 -- The check leaves each of these goals open without its answer.
 use Rattle.std.proofs.Common.{◌≡◌, ◌∙◌, List, ℕ, take, arith}
 use lib.Seq.{take_all}
 use Rattle.std.specs.Int.{from_be_bytes, w32}
 use Rattle.model.specs.Numbers.{number}
-use Rattle.batch.proofs.next_length.Goals as goal
+use Rattle.batch.proofs.try_next_length.Goals as goal
 
 four-bytes : (bytes : List ℕ) → from_be_bytes w32 bytes ≡ number bytes 0 4
 unfolding number

@@ -3,11 +3,11 @@ use Rattle.std.proofs.Common.{◌≡◌, true, pos, neg_ℤ, ◌*ℤ◌}
 use Rattle.model.specs.Numbers.{every}
 use Rattle.model.specs.Limits.{Between}
 use Rattle.fields.specs.Sums.{sum_at, forward_right}
-use Rattle.fields.proofs.sums.DaySums.forwards_within.Given as goal
+use Rattle.fields.proofs.sums.forwards_within.Given as goal
 
 abbrev pub invariant-loop-t : goal.invariant-loop-t
 invariant-loop-t l = record {
-  right : every (forward_right l.self.per_step l.self.sums) l.t ≡ true;
-  before : l.last ≡ pos l.t *ℤ sum_at l.self.sums l.t;
-  small : Between (neg_ℤ (pos 4200000000)) (pos 4200000000) l.last;
+  right : every (forward_right l.per_step l.sums) l.t ≡ true;
+  before : l.last ≡ pos l.t *ℤ sum_at l.sums l.t;
+  small : Between (neg_ℤ (pos 66000000000000)) (pos 66000000000000) l.last;
 }

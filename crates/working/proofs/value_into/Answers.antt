@@ -1,4 +1,4 @@
--- `working::value_case` meets its contract. Assumes nothing. The check leaves each of these goals open without its answer.
+-- `working::value_into` meets its contract. Assumes nothing. The check leaves each of these goals open without its answer.
 use Rattle.std.proofs.Common.{◌≡◌}
 use Rattle.method.specs.Curve.{base}
 use Rattle.method.specs.Rounded as Rounded
@@ -6,8 +6,8 @@ use Rattle.curves.specs.inner.ByTerm.{brackets}
 use Rattle.curves.specs.inner.Shifted.{curve_held}
 use Rattle.working.specs.inner.Working.{adjusted_by}
 use Rattle.working.proofs.Working.{sums-fit, adjusted-is, adjusted-by, adjusted-on, base-within, factors-lent, rates-lent}
-use Rattle.working.proofs.value_case.Goals.{After-map-adjusted}
-use Rattle.working.proofs.value_case.Goals as goal
+use Rattle.working.proofs.value_into.Goals.{After-map-adjusted}
+use Rattle.working.proofs.value_into.Goals as goal
 
 -- the factors of the three curves, and those of the base curve
 of-curves : (c : After-map-adjusted) → c.map-adjusted.result ≡ adjusted_by c.sums_of-sums.result

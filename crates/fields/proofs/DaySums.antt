@@ -175,8 +175,12 @@ sums-bounded w u ds sums right is e = record {
   each = λ t l. rw (is, get_or-table (λ t. s ds (suc t)) 60 t (pos 0) l, e) (sum-bound w ds right t l);
 }
 
-pub few-steps : (u n : ℕ) → u ≤ 100 → n ≤ 255 → u * n ≤ 25500
-few-steps u n h k = mul-le-mul {n₁ = u} {m₁ = n} {n₂ = 100} {m₂ = 255} h k
+pub few-steps : (u n : ℕ) → u ≤ 100 → n ≤ 70 → u * n ≤ 7000
+few-steps u n h k = mul-le-mul {n₁ = u} {m₁ = n} {n₂ = 100} {m₂ = 70} h k
+
+-- as many days as a count byte can say
+pub step-most : (u n : ℕ) → u ≤ 100 → n ≤ 255 → u * n ≤ 25500
+step-most u n h k = mul-le-mul {n₁ = u} {m₁ = n} {n₂ = 100} {m₂ = 255} h k
 
 -- ---- the limits of 6
 

@@ -10,9 +10,18 @@ ghost use Rattle.fields.specs.Sums.{Bounded, raised, difference_right, forward_r
 use crate::check::check;
 use refusal::Refusal;
 
-// What a rate step adds to a sum, too.
+// What a rate step adds to a sum, too. They are sums of at most 70 days, as many as a file, a list and a window hold: 7,000 units a step.
 #[derive(Clone, Copy)]
 pub struct DaySums {
+    pub per_step: u64,
+    pub sums: [i64; 60],
+    ghost few: { per_step ≤ 7000 },
+    ghost bounded: { Bounded (10000 * per_step) sums },
+}
+
+// The same of at most 255 days, as many as a count byte can say: 25,500 units a step.
+#[derive(Clone, Copy)]
+pub struct WideDaySums {
     pub per_step: u64,
     pub sums: [i64; 60],
     ghost few: { per_step ≤ 25500 },
@@ -80,6 +89,20 @@ fn raised_sum(per_step: u64, sum: i64) -> u64
     (100_000 * per_step as i64 + sum) as u64
 }
 
+// P(t) of the terms 1 to 60.
+fn raised_sums(per_step: u64, held: &[i64; 60]) -> [u64; 60]
+    requires step { per_step ≤ 25500 }
+    requires small { Bounded (10000 * per_step) held.now }
+    ensures { result ≡ raised per_step held.now }
+{
+    let mut raised = [0; 60];
+    // By an index: of `map` the check does not find alone that its closure may be called at each sum, nor what the calls give.
+    for (t, sum) in held.iter().enumerate() {
+        raised[t] = raised_sum(per_step, *sum);
+    }
+    raised
+}
+
 impl DaySums {
     // 6: some t × s(t) - (t - 1) × s(t-1) may be out of its limits.
     pub fn forwards_within(&self) -> Result<(), Refusal>
@@ -92,11 +115,23 @@ impl DaySums {
     pub fn raised(&self) -> [u64; 60]
         ensures { result ≡ raised self.now.per_step self.now.sums }
     {
-        let mut raised = [0; 60];
-        // By an index: of `map` the check does not find alone that its closure may be called at each sum, nor what the calls give.
-        for (t, sum) in self.sums.iter().enumerate() {
-            raised[t] = raised_sum(self.per_step, *sum);
-        }
-        raised
+        raised_sums(self.per_step, &self.sums)
+    }
+}
+
+impl WideDaySums {
+    // 6, as of fewer days.
+    pub fn forwards_within(&self) -> Result<(), Refusal>
+        ensures { Checked ((every (forward_right self.now.per_step self.now.sums) 60, Forward) ∷ []) (λ _. Unit {0}) result }
+    {
+        let within = forwards_within(self.per_step, &self.sums);
+        check(within, Refusal::Forward)
+    }
+
+    // P(t) of the terms 1 to 60.
+    pub fn raised(&self) -> [u64; 60]
+        ensures { result ≡ raised self.now.per_step self.now.sums }
+    {
+        raised_sums(self.per_step, &self.sums)
     }
 }

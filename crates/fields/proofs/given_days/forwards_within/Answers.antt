@@ -1,5 +1,5 @@
 -- `forwards_within`: the limits of refusal 6, by the sums. The check leaves each of these goals open without its answer.
-use Rattle.std.proofs.Common.{[], ◌∷◌, ◌*◌, ◌∙◌, ap, arith, length, ℕ}
+use Rattle.std.proofs.Common.{[], ◌∷◌, ◌*◌, ◌∙◌, ap, length, ℕ}
 use Rattle.refusal.specs.declared.Refusal.TheVariants.{Forward}
 use Rattle.model.specs.Numbers.{every}
 use Rattle.model.specs.Refusals.{failing, forwards_right}
@@ -15,7 +15,7 @@ invariant_of-summed g c =
     let ds = c.args.held.now in
     let step = ap (λ (k : ℕ). k * length ds) (c.UNITS_PER_STEP.ensures ∙ g.met.F.RateForm.units) in
     record {
-      few = few-steps c.UNITS_PER_STEP.result (length ds) (rw (c.UNITS_PER_STEP.ensures, g.met.F.RateForm.units) (few-units w)) (omega (arith, few-days w ds c.requires.right));
+      few = few-steps c.UNITS_PER_STEP.result (length ds) (rw (c.UNITS_PER_STEP.ensures, g.met.F.RateForm.units) (few-units w)) (few-days w ds c.requires.right);
       bounded = sums-bounded w (c.UNITS_PER_STEP.result * length ds) ds c.args.sums (days-hold w ds c.requires.right).1 c.requires.sums step;
     }
 

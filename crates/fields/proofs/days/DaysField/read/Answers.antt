@@ -1,7 +1,7 @@
 -- `field::read_days` meets its contract: the count and the length, and then each rate.
 -- The check leaves each of these goals open without its answer.
 -- Each goal stands at a place of its own, with names of its own, so what they share is told in each.
-use Rattle.std.proofs.Common.{◌∙◌, ◌*◌, ◌+◌, ◌/◌, get_or, length, [], ◌∷◌, ap, arith, refl, sym}
+use Rattle.std.proofs.Common.{◌∙◌, ◌*◌, ◌+◌, ◌/◌, get_or, length, [], ◌∷◌, ap, refl, sym}
 use mathlib.Core.Path.{ap₂}
 use Rattle.refusal.specs.declared.Refusal.TheVariants.{DayCount, Rate}
 use Rattle.model.specs.Fields.{right_all, value_all}
@@ -34,7 +34,7 @@ invariant_of-summed g c =
     let counted = whole-days w _ _ g.met.F.RateForm.known part.whole in
     let ds = value_all (day w) c.in_ok-count.rates.now 0 (length c.in_ok-count.rates.now / (w * 60)) in
     record {
-      few = few-steps _ _ (rw u (few-units w)) (omega arith);
+      few = few-steps _ _ (rw u (few-units w)) few;
       bounded = sums-bounded w _ ds _ (check-held _ _ right) sums
           (ap₂ (λ a n. a * n) u (sym (values_length (day w) c.in_ok-count.rates.now 0 _ ∙ counted)));
     }

@@ -1,7 +1,8 @@
 -- `DaySums::forwards_within` meets its contract: its sums are within what `sums::forwards_within` asks. The check leaves this goal open
 -- without its answer.
+use Rattle.std.proofs.Common.{arith}
 use Rattle.fields.proofs.Forwards.{days-bounded}
 use Rattle.fields.proofs.sums.DaySums.forwards_within.Goals as goal
 
 pub forwards_within-requires-clause-small : goal.forwards_within-requires-clause-small
-forwards_within-requires-clause-small c = days-bounded c.args.self.now.per_step c.args.self.now.few c.args.self.now.bounded
+forwards_within-requires-clause-small c = let held = c.args.self.now in days-bounded held.per_step (omega (arith, held.few)) held.bounded
